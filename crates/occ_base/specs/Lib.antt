@@ -1,0 +1,3 @@
+pub mod Event
+pub mod Names
+pub mod Width
