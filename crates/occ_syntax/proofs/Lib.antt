@@ -1,1 +1,5 @@
 pub mod Together
+pub mod Views
+pub mod Weights
+pub mod Sums
+pub mod Counting

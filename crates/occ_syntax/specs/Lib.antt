@@ -8,3 +8,4 @@ pub mod Usage
 pub mod Meaning
 pub mod Same
 pub mod Counts
+pub mod Declarations

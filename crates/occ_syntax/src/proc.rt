@@ -1,6 +1,8 @@
-ghost use Rattle.std.specs.Prelude.{◌≡◌, [], ◌∷◌, ◌++◌, OnOk, OnErr};
+ghost use Rattle.std.specs.Prelude.{◌≡◌, [], ◌∷◌, ◌++◌, ◌^◌, ◌-◌, OnOk, OnErr, IfOk, IsSome, MatchOption};
+ghost use Rattle.occ_syntax.specs.Declarations.{IsDeclared};
+ghost use Rattle.occ_syntax.specs.View.{tree, trees, cases, branches, in_procs, in_choices, in_alternatives};
 
-use crate::{Expr, Exprs, Guard, NameList};
+use crate::{Expr, Exprs, Guard, Kind, NameList};
 use occ_base::{Memory, Name, Width};
 use std::alloc::Global;
 
@@ -71,6 +73,7 @@ pub struct Alternatives {
 }
 
 impl Drop for Proc {
+    // A loop over declarations, of which there may be thousands in a row.
     fn drop(mut self) {
         loop {
             match self {
@@ -93,5 +96,104 @@ impl Drop for Proc {
                 } => self = Box::into_inner(body),
             }
         }
+    }
+}
+
+impl Proc {
+    /// What a declaration governs; None where the process isn't a declaration. Whoever goes through a process takes a
+    /// row of declarations by it in a loop, since there may be thousands.
+    #[tactic(auto, unfolding(crate::specs::View::tree))]
+    pub fn declared(&self) -> Option<(Name, Kind, &Proc)>
+        ensures { IsDeclared (tree self.now) result }
+    {
+        match self {
+            Proc::Var { name, width, body } => Some((*name, Kind::Var(*width), body)),
+            Proc::Chan { name, width, body } => Some((*name, Kind::Chan(*width, None), body)),
+            _ => None,
+        }
+    }
+}
+
+#[tactic(auto, unfolding(crate::specs::View::in_procs))]
+impl Procs {
+    /// The empty list. It takes no memory.
+    pub fn new(alloc: Global) -> Procs
+        ensures { in_procs result ≡ [] }
+    {
+        Procs {
+            list: Vec::new(alloc),
+        }
+    }
+
+    /// Adds a process at the end. After want of memory the list is as before.
+    pub fn push(&mut self, item: Proc) -> Result<(), Memory>
+        ensures ok { OnOk result (in_procs self.new ≡ in_procs self.old ++ item ∷ []) }
+        ensures err { OnErr result (in_procs self.new ≡ in_procs self.old) }
+    {
+        self.list.push(item)?;
+        Ok(())
+    }
+
+    /// The processes in order. It takes no memory.
+    pub fn items(&self) -> &[Proc]
+        ensures { result.now ≡ in_procs self.now }
+    {
+        self.list.as_slice()
+    }
+}
+
+#[tactic(auto, unfolding(crate::specs::View::in_choices))]
+impl Choices {
+    /// The empty list. It takes no memory.
+    pub fn new(alloc: Global) -> Choices
+        ensures { in_choices result ≡ [] }
+    {
+        Choices {
+            list: Vec::new(alloc),
+        }
+    }
+
+    /// Adds a choice at the end. After want of memory the list is as before.
+    pub fn push(&mut self, item: (Expr, Proc)) -> Result<(), Memory>
+        ensures ok { OnOk result (in_choices self.new ≡ in_choices self.old ++ item ∷ []) }
+        ensures err { OnErr result (in_choices self.new ≡ in_choices self.old) }
+    {
+        self.list.push(item)?;
+        Ok(())
+    }
+
+    /// The choices in order. It takes no memory.
+    pub fn items(&self) -> &[(Expr, Proc)]
+        ensures { result.now ≡ in_choices self.now }
+    {
+        self.list.as_slice()
+    }
+}
+
+#[tactic(auto, unfolding(crate::specs::View::in_alternatives))]
+impl Alternatives {
+    /// The empty list. It takes no memory.
+    pub fn new(alloc: Global) -> Alternatives
+        ensures { in_alternatives result ≡ [] }
+    {
+        Alternatives {
+            list: Vec::new(alloc),
+        }
+    }
+
+    /// Adds an alternative at the end. After want of memory the list is as before.
+    pub fn push(&mut self, item: (Guard, Proc)) -> Result<(), Memory>
+        ensures ok { OnOk result (in_alternatives self.new ≡ in_alternatives self.old ++ item ∷ []) }
+        ensures err { OnErr result (in_alternatives self.new ≡ in_alternatives self.old) }
+    {
+        self.list.push(item)?;
+        Ok(())
+    }
+
+    /// The alternatives in order. It takes no memory.
+    pub fn items(&self) -> &[(Guard, Proc)]
+        ensures { result.now ≡ in_alternatives self.now }
+    {
+        self.list.as_slice()
     }
 }
