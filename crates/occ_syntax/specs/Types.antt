@@ -6,9 +6,11 @@ use Rattle.occ_base.specs.declared.width.Width.{Width}
 use Rattle.occ_base.specs.declared.width.Width.TheVariants.{Bool as TruthValue, Word}
 use Rattle.occ_syntax.specs.declared.expr.Op.{Op}
 use Rattle.occ_syntax.specs.declared.expr.Op.TheVariants.{Plus, Minus, And, Or, BitAnd, BitOr, BitXor, Equal, Differ, Less, Greater, AtMost, AtLeast}
+use Rattle.occ_base.specs.declared.names.Name.{Name}
+use Rattle.occ_syntax.specs.declared.scope.Kind.{Kind}
 use Rattle.occ_syntax.specs.declared.scope.Kind.TheVariants.{Var, Chan}
 use Rattle.occ_syntax.specs.Tree.{Exp, variable, numeral, truth, negation, complement, operation, Waiting, ready, input, output, Tree, skip, stop, assign, receive, send, seq, par, select, alt, declare, connect, Trees, no_tree, and_tree, Cases, no_case, and_case, Branches, no_branch, and_branch}
-use Rattle.occ_syntax.specs.Scopes.{Environment, with_name, variable_width, channel_width, allows}
+use Rattle.occ_syntax.specs.Scopes.{Environment, environment, with_name, variable_width, channel_width, allows}
 
 abbrev pub same_width : Width → Width → Bool
 same_width TruthValue TruthValue = true
@@ -131,3 +133,12 @@ abbrev mutual
   pub branches_kept : Branches → Environment → Bool
   branches_kept no_branch Γ = true
   branches_kept (and_branch e w p bs) Γ = is_condition Γ e && waiting_kept Γ w && types_kept p Γ && branches_kept bs Γ
+
+abbrev pub width_of_kind : Kind → Width
+width_of_kind (Var width) = width
+width_of_kind (Chan width dir) = width
+
+-- a scope: no name stands twice, and widths are widths
+abbrev pub scope_kept : List (Name × Kind) → Bool
+scope_kept [] = true
+scope_kept (entry ∷ entries) = can_declare (environment entries) entry.0.0 (width_of_kind entry.1) && scope_kept entries

@@ -1,0 +1,6 @@
+//! The value of an expression in a state.
+#![tactic(auto)]
+
+mod eval;
+
+pub use eval::value;
