@@ -1,0 +1,8 @@
+//! Single behaviours of a program, the verdict on two programs, and how both are written.
+#![tactic(auto)]
+
+mod behaviour;
+mod text;
+
+pub use behaviour::{Behaviour, Last, Side, Verdict};
+pub use text::{behaviour_text, verdict_text};
