@@ -1,0 +1,6 @@
+pub mod Classes
+pub mod Longest
+pub mod Numerals
+pub mod Printing
+pub mod RowLemmas
+pub mod TokenLemmas
