@@ -1,0 +1,12 @@
+//! Desks: where a program's files are read from and its output is written to.
+#![tactic(auto)]
+
+mod desk;
+mod memory;
+mod real;
+#[cfg(test)]
+mod tests;
+
+pub use desk::{Desk, ReadError, WriteFailed, send};
+pub use memory::MemoryDesk;
+pub use real::RealDesk;
