@@ -1,0 +1,9 @@
+pub mod Ends
+pub mod Facts
+pub mod Frame
+pub mod Free
+pub mod OffNames
+pub mod OffValues
+pub mod Refusals
+pub mod States
+pub mod Typing
