@@ -1,3 +1,4 @@
 pub mod Straight
 pub mod Least
 pub mod Numbered
+pub mod Running

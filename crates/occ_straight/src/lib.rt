@@ -2,8 +2,8 @@
 //! state or has stopped, so running both from every state of their interface decides whether they mean the same.
 #![tactic(auto)]
 
-mod compare;
-mod run;
+mod running;
 mod states;
 
-pub use compare::compare;
+pub use running::run;
+pub use states::{bits_together, numbered_state};

@@ -1,0 +1,6 @@
+pub mod Fronts
+pub mod Holding
+pub mod Leading
+pub mod Numbers
+pub mod Outcomes
+pub mod Overlay
