@@ -6,7 +6,7 @@
 #![tactic(auto)]
 
 mod fault;
-mod printed;
+mod laws;
 mod reading;
 mod row;
 mod scan;
@@ -16,7 +16,7 @@ mod tests;
 mod token;
 
 pub use fault::{LexFault, LineFault, RowFault};
-pub use printed::printed_text_is_read;
+pub use laws::{printed_text_is_read, reading_is_of_its_text};
 pub use reading::{Reading, lines, read};
 pub use row::{code, first_row, line};
 pub use spelling::{kind_of, numeral_value};
