@@ -1,6 +1,7 @@
 pub mod Classes
 pub mod Longest
 pub mod Numerals
+pub mod Placing
 pub mod Printing
 pub mod RowLemmas
 pub mod TokenLemmas

@@ -6,7 +6,8 @@ use Rattle.std.proofs.lemmas.Bool.{and_parts, and_from, and_left, and_right, leb
 use Rattle.std.proofs.lemmas.List.{length-take-le}
 use Rattle.std.proofs.lemmas.List.Sums.{prefix_len-le-length}
 use Rattle.occ_lex.specs.Spelling.{is_letter, is_digit, is_name_byte, is_sign, kind_of}
-use Rattle.occ_lex.specs.Tokens.{longest, longest_within, sign_len}
+use Rattle.occ_lex.specs.Tokens.{longest, longest_within}
+use Rattle.occ_lex.specs.Scan.{sign_len}
 use Rattle.occ_lex.proofs.Classes.{kind_letter, kind_digit, kind_other, letter_name_byte, no_long_sign}
 
 -- n is the length of the longest token in front

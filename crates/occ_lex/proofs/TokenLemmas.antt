@@ -37,7 +37,7 @@ pub space_front : (place byte : ℕ) (bytes : List ℕ) → byte ≡ 32 → toke
 unfolding tokens
 space_front place byte bytes h = cond-true (eqb byte 32) (tokens (place + 1) 0 bytes) _ (eq-eqb byte 32 h)
 
-bound : (place : ℕ) (byte : ℕ) (bytes : List ℕ) → (byte ≡ 32 → ⊥)
+pub bound : (place : ℕ) (byte : ℕ) (bytes : List ℕ) → (byte ≡ 32 → ⊥)
     → tokens place 0 (byte ∷ bytes) ≡ (first_token (byte ∷ bytes) >>= λ token. tokens (place + 1) (token.1 - 1) bytes >>= λ others. Ok (token_at place token ∷ others))
 unfolding tokens
 bound place byte bytes h = cond-false (eqb byte 32) (tokens (place + 1) 0 bytes) _ (ne_eqb byte 32 h)

@@ -1,10 +1,10 @@
-use Rattle.std.specs.Prelude.{ℕ, zero, suc, ◌+◌, ◌-◌, ◌&&◌, ◌==◌, nat_le, if◌then◌else◌, List, [], ◌∷◌, length, take, Option, Some, None, is_some, Result, Ok, Err}
+use Rattle.std.specs.Prelude.{ℕ, zero, suc, ◌+◌, ◌-◌, ◌==◌, nat_le, if◌then◌else◌, List, [], ◌∷◌, length, take, Option, Some, None, is_some, Result, Ok, Err}
 use Rattle.occ_lex.specs.declared.fault.LineFault.{LineFault}
 use Rattle.occ_lex.specs.declared.fault.LineFault.TheVariants as fault
 use Rattle.occ_lex.specs.declared.token.Token.{Token}
 use Rattle.occ_lex.specs.declared.token.TokenKind.{TokenKind}
 use Rattle.occ_lex.specs.declared.token.TokenKind.TheVariants as kind
-use Rattle.occ_lex.specs.Spelling.{is_sign, kind_of, value_of}
+use Rattle.occ_lex.specs.Spelling.{kind_of, value_of}
 
 infixl 10 ◌>>=◌
 abbrev pub ◌>>=◌ : {A B : Type 0} → Result A LineFault → (A → Result B LineFault) → Result B LineFault
@@ -19,11 +19,6 @@ longest_within (suc n) bytes = if is_some (kind_of (take (suc n) bytes)) then su
 -- the length of the longest token in front
 unfoldable pub longest : List ℕ → ℕ
 longest bytes = longest_within (length bytes) bytes
-
--- the length of the sign in front: a sign of two bytes comes before one of one byte
-abbrev pub sign_len : List ℕ → ℕ
-sign_len bytes = if nat_le 2 (length bytes) && is_sign (take 2 bytes) then 2
-    else (if nat_le 1 (length bytes) && is_sign (take 1 bytes) then 1 else 0)
 
 -- A token's kind and length, or its fault: a numeral is at most 255, and a name has at most 32 characters.
 abbrev pub judged : Option TokenKind → List ℕ → Result (TokenKind × ℕ) LineFault

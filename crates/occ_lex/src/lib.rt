@@ -1,12 +1,17 @@
-//! The lines and tokens of a text.
+//! The lines and tokens of a text, in the lexical form of occam (INMOS, occam 2 Reference Manual, 1988) with signs,
+//! reserved words and comments of its own.
 //!
 //! A text is bytes. Its lines end with a line feed; a carriage return directly before it is dropped, and the last
-//! line feed may be missing. `--` begins a comment up to the line's end. A line of spaces alone is blank, also where
-//! a comment follows, and is skipped. The level of a line is half its leading spaces.
+//! line feed may be missing. `--` begins a comment up to the line's end, in which every byte is allowed. A line of
+//! spaces alone is blank, also where a comment follows, and is skipped. The level of a line is half its leading
+//! spaces. Spaces may stand between tokens, and the longest token in front is taken.
+//!
+//! `read` and `lines` read a whole text. `first_row`, `code` and `line` read one line of it, for readers of formats
+//! that have lines of their own between the others.
 #![tactic(auto)]
 
 mod fault;
-mod printed;
+mod laws;
 mod reading;
 mod row;
 mod scan;
@@ -16,7 +21,7 @@ mod tests;
 mod token;
 
 pub use fault::{LexFault, LineFault, RowFault};
-pub use printed::printed_text_is_read;
+pub use laws::{printed_text_is_read, reading_is_of_its_text};
 pub use reading::{Reading, lines, read};
 pub use row::{code, first_row, line};
 pub use spelling::{kind_of, numeral_value};

@@ -42,7 +42,7 @@ fn judged_line(
     }
 }
 
-/// Reads a text's lines up to its least faulty one.
+/// Reads a text's lines up to its least faulty one, in one pass.
 pub fn read(alloc: Global, text: &[u8]) -> Result<Reading, Memory>
     requires { length text.now < 4294967295 }
     ensures { IfOk result (λ reading. (reading.lines.items, reading.fault) ≡ reading_of text.now) }
@@ -65,7 +65,7 @@ pub fn read(alloc: Global, text: &[u8]) -> Result<Reading, Memory>
     Ok(Reading { lines, fault: None })
 }
 
-/// The lines of a text that aren't blank, or the least faulty line with its fault.
+/// The lines of a text that aren't blank. `Line` comes exactly where a line has a fault, for the least such line.
 pub fn lines(alloc: Global, text: &[u8]) -> Result<Vec<Line>, LexFault>
     requires { length text.now < 4294967295 }
     ensures { Gives (λ lines. lines.items) result (lines_of text.now) }

@@ -7,7 +7,7 @@ use crate::scan::first_token;
 use crate::{Line, LineFault, RowFault, Token, Tokens};
 use std::alloc::Global;
 
-/// The first line of a text with its line feed, or the whole text where it has none.
+/// The first line of a text with its line feed, or the whole text where it has none. It takes no memory.
 pub fn first_row(text: &[u8]) -> &[u8]
     ensures { result.now ≡ first_row text.now }
 {
@@ -35,7 +35,7 @@ fn ends_code(rest: &[u8]) -> bool
     rest.starts_with(b"--") || rest.starts_with(b"\n") || rest.starts_with(b"\r\n")
 }
 
-/// The bytes of a line in front of its comment and its end.
+/// The bytes of a line in front of its comment and its end. It takes no memory.
 pub fn code(row: &[u8]) -> &[u8]
     ensures { result.now ≡ code_of row.now }
 {
@@ -66,9 +66,9 @@ fn tokens(alloc: Global, first: u32, code: &[u8]) -> Result<Tokens, RowFault>
     Ok(found)
 }
 
-/// The line that a row of a text holds, None where it is blank: its number, and the place of its first byte in the
-/// text, are those given. A row is a line with its line feed. A fault is the one that comes first: a tab, an odd
-/// number of leading spaces, then the leftmost fault of a token.
+/// The line that a row of a text holds, None where it is blank. A row is a line with its line feed; its number and the
+/// place of its first byte in the text are those given. `Fault` comes exactly where the row has one: a tab, else an
+/// odd number of leading spaces, else the leftmost fault of a token.
 pub fn line(alloc: Global, number: u32, first: u32, row: &[u8]) -> Result<Option<Line>, RowFault>
     requires { first + length row.now < 2 ^ 32 }
     ensures { RowGives (λ line. line) result (line_of number first row.now) }

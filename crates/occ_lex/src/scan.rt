@@ -1,7 +1,8 @@
 ghost use Rattle.std.specs.Prelude.{◌≡◌, ◌<◌, ◌≤◌, ℕ, length, IfOk};
 ghost use Rattle.std.specs.List.{prefix_len};
 ghost use Rattle.occ_lex.specs.Spelling.{is_digit, is_name_byte, kind_of};
-ghost use Rattle.occ_lex.specs.Tokens.{first_token, judged, longest, sign_len};
+ghost use Rattle.occ_lex.specs.Scan.{sign_len};
+ghost use Rattle.occ_lex.specs.Tokens.{first_token, judged, longest};
 
 use crate::spelling::{is_digit, is_letter, is_name_byte, is_sign, kind_of, numeral_value};
 use crate::{LineFault, TokenKind};

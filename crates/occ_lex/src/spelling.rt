@@ -83,7 +83,8 @@ fn is_numeral(text: &[u8]) -> bool
     !text.is_empty() && are_digits(text)
 }
 
-/// What a text is as a token: None where it isn't one token.
+/// What a whole text is as one token, None where it is none. It says nothing of the limits on numerals and names. It
+/// takes no memory.
 #[tactic(auto, unfolding(crate::specs::Spelling::kind_of))]
 pub fn kind_of(text: &[u8]) -> Option<TokenKind>
     ensures { result ≡ kind_of text.now }
@@ -101,7 +102,8 @@ pub fn kind_of(text: &[u8]) -> Option<TokenKind>
     }
 }
 
-/// The value of a text of decimal digits: None where it isn't one, or where the value is above 255.
+/// The value of a text of decimal digits, None where it is no such text, and where the value is above 255. It takes no
+/// memory.
 #[tactic(auto, unfolding(crate::specs::Spelling::numeral_value))]
 pub fn numeral_value(text: &[u8]) -> Option<u8>
     ensures { result ≡ numeral_value text.now }

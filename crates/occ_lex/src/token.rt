@@ -6,17 +6,17 @@ use occ_base::List;
 /// What a token is.
 #[derive(Clone, Copy, Debug, PartialEq, Eq)]
 pub enum TokenKind {
-    /// A letter followed by letters, digits and dots, which isn't reserved.
+    /// A letter followed by letters, digits and dots, which isn't a reserved word. It has at most 32 bytes.
     Name,
-    /// Decimal digits.
+    /// Decimal digits whose value is at most 255.
     Numeral,
-    /// One of the signs, as `:=`.
+    /// One of the twenty signs, as `:=`.
     Sign,
-    /// A reserved word, as `SEQ`.
+    /// One of the reserved words, as `SEQ`.
     Word,
 }
 
-/// A token of a text, by the places of its first and its last byte, which count from 0.
+/// A token of a text. The places of its first and its last byte count in bytes, from 0.
 #[derive(Clone, Copy, Debug, PartialEq, Eq)]
 pub struct Token {
     pub kind: TokenKind,
@@ -27,7 +27,8 @@ pub struct Token {
 /// The tokens of a line, from left to right.
 pub type Tokens = List<Token>;
 
-/// A line that isn't blank: its number in the text, counted from 1, its level, and its tokens.
+/// A line that isn't blank: its number in the text, counted from 1 with the blank lines, its level, which is half the
+/// number of its leading spaces, and its tokens, of which there is one at least.
 #[derive(Debug, Drop)]
 pub struct Line {
     pub number: u32,
@@ -36,7 +37,7 @@ pub struct Line {
 }
 
 impl Token {
-    /// The token's bytes in its text.
+    /// The token's bytes in its text. It takes no memory.
     pub fn text(self, text: &[u8]) -> &[u8]
         requires ordered { self.first ≤ self.last }
         requires within { self.last < length text.now }
