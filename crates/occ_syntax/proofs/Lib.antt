@@ -3,3 +3,4 @@ pub mod Views
 pub mod Weights
 pub mod Sums
 pub mod Counting
+pub mod Widest

@@ -7,7 +7,7 @@ mod law;
 mod proc;
 mod scope;
 
-pub use counts::controls;
+pub use counts::{controls, interface_bits, scope_bits};
 pub use expr::{Expr, Exprs, Guard, NameList, Op, Wait};
 pub use law::{empty_if_is_stop, empty_seq_is_skip, seq_of_one_is_that_part};
 pub use proc::{Alternatives, Choices, Proc, Procs};
