@@ -4,3 +4,4 @@ pub mod Weights
 pub mod Sums
 pub mod Counting
 pub mod Widest
+pub mod Rows
