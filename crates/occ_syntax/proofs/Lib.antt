@@ -5,3 +5,4 @@ pub mod Sums
 pub mod Counting
 pub mod Widest
 pub mod Rows
+pub mod Within

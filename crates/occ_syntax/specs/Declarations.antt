@@ -1,5 +1,5 @@
 -- Declarations, taken off one by one.
-use Rattle.std.specs.Prelude.{ℕ, ◌≡◌, Bool, true, false, Option, None, Some}
+use Rattle.std.specs.Prelude.{ℕ, ◌≡◌, Bool, true, false, Option, None, Some, List, [], ◌∷◌}
 use Rattle.std.specs.Borrow.{Bor}
 use Rattle.occ_base.specs.declared.names.Name.{Name}
 use Rattle.occ_syntax.specs.declared.scope.Kind.{Kind}
@@ -31,3 +31,8 @@ is_simple (assign xs es) = true
 is_simple (receive c x) = true
 is_simple (send c e) = true
 is_simple p = false
+
+-- a process within declarations, the first outermost
+abbrev pub declaring_all : List (Name × Kind) → Tree → Tree
+declaring_all [] p = p
+declaring_all (d ∷ ds) p = declaring d.0.0 d.1 (declaring_all ds p)

@@ -1,6 +1,7 @@
 //! The syntax trees of the language, and in specs/ what programs mean.
 #![tactic(auto)]
 
+mod copy;
 mod counts;
 mod expr;
 mod law;
