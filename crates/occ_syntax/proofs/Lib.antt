@@ -3,3 +3,6 @@ pub mod Views
 pub mod Weights
 pub mod Sums
 pub mod Counting
+pub mod Widest
+pub mod Rows
+pub mod Within

@@ -1,5 +1,5 @@
 ghost use Rattle.std.specs.Prelude.{◌≡◌, [], ◌∷◌, ◌++◌, ◌^◌, ◌-◌, OnOk, OnErr, IfOk, IsSome, MatchOption};
-ghost use Rattle.occ_syntax.specs.Declarations.{IsDeclared};
+ghost use Rattle.occ_syntax.specs.Declarations.{IsDeclared, declaring, declaring_all};
 ghost use Rattle.occ_syntax.specs.View.{tree, trees, cases, branches, in_procs, in_choices, in_alternatives};
 
 use crate::{Expr, Exprs, Guard, Kind, NameList};
@@ -111,6 +111,30 @@ impl Proc {
             Proc::Chan { name, width, body } => Some((*name, Kind::Chan(*width, None), body)),
             _ => None,
         }
+    }
+
+    /// The declaration of a name for this process. A channel is declared without a mark, whatever its kind has.
+    #[tactic(auto, unfolding(crate::specs::View::tree))]
+    pub fn declare(self, alloc: Global, name: Name, kind: Kind) -> Result<Proc, Memory>
+        ensures { IfOk result (λ part. tree part ≡ declaring name.0 kind (tree self)) }
+    {
+        let body = Box::new(alloc, self)?;
+        match kind {
+            Kind::Var(width) => Ok(Proc::Var { name, width, body }),
+            Kind::Chan(width, _) => Ok(Proc::Chan { name, width, body }),
+        }
+    }
+
+    /// This process within a row of declarations, the first outermost: each name is in scope in the declarations that
+    /// follow it and in the process. However long the row is, it needs no more stack.
+    pub fn within(self, alloc: Global, declarations: &[(Name, Kind)]) -> Result<Proc, Memory>
+        ensures { IfOk result (λ part. tree part ≡ declaring_all declarations.now (tree self)) }
+    {
+        let mut part = self;
+        for (name, kind) in declarations.iter().rev() {
+            part = part.declare(alloc, *name, *kind)?;
+        }
+        Ok(part)
     }
 }
 

@@ -1,3 +1,6 @@
+ghost use Rattle.std.specs.Prelude.{◌≡◌};
+ghost use Rattle.occ_syntax.specs.Counts.{bits_of_kind};
+
 use crate::Proc;
 use occ_base::{Dir, List, Name, Width};
 
@@ -8,6 +11,18 @@ pub enum Kind {
     Var(Width),
     /// A channel of that width. A parameter has the one direction in which the program may use it.
     Chan(Width, Option<Dir>),
+}
+
+impl Kind {
+    /// The bits that it takes in a state: those of a variable's width, and 0 for a channel.
+    pub fn bits(self) -> u8
+        ensures { result ≡ bits_of_kind self }
+    {
+        match self {
+            Kind::Var(width) => width.bits(),
+            Kind::Chan(_, _) => 0,
+        }
+    }
 }
 
 /// The names in scope with their kinds, from outside in.
