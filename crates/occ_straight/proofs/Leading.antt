@@ -46,7 +46,7 @@ pub goes_on : (Γ : Environment) (s s1 : Values) (ps : List Proc) (i : ℕ) (p :
 goes_on Γ s s1 ps i p h e k =
     let next : suc i ≡ i + 1 = omega arith in
     sym (part_here Γ s ps i p h e ∙ ap (option_and_then (λ u. final_of_all (trees (drop (suc i) ps)) Γ u)) (leads_some _ _ k)
-        ∙ ap (λ n. final_of_all (trees (drop n ps)) Γ s1) next)
+    ∙ ap (λ n. final_of_all (trees (drop n ps)) Γ s1) next)
 
 pub stops : (Γ : Environment) (s s1 : Values) (ps : List Proc) (i : ℕ) (p : Proc) → i < length ps → p ≡ get_or ps i p
     → LeadsTo (final (tree p) Γ s) false s1 → final_of_all (trees (drop i ps)) Γ s ≡ None

@@ -4,3 +4,6 @@ pub mod Leading
 pub mod Numbers
 pub mod Outcomes
 pub mod Overlay
+pub mod Numbering
+pub mod Comparing
+pub mod Unique

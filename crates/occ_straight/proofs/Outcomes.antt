@@ -20,7 +20,7 @@ never_ends : (t : Trace) (s1 : Values) → Stopped t (ended s1) → ⊥
 never_ends t s1 h = elim h [ ]
 
 -- an end comes from where the first part leads
-ends_there : (o : Option Values) (t : Trace) (s1 : Values) → Comes o t (ended s1) → o ≡ Some s1
+pub ends_there : (o : Option Values) (t : Trace) (s1 : Values) → Comes o t (ended s1) → o ≡ Some s1
 ends_there (Some end) t s1 h = let e : ended s1 ≡ ended end = h.1 in let same : s1 ≡ end = cc in ap Some (sym same)
 ends_there None t s1 h = absurd (never_ends t s1 h)
 

@@ -29,16 +29,16 @@ eval_over Γ s u (complement e) w h = ap (λ n. 2 ^ bits_of_exp Γ e - 1 - n) (e
 eval_over Γ s u (operation op left right) w h =
     let two = two_types op _ _ _ h in
     ap (λ n. applied op (bits_of_exp Γ left) n (eval Γ right (over Γ s u))) (eval_over Γ s u left _ two.1)
-        ∙ ap (λ n. applied op (bits_of_exp Γ left) (eval Γ left u) n) (eval_over Γ s u right _ two.2)
+    ∙ ap (λ n. applied op (bits_of_exp Γ left) (eval Γ left u) n) (eval_over Γ s u right _ two.2)
 
 -- a variable in scope is put to a value in u
 put_over : (Γ : Environment) (s u : Values) (x v : ℕ) (w : Width) → variable_width Γ x ≡ Some w → with_value (over Γ s u) x v ≡ over Γ s (with_value u x v)
 put_over Γ s u x v w e = fun_ext (λ y. ⊎_elim
     (λ (t : (y == x) ≡ true).
-        let some : is_some (variable_width Γ y) ≡ true = ap (λ n. is_some (variable_width Γ n)) (eqb-true y x t) ∙ ap is_some e in
-        ap (λ b. cond b v (over Γ s u y)) t ∙ sym (ap (λ b. cond b (with_value u x v y) (s y)) some ∙ ap (λ b. cond b v (u y)) t))
+    let some : is_some (variable_width Γ y) ≡ true = ap (λ n. is_some (variable_width Γ n)) (eqb-true y x t) ∙ ap is_some e in
+    ap (λ b. cond b v (over Γ s u y)) t ∙ sym (ap (λ b. cond b (with_value u x v y) (s y)) some ∙ ap (λ b. cond b v (u y)) t))
     (λ (t : (y == x) ≡ false).
-        ap (λ b. cond b v (over Γ s u y)) t ∙ sym (ap (λ n. cond (is_some (variable_width Γ y)) n (s y)) (ap (λ b. cond b v (u y)) t)))
+    ap (λ b. cond b v (over Γ s u y)) t ∙ sym (ap (λ n. cond (is_some (variable_width Γ y)) n (s y)) (ap (λ b. cond b v (u y)) t)))
     (cases_Bool (y == x)))
 
 pub assigned_over : (Γ : Environment) (s u : Values) (xs : List ℕ) (es : List Exp) → pairs_kept Γ xs es ≡ true → assigned xs es Γ (over Γ s u) ≡ over Γ s (assigned xs es Γ u)
@@ -50,8 +50,8 @@ assigned_over Γ s u (x ∷ xs) (e ∷ es) h =
     let inner = and_parts _ _ outer.0 in
     let typed = agreed _ _ inner.0 in
     ap (λ f. with_value f x (eval Γ e (over Γ s u))) (assigned_over Γ s u xs es outer.1)
-        ∙ ap (λ n. with_value (over Γ s (assigned xs es Γ u)) x n) (eval_over Γ s u e typed.0 typed.2)
-        ∙ put_over Γ s (assigned xs es Γ u) x (eval Γ e u) typed.0 typed.1
+    ∙ ap (λ n. with_value (over Γ s (assigned xs es Γ u)) x n) (eval_over Γ s u e typed.0 typed.2)
+    ∙ put_over Γ s (assigned xs es Γ u) x (eval Γ e u) typed.0 typed.1
 
 then_over : (Γ : Environment) (s : Values) (f : Values → Option Values) (o : Option Values) → ((v : Values) → f (over Γ s v) ≡ option_map (over Γ s) (f v))
     → option_and_then f (option_map (over Γ s) o) ≡ option_map (over Γ s) (option_and_then f o)
@@ -78,4 +78,4 @@ mutual
       let straight = and_parts _ _ k in
       let kept = and_parts _ _ h in
       ap (option_and_then (λ s1. final_of_all ps Γ s1)) (final_over p Γ s u straight.0 kept.0)
-          ∙ then_over Γ s (λ s1. final_of_all ps Γ s1) (final p Γ u) (λ v. all_over ps Γ s v straight.1 kept.1)
+      ∙ then_over Γ s (λ s1. final_of_all ps Γ s1) (final p Γ u) (λ v. all_over ps Γ s v straight.1 kept.1)

@@ -25,7 +25,11 @@ pub fn bits_together(params: &[(Name, Kind)]) -> u32
 }
 
 /// The state of that number, where states are numbered in their order.
-pub fn numbered_state(alloc: Global, params: &[(Name, Kind)], number: u32) -> Result<Vec<(Name, u8)>, Memory>
+pub fn numbered_state(
+    alloc: Global,
+    params: &[(Name, Kind)],
+    number: u32,
+) -> Result<Vec<(Name, u8)>, Memory>
     requires few { bits_of_scope params.now ≤ 16 }
     requires kept { scope_kept params.now ≡ true }
     requires within { number < 2 ^ bits_of_scope params.now }
@@ -36,7 +40,11 @@ pub fn numbered_state(alloc: Global, params: &[(Name, Kind)], number: u32) -> Re
     Ok(state)
 }
 
-fn push_values(state: &mut Vec<(Name, u8)>, params: &[(Name, Kind)], number: u32) -> Result<(), Memory>
+fn push_values(
+    state: &mut Vec<(Name, u8)>,
+    params: &[(Name, Kind)],
+    number: u32,
+) -> Result<(), Memory>
     requires few { bits_of_scope params.now ≤ 16 }
     requires kept { scope_kept params.now ≡ true }
     requires within { number < 2 ^ bits_of_scope params.now }

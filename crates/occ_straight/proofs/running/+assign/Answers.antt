@@ -9,5 +9,5 @@ pub put-requires-clause-fits : goal.put-requires-clause-fits
 put-requires-clause-fits t c =
     let x = (get_or c.args.vars.now 0 (record { 0 = 0 })).0 in
     subst (λ v. HasWidth (variable_width (environment c.args.params.now) x) v) (sym c.value-value.ensures)
-        (fitting (environment c.args.params.now) (values c.args.state.now) x (exp c.expr-item.result) (holds_state _ _ c.requires.state)
-            (pair_front (environment c.args.params.now) c.args.vars.now c.args.exprs.now (record { 0 = 0 }) c.expr-item.result c.in-len1-up.len_at_least c.in-len1-up-exprs.len_at_least c.expr-item.is c.requires.kept))
+    (fitting (environment c.args.params.now) (values c.args.state.now) x (exp c.expr-item.result) (holds_state _ _ c.requires.state)
+    (pair_front (environment c.args.params.now) c.args.vars.now c.args.exprs.now (record { 0 = 0 }) c.expr-item.result c.in-len1-up.len_at_least c.in-len1-up-exprs.len_at_least c.expr-item.is c.requires.kept))
