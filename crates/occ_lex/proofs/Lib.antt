@@ -5,3 +5,4 @@ pub mod Placing
 pub mod Printing
 pub mod RowLemmas
 pub mod TokenLemmas
+pub mod WordLemmas

@@ -6,3 +6,4 @@ pub mod Scan
 pub mod Spelling
 pub mod Token
 pub mod Tokens
+pub mod Words

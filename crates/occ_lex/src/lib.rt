@@ -21,8 +21,8 @@ mod tests;
 mod token;
 
 pub use fault::{LexFault, LineFault, RowFault};
-pub use laws::{printed_text_is_read, reading_is_of_its_text};
+pub use laws::{printed_lines_have_their_words, printed_text_is_read, reading_is_of_its_text};
 pub use reading::{Reading, lines, read};
 pub use row::{code, first_row, line};
-pub use spelling::{kind_of, numeral_value};
+pub use spelling::{is_name_byte, kind_of, numeral_value};
 pub use token::{Line, Token, TokenKind, Tokens};

@@ -28,6 +28,7 @@ pub fn is_digit(byte: u8) -> bool
     matches!(byte, b'0'..=b'9')
 }
 
+/// Whether a byte can go on a name: a letter, a digit or a dot. It takes no memory.
 pub fn is_name_byte(byte: u8) -> bool
     ensures { result ≡ is_name_byte byte }
 {
