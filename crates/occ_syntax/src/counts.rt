@@ -138,7 +138,8 @@ fn most_bits_of_all(parts: &[Proc], outer: u64) -> u64
 {
     let mut most = outer;
     for part in parts {
-        most = most.max(most_bits(part, outer));
+        let bits = most_bits(part, outer);
+        most = most.max(bits);
     }
     most
 }

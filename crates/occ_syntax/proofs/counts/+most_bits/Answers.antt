@@ -69,12 +69,12 @@ most_bits_of_one-returns-in-Alt t c =
 pub most_bits_of_all-loop-part-init : goal.most_bits_of_all-loop-part-init
 most_bits_of_all-loop-part-init t c = record { whole = none_seen _ _; at_least = omega arith; fits = omega arith }
 
-pub most_bits_of_all-most_bits-requires : goal.most_bits_of_all-most_bits-requires
-most_bits_of_all-most_bits-requires t c = (omega (arith, weight_in_all _ _ _ c.loop-part-test.true c.part-item.is, c.decreases), tt)
+pub most_bits_of_all-most_bits-bits-requires : goal.most_bits_of_all-most_bits-bits-requires
+most_bits_of_all-most_bits-bits-requires t c = (omega (arith, weight_in_all _ _ _ c.loop-part-test.true c.part-item.is, c.decreases), tt)
 
 pub most_bits_of_all-loop-part-preserved : goal.most_bits_of_all-loop-part-preserved
 most_bits_of_all-loop-part-preserved t c = record {
-  whole = further_in_all _ _ _ _ _ _ _ c.loop-part-test.true c.part-item.is c.most_bits.ensures c.max-most.ensures ∙ c.loop-part.invariant.whole;
+  whole = further_in_all _ _ _ _ _ _ _ c.loop-part-test.true c.part-item.is c.most_bits-bits.ensures c.max-most.ensures ∙ c.loop-part.invariant.whole;
   at_least = omega arith;
   fits = c.max-most.type_inv;
 }
