@@ -1,3 +1,5 @@
+pub mod Alike
+pub mod Contexts
 pub mod Ends
 pub mod Facts
 pub mod Frame
@@ -5,5 +7,6 @@ pub mod Free
 pub mod OffNames
 pub mod OffValues
 pub mod Refusals
+pub mod Settled
 pub mod States
 pub mod Typing
