@@ -6,6 +6,8 @@ pub mod Frame
 pub mod Free
 pub mod OffNames
 pub mod OffValues
+pub mod Parallel
+pub mod Parts
 pub mod Refusals
 pub mod Settled
 pub mod States

@@ -206,7 +206,7 @@ channel_more u b w m hm = record { more = channel_does_more u b w m hm }
 abbrev every_end : ℕ → Dir → Bool
 every_end c d = true
 
-abbrev Shrinks : Meaning → Type 0
+abbrev pub Shrinks : Meaning → Type 0
 Shrinks m = RefusesMore every_end m
 
 shrinks : (u : ℕ → Dir → Bool) (m : Meaning) → RefusesMore u m → Shrinks m
