@@ -1,9 +1,11 @@
 pub mod Alike
+pub mod Bounded
 pub mod Contexts
 pub mod Ends
 pub mod Facts
 pub mod Frame
 pub mod Free
+pub mod Moved
 pub mod OffNames
 pub mod OffValues
 pub mod Parallel
@@ -11,4 +13,5 @@ pub mod Parts
 pub mod Refusals
 pub mod Settled
 pub mod States
+pub mod Substituting
 pub mod Typing
