@@ -5,12 +5,15 @@ pub mod Ends
 pub mod Facts
 pub mod Frame
 pub mod Free
+pub mod InScope
 pub mod Moved
 pub mod OffNames
 pub mod OffValues
 pub mod Parallel
 pub mod Parts
 pub mod Refusals
+pub mod RenamedTrees
+pub mod Renaming
 pub mod Settled
 pub mod States
 pub mod Substituting
