@@ -106,7 +106,7 @@ variable_on u y w m hm Γ s t o (WithVariable.at_rest {X = X} v lt d) = hm.on_en
 pub variable_uses : (u : ℕ → Dir → Bool) (y : ℕ) (w : Width) (m : Meaning) → UsesOnly u m → UsesOnly u (over_variable y w m)
 variable_uses u y w m hm = record { on_ends = variable_on u y w m hm }
 
-silent_uses : (u : ℕ → Dir → Bool) (b : ℕ) (t : Trace) → is_silent b t ≡ true → AreOnEnds u t → AreOnEnds (λ c d. not (c == b) && u c d) t
+pub silent_uses : (u : ℕ → Dir → Bool) (b : ℕ) (t : Trace) → is_silent b t ≡ true → AreOnEnds u t → AreOnEnds (λ c d. not (c == b) && u c d) t
 silent_uses u b [] h k = tt
 silent_uses u b (e ∷ t) h k = let j = and_parts (not (e.chan.0 == b)) (is_silent b t) h in (and_from (not (e.chan.0 == b)) (u e.chan.0 e.dir) j.0 k.0, silent_uses u b t j.1 k.1)
 

@@ -12,7 +12,7 @@ use Rattle.occ_syntax.specs.Types.{agree, all_types_kept, branches_kept, can_dec
 use Rattle.occ_syntax.specs.declared.scope.Kind.{Kind}
 use Rattle.occ_syntax.specs.declared.scope.Kind.TheVariants.{Chan, Var}
 use Rattle.std.proofs.Common.{Bool, None, ap, false, is_none, not, refl, subst, sym, true, ℕ, ◌&&◌, ◌==◌, ◌||◌, ◌∙◌, ◌≡◌}
-use Rattle.std.proofs.lemmas.Bool.{and_parts, eqb-true, false_from_ne_true, not_from_false, or_from, or_parts}
+use Rattle.std.proofs.lemmas.Bool.{and_parts, and_right, eqb-true, false_from_ne_true, not_from_false, or_from, or_parts}
 
 under_in : (a b : Bool) → (a ≡ false → b ≡ false) → (not a && b) ≡ false
 under_in true b h = refl
@@ -124,3 +124,41 @@ mutual
       or_from ((names e x || stands_in_waiting w x) || stands p x) (stands_in_branches bs x)
         (or_from (names e x || stands_in_waiting w x) (stands p x) (or_from (names e x) (stands_in_waiting w x) l.0 (waiting_stands w x l.1)) (stands_nowhere p Γ j.2 x k l.2))
         (branches_stand bs Γ j.3 x k l.3)
+
+-- ---- what stands nowhere isn't free
+
+nowhere_waiting : (w : Waiting) (x : ℕ) → stands_in_waiting w x ≡ false → free_in_waiting w x ≡ false
+nowhere_waiting ready x h = refl
+nowhere_waiting (input c y) x h = h
+nowhere_waiting (output c e) x h = h
+
+mutual
+  pub nowhere_free : (p : Tree) (x : ℕ) → stands p x ≡ false → free p x ≡ false
+  nowhere_free skip x h = refl
+  nowhere_free stop x h = refl
+  nowhere_free (assign xs es) x h = h
+  nowhere_free (receive c y) x h = h
+  nowhere_free (send c e) x h = h
+  nowhere_free (seq ps) x h = nowhere_some ps x h
+  nowhere_free (par ps) x h = nowhere_some ps x h
+  nowhere_free (select cs) x h = nowhere_cases cs x h
+  nowhere_free (alt bs) x h = nowhere_branches bs x h
+  nowhere_free (declare y w p) x h = and_right (not (x == y)) (free p x) (nowhere_free p x (or_parts (x == y) (stands p x) h).1)
+  nowhere_free (connect y w p) x h = and_right (not (x == y)) (free p x) (nowhere_free p x (or_parts (x == y) (stands p x) h).1)
+
+  nowhere_some : (ps : Trees) (x : ℕ) → stands_in_some ps x ≡ false → free_in_some ps x ≡ false
+  nowhere_some no_tree x h = refl
+  nowhere_some (and_tree p ps) x h = let k = or_parts (stands p x) (stands_in_some ps x) h in or_from (free p x) (free_in_some ps x) (nowhere_free p x k.0) (nowhere_some ps x k.1)
+
+  nowhere_cases : (cs : Cases) (x : ℕ) → stands_in_cases cs x ≡ false → free_in_cases cs x ≡ false
+  nowhere_cases no_case x h = refl
+  nowhere_cases (and_case e p cs) x h =
+      let k = or_three (names e x) (stands p x) (stands_in_cases cs x) h in or_from (names e x || free p x) (free_in_cases cs x) (or_from (names e x) (free p x) k.0 (nowhere_free p x k.1)) (nowhere_cases cs x k.2)
+
+  nowhere_branches : (bs : Branches) (x : ℕ) → stands_in_branches bs x ≡ false → free_in_branches bs x ≡ false
+  nowhere_branches no_branch x h = refl
+  nowhere_branches (and_branch e w p bs) x h =
+      let k = or_four (names e x) (stands_in_waiting w x) (stands p x) (stands_in_branches bs x) h in
+      or_from ((names e x || free_in_waiting w x) || free p x) (free_in_branches bs x)
+        (or_from (names e x || free_in_waiting w x) (free p x) (or_from (names e x) (free_in_waiting w x) k.0 (nowhere_waiting w x k.1)) (nowhere_free p x k.2))
+        (nowhere_branches bs x k.3)

@@ -11,6 +11,7 @@ pub mod OffNames
 pub mod OffValues
 pub mod Parallel
 pub mod Parts
+pub mod Redeclared
 pub mod Refusals
 pub mod RenamedTrees
 pub mod Renaming

@@ -152,6 +152,63 @@ mutual
         ∙ (ap (λ z. and_branch e z (renamed (renamed p f) f) (branches_renamed (branches_renamed bs f) f)) (waiting_twice f inv w)
         ∙ (ap (λ q. and_branch e w q (branches_renamed (branches_renamed bs f) f)) (tree_twice p f inv) ∙ ap (λ r. and_branch e w p r) (branches_twice bs f inv)))
 
+-- ---- renaming that changes no name
+
+abbrev pub ChangesNone : (ℕ → ℕ) → Type 0
+ChangesNone f = (n : ℕ) → f n ≡ n
+
+exp_itself : (f : ℕ → ℕ) → ChangesNone f → (e : Exp) → renamed_exp f e ≡ e
+exp_itself f inv (variable y) = ap variable (inv y)
+exp_itself f inv (numeral bits value) = refl
+exp_itself f inv (truth b) = refl
+exp_itself f inv (negation e) = ap negation (exp_itself f inv e)
+exp_itself f inv (complement e) = ap complement (exp_itself f inv e)
+exp_itself f inv (operation op left right) = ap (λ z. operation op z (renamed_exp f right)) (exp_itself f inv left) ∙ ap (λ z. operation op left z) (exp_itself f inv right)
+
+names_itself : (f : ℕ → ℕ) → ChangesNone f → (xs : List ℕ) → renamed_names f xs ≡ xs
+names_itself f inv [] = refl
+names_itself f inv (y ∷ xs) = ap (λ z. z ∷ renamed_names f xs) (inv y) ∙ ap (λ l. y ∷ l) (names_itself f inv xs)
+
+exps_itself : (f : ℕ → ℕ) → ChangesNone f → (es : List Exp) → renamed_exps f es ≡ es
+exps_itself f inv [] = refl
+exps_itself f inv (e ∷ es) = ap (λ z. z ∷ renamed_exps f es) (exp_itself f inv e) ∙ ap (λ l. e ∷ l) (exps_itself f inv es)
+
+waiting_itself : (f : ℕ → ℕ) → ChangesNone f → (w : Waiting) → renamed_waiting f w ≡ w
+waiting_itself f inv ready = refl
+waiting_itself f inv (input c y) = ap (λ n. input n (f y)) (inv c) ∙ ap (λ n. input c n) (inv y)
+waiting_itself f inv (output c e) = ap (λ n. output n (renamed_exp f e)) (inv c) ∙ ap (λ z. output c z) (exp_itself f inv e)
+
+mutual
+  pub tree_itself : (p : Tree) (f : ℕ → ℕ) → ChangesNone f → renamed p f ≡ p
+  tree_itself skip f inv = refl
+  tree_itself stop f inv = refl
+  tree_itself (assign xs es) f inv = exps_both assign (renamed_names f xs) xs (renamed_exps f es) es (names_itself f inv xs) (exps_itself f inv es)
+  tree_itself (receive c y) f inv = exps_both receive (f c) c (f y) y (inv c) (inv y)
+  tree_itself (send c e) f inv = exps_both send (f c) c (renamed_exp f e) e (inv c) (exp_itself f inv e)
+  tree_itself (seq ps) f inv = ap seq (all_itself ps f inv)
+  tree_itself (par ps) f inv = ap par (all_itself ps f inv)
+  tree_itself (select cs) f inv = ap select (cases_itself cs f inv)
+  tree_itself (alt bs) f inv = ap alt (branches_itself bs f inv)
+  tree_itself (declare y w p) f inv = exps_both (λ n q. declare n w q) (f y) y (renamed p f) p (inv y) (tree_itself p f inv)
+  tree_itself (connect y w p) f inv = exps_both (λ n q. connect n w q) (f y) y (renamed p f) p (inv y) (tree_itself p f inv)
+
+  all_itself : (ps : Trees) (f : ℕ → ℕ) → ChangesNone f → all_renamed ps f ≡ ps
+  all_itself no_tree f inv = refl
+  all_itself (and_tree p ps) f inv = ap (λ q. and_tree q (all_renamed ps f)) (tree_itself p f inv) ∙ ap (λ qs. and_tree p qs) (all_itself ps f inv)
+
+  cases_itself : (cs : Cases) (f : ℕ → ℕ) → ChangesNone f → cases_renamed cs f ≡ cs
+  cases_itself no_case f inv = refl
+  cases_itself (and_case e p cs) f inv =
+      ap (λ z. and_case z (renamed p f) (cases_renamed cs f)) (exp_itself f inv e)
+        ∙ (ap (λ q. and_case e q (cases_renamed cs f)) (tree_itself p f inv) ∙ ap (λ r. and_case e p r) (cases_itself cs f inv))
+
+  branches_itself : (bs : Branches) (f : ℕ → ℕ) → ChangesNone f → branches_renamed bs f ≡ bs
+  branches_itself no_branch f inv = refl
+  branches_itself (and_branch e w p bs) f inv =
+      ap (λ z. and_branch z (renamed_waiting f w) (renamed p f) (branches_renamed bs f)) (exp_itself f inv e)
+        ∙ (ap (λ z. and_branch e z (renamed p f) (branches_renamed bs f)) (waiting_itself f inv w)
+        ∙ (ap (λ q. and_branch e w q (branches_renamed bs f)) (tree_itself p f inv) ∙ ap (λ r. and_branch e w p r) (branches_itself bs f inv)))
+
 -- ---- types
 
 and_same : (a b c d : Bool) → a ≡ c → b ≡ d → (a && b) ≡ (c && d)
