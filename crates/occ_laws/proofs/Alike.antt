@@ -4,7 +4,7 @@ use Rattle.occ_base.specs.declared.width.Width.{Width}
 use Rattle.occ_laws.proofs.Facts.{both, false_not_true, name_off}
 use Rattle.occ_laws.proofs.States.{KeepsStates, connected_state, declared_state, taken_state}
 use Rattle.occ_syntax.specs.Eval.{is_true}
-use Rattle.occ_syntax.specs.Meaning.{Alternates, Combines, Followed, Guards, Meaning, Outcome, Together, Weave, WithChannel, WithVariable, alternatives, and_guard, answered, at_end, at_rest, beside, both_ended, chosen, ended, first_ended, followed, in_first, in_second, meaning, neither_ended, no_guard, off_channel, over_channel, over_variable, refused_with, refusing, second_ended, stable, taken, together}
+use Rattle.occ_syntax.specs.Meaning.{Alternates, Combines, Followed, Guards, Meaning, Outcome, Together, Weave, WithChannel, WithVariable, alternatives, and_guard, answered, beside, both_ended, chosen, ended, first_ended, followed, in_first, in_second, meaning, neither_ended, no_guard, off_channel, over_channel, over_variable, refused_with, refusing, second_ended, stable, taken, together}
 use Rattle.occ_syntax.specs.Same.{HasTrace, SAME}
 use Rattle.occ_syntax.specs.Scopes.{Environment, EventSet, IsState, IsWithin, Trace, Values, channel_kind, has_width, in_scope, with_name, with_value}
 use Rattle.occ_syntax.specs.Tree.{Exp, Tree, Waiting}
@@ -64,7 +64,7 @@ same_back Γ p q h = same_from Γ q p (back Γ p q h) (forth Γ p q h)
 pub same_through : (Γ : Environment) (p q r : Tree) → SAME Γ p q → SAME Γ q r → SAME Γ p r
 same_through Γ p q r h k =
     same_from Γ p r (into_through Γ (meaning p) (meaning q) (meaning r) (forth Γ p q h) (forth Γ q r k))
-      (into_through Γ (meaning r) (meaning q) (meaning p) (back Γ q r k) (back Γ p q h))
+    (into_through Γ (meaning r) (meaning q) (meaning p) (back Γ q r k) (back Γ p q h))
 
 trace_forth : (Γ : Environment) (p q : Tree) → SAME Γ p q → (s : Values) (t : Trace) → IsState Γ s → HasTrace Γ p s t → HasTrace Γ q s t
 trace_forth Γ p q h s t state d = elim d
@@ -94,9 +94,10 @@ no_guard_into Γ = record { first = λ s X state within d. d; later = λ s t o s
 pub and_guard_into : (Γ : Environment) (e : Exp) (w : Waiting) (m m' : Meaning) (g h : Guards) → waiting_kept Γ w ≡ true → Into Γ m m' → GuardsInto Γ g h → GuardsInto Γ (and_guard e w m g) (and_guard e w m' h)
 and_guard_into Γ e w m m' g h kept hm hg = record {
   first = λ s X state within d. (d.0, hg.first s X state within d.1);
-  later = λ s t o state within d. elim d
-    [ inl k ↦ inl (k.0, (k.1.0, k.1.1, k.1.2, hm.into k.1.0 k.1.1 o (taken_state Γ s w t k.1.0 k.1.1 kept state k.1.2) within k.1.3))
-    | inr k ↦ inr (hg.later s t o state within k) ];
+  later = λ s t o state within d. elim d [
+    | inl k ↦ inl (k.0, (k.1.0, k.1.1, k.1.2, hm.into k.1.0 k.1.1 o (taken_state Γ s w t k.1.0 k.1.1 kept state k.1.2) within k.1.3))
+    | inr k ↦ inr (hg.later s t o state within k)
+  ];
 }
 
 alternates_into : (Γ : Environment) (g h : Guards) → GuardsInto Γ g h → (s : Values) (t : Trace) (o : Outcome) → IsState Γ s → OutcomeWithin Γ o → Alternates g Γ s t o → Alternates h Γ s t o
@@ -115,8 +116,8 @@ combine_into Γ m m' n n' hm hn s state t1 t2 t woven o1 o2 o within d1 d2 (firs
 combine_into Γ m m' n n' hm hn s state t1 t2 t woven o1 o2 o within d1 d2 (second_ended {s2 = b} {X = X}) = together t1 t2 (refusing X) (ended b) woven second_ended (hm.into s t1 (refusing X) state within d1) (hn.into s t2 (ended b) state tt d2)
 combine_into Γ m m' n n' hm hn s state t1 t2 t woven o1 o2 o within d1 d2 (neither_ended X Y) =
     together t1 t2 (refusing (refused_with Γ X Y)) (refusing (refused_with Γ X (answered Y))) woven (neither_ended X Y)
-      (hm.into s t1 (refusing (refused_with Γ X Y)) state (refused_within Γ X Y within) d1)
-      (hn.into s t2 (refusing (refused_with Γ X (answered Y))) state (refused_within Γ X (answered Y) within) d2)
+    (hm.into s t1 (refusing (refused_with Γ X Y)) state (refused_within Γ X Y within) d1)
+    (hn.into s t2 (refusing (refused_with Γ X (answered Y))) state (refused_within Γ X (answered Y) within) d2)
 
 together_into : (Γ : Environment) (m m' n n' : Meaning) → Into Γ m m' → Into Γ n n' → (s : Values) (t : Trace) (o : Outcome) → IsState Γ s → OutcomeWithin Γ o → Together m n Γ s t o → Together m' n' Γ s t o
 together_into Γ m m' n n' hm hn s t o state within (together t1 t2 o1 o2 woven c d1 d2) = combine_into Γ m m' n n' hm hn s state t1 t2 t woven o1 o2 o within d1 d2 c
@@ -125,9 +126,10 @@ pub beside_into : (Γ : Environment) (m m' n n' : Meaning) → Into Γ m m' → 
 beside_into Γ m m' n n' hm hn = record { into = together_into Γ m m' n n' hm hn }
 
 within_declared : (Γ : Environment) (x : ℕ) (w : Width) (X : EventSet) → Γ x ≡ None → IsWithin Γ X → IsWithin (with_name Γ x (Var w)) X
-within_declared Γ x w X fresh within e h = elim (eqb_tells e.chan.0 x)
-    [ inl k ↦ (let P : Option Kind → Type 0 = λ o. has_width (channel_kind o) e.value ≡ true in false_not_true (subst P (ap Γ k.1 ∙ fresh) (within e h)))
-    | inr k ↦ (let P : Option Kind → Type 0 = λ o. has_width (channel_kind o) e.value ≡ true in subst P (sym (name_off Γ x (Var w) e.chan.0 k.0)) (within e h)) ]
+within_declared Γ x w X fresh within e h = elim (eqb_tells e.chan.0 x) [
+  | inl k ↦ (let P : Option Kind → Type 0 = λ o. has_width (channel_kind o) e.value ≡ true in false_not_true (subst P (ap Γ k.1 ∙ fresh) (within e h)))
+  | inr k ↦ (let P : Option Kind → Type 0 = λ o. has_width (channel_kind o) e.value ≡ true in subst P (sym (name_off Γ x (Var w) e.chan.0 k.0)) (within e h))
+]
 
 within_connected : (Γ : Environment) (c : ℕ) (w : Width) (X : EventSet) → IsWithin Γ X → IsWithin (with_name Γ c (Chan w None)) (off_channel c X)
 within_connected Γ c w X within e h =

@@ -4,7 +4,7 @@ use Rattle.occ_base.specs.declared.width.Width.{Width}
 use Rattle.occ_laws.proofs.Facts.{either}
 use Rattle.occ_laws.specs.Bound.{guard_events, most_events, most_of_branches, most_of_cases, sum_of_events}
 use Rattle.occ_syntax.specs.Eval.{is_true}
-use Rattle.occ_syntax.specs.Meaning.{Alternates, Followed, Guards, Meaning, Outcome, Stopped, Taken, Together, Weave, WithChannel, WithVariable, alternatives, and_guard, assigned, at_end, at_event, at_once, at_ready, at_rest, at_the_same_time, beside_all, both_done, chosen, ended, first_choice, followed, guards, in_first, in_second, in_turn, meaning, never, no_guard, of_first, of_second, off_channel, refusing, stable, stopped, taken, together, unseen}
+use Rattle.occ_syntax.specs.Meaning.{Alternates, Followed, Guards, Meaning, Outcome, Stopped, Taken, Together, Weave, WithChannel, WithVariable, alternatives, and_guard, assigned, at_event, at_once, at_ready, at_the_same_time, beside_all, both_done, chosen, ended, first_choice, followed, guards, in_first, in_second, in_turn, meaning, never, no_guard, of_first, of_second, off_channel, refusing, stable, stopped, taken, together, unseen}
 use Rattle.occ_syntax.specs.Scopes.{Environment, Trace, Values, with_name, with_value}
 use Rattle.occ_syntax.specs.Tree.{Branches, Cases, Exp, Tree, Trees, Waiting, alt, and_branch, and_case, and_tree, assign, connect, declare, input, no_branch, no_case, no_tree, output, par, ready, receive, select, send, seq, skip, stop, truth}
 use Rattle.occ_syntax.specs.declared.scope.Kind.TheVariants.{Chan, Var}
@@ -61,9 +61,12 @@ no_guard_bounded : GuardsBounded 0 no_guard
 no_guard_bounded = record { bound = λ Γ s t o d. absurd d }
 
 and_guard_bounded : (n k : ℕ) (e : Exp) (w : Waiting) (m : Meaning) (g : Guards) → Bounded n m → GuardsBounded k g → GuardsBounded (max (guard_events w + n) k) (and_guard e w m g)
-and_guard_bounded n k e w m g hm hg = record { bound = λ Γ s t o d. elim d
-    [ inl i ↦ in_most_left (length t) (guard_events w + n) k (taken_bound Γ s w t i.1.0 i.1.1 n (hm.bound Γ i.1.0 i.1.1 o i.1.3) i.1.2)
-    | inr i ↦ in_most_right (length t) (guard_events w + n) k (hg.bound Γ s t o i) ] }
+and_guard_bounded n k e w m g hm hg = record {
+  bound = λ Γ s t o d. elim d [
+    | inl i ↦ in_most_left (length t) (guard_events w + n) k (taken_bound Γ s w t i.1.0 i.1.1 n (hm.bound Γ i.1.0 i.1.1 o i.1.3) i.1.2)
+    | inr i ↦ in_most_right (length t) (guard_events w + n) k (hg.bound Γ s t o i)
+  ];
+}
 
 alternates_bound : (n : ℕ) (g : Guards) → GuardsBounded n g → (Γ : Environment) (s : Values) (t : Trace) (o : Outcome) → Alternates g Γ s t o → length t ≤ n
 alternates_bound n g hg Γ s t o (stable d) = omega arith

@@ -15,15 +15,15 @@ use Rattle.std.proofs.Common.{List, None, Option, Some, [], refl, subst, suc, sy
 use Rattle.std.proofs.lemmas.Bool.{and_parts}
 use Rattle.std.specs.Option.{option_and_then, option_map, unwrap_or}
 
-
 turn_into : (Γ : Environment) (ps qs : Trees) → all_types_kept ps Γ ≡ true → EachSame Γ ps qs → Into Γ (in_turn ps) (in_turn qs) × Into Γ (in_turn qs) (in_turn ps)
 turn_into Γ ps qs h no_parts = (into_itself Γ (in_turn no_tree), into_itself Γ (in_turn no_tree))
 turn_into Γ ps qs h (and_part {p} {q} {ps = us} {qs = bs} same rest) =
     let k = and_parts (types_kept p Γ) (all_types_kept us Γ) h in
     let r = turn_into Γ us bs k.1 rest in
-    let keeps = part_states p Γ k.0 in
-    (followed_into Γ (meaning p) (meaning q) (in_turn us) (in_turn bs) keeps (forth Γ p q same) r.0,
-     followed_into Γ (meaning q) (meaning p) (in_turn bs) (in_turn us) (keeps_through Γ (meaning p) (meaning q) (back Γ p q same) keeps) (back Γ p q same) r.1)
+    let keeps = part_states p Γ k.0 in (
+      followed_into Γ (meaning p) (meaning q) (in_turn us) (in_turn bs) keeps (forth Γ p q same) r.0,
+      followed_into Γ (meaning q) (meaning p) (in_turn bs) (in_turn us) (keeps_through Γ (meaning p) (meaning q) (back Γ p q same) keeps) (back Γ p q same) r.1,
+    )
 
 pub seq_same : (Γ : Environment) (ps qs : Trees) → all_types_kept ps Γ ≡ true → EachSame Γ ps qs → SAME Γ (seq ps) (seq qs)
 seq_same Γ ps qs h k = let r = turn_into Γ ps qs h k in same_from Γ (seq ps) (seq qs) r.0 r.1
@@ -47,9 +47,10 @@ par_same Γ ps qs h = same_from Γ (par ps) (par qs) (parallel_into Γ ps qs h) 
 cases_into : (Γ : Environment) (cs ds : Cases) → EachChoiceSame Γ cs ds → Into Γ (first_choice cs) (first_choice ds) × Into Γ (first_choice ds) (first_choice cs)
 cases_into Γ cs ds no_choices = (into_itself Γ (first_choice no_case), into_itself Γ (first_choice no_case))
 cases_into Γ cs ds (and_choice {e} {p} {q} {cs = us} {ds = bs} same rest) =
-    let r = cases_into Γ us bs rest in
-    (chosen_into Γ e (meaning p) (meaning q) (first_choice us) (first_choice bs) (forth Γ p q same) r.0,
-     chosen_into Γ e (meaning q) (meaning p) (first_choice bs) (first_choice us) (back Γ p q same) r.1)
+    let r = cases_into Γ us bs rest in (
+      chosen_into Γ e (meaning p) (meaning q) (first_choice us) (first_choice bs) (forth Γ p q same) r.0,
+      chosen_into Γ e (meaning q) (meaning p) (first_choice bs) (first_choice us) (back Γ p q same) r.1,
+    )
 
 pub select_same : (Γ : Environment) (cs ds : Cases) → EachChoiceSame Γ cs ds → SAME Γ (select cs) (select ds)
 select_same Γ cs ds h = let r = cases_into Γ cs ds h in same_from Γ (select cs) (select ds) r.0 r.1
@@ -58,9 +59,10 @@ branches_into : (Γ : Environment) (bs ds : Branches) → branches_kept bs Γ �
 branches_into Γ bs ds h no_alternatives = (no_guard_into Γ, no_guard_into Γ)
 branches_into Γ bs ds h (and_alternative {e} {w} {p} {q} {bs = us} {ds = cs} same rest) =
     let k = and_four (is_condition Γ e) (waiting_kept Γ w) (types_kept p Γ) (branches_kept us Γ) h in
-    let r = branches_into Γ us cs k.3 rest in
-    (and_guard_into Γ e w (meaning p) (meaning q) (guards us) (guards cs) k.1 (forth Γ p q same) r.0,
-     and_guard_into Γ e w (meaning q) (meaning p) (guards cs) (guards us) k.1 (back Γ p q same) r.1)
+    let r = branches_into Γ us cs k.3 rest in (
+      and_guard_into Γ e w (meaning p) (meaning q) (guards us) (guards cs) k.1 (forth Γ p q same) r.0,
+      and_guard_into Γ e w (meaning q) (meaning p) (guards cs) (guards us) k.1 (back Γ p q same) r.1,
+    )
 
 pub alt_same : (Γ : Environment) (bs ds : Branches) → branches_kept bs Γ ≡ true → EachBranchSame Γ bs ds → SAME Γ (alt bs) (alt ds)
 alt_same Γ bs ds h k =
@@ -70,14 +72,14 @@ alt_same Γ bs ds h k =
 pub declare_same : (Γ : Environment) (x : ℕ) (w : Width) (p q : Tree) → Γ x ≡ None → SAME (with_name Γ x (Var w)) p q → SAME Γ (declare x w p) (declare x w q)
 declare_same Γ x w p q fresh h =
     same_from Γ (declare x w p) (declare x w q)
-      (variable_into Γ x w (meaning p) (meaning q) fresh (forth (with_name Γ x (Var w)) p q h))
-      (variable_into Γ x w (meaning q) (meaning p) fresh (back (with_name Γ x (Var w)) p q h))
+    (variable_into Γ x w (meaning p) (meaning q) fresh (forth (with_name Γ x (Var w)) p q h))
+    (variable_into Γ x w (meaning q) (meaning p) fresh (back (with_name Γ x (Var w)) p q h))
 
 pub connect_same : (Γ : Environment) (c : ℕ) (w : Width) (p q : Tree) → SAME (with_name Γ c (Chan w None)) p q → SAME Γ (connect c w p) (connect c w q)
 connect_same Γ c w p q h =
     same_from Γ (connect c w p) (connect c w q)
-      (channel_into Γ c w (meaning p) (meaning q) (forth (with_name Γ c (Chan w None)) p q h))
-      (channel_into Γ c w (meaning q) (meaning p) (back (with_name Γ c (Chan w None)) p q h))
+    (channel_into Γ c w (meaning p) (meaning q) (forth (with_name Γ c (Chan w None)) p q h))
+    (channel_into Γ c w (meaning q) (meaning p) (back (with_name Γ c (Chan w None)) p q h))
 
 -- ---- one part replaced
 

@@ -68,8 +68,8 @@ mutual
   branches_in_scope (and_branch e w p bs) Γ h x k =
       let j = and_four (is_condition Γ e) (waiting_kept Γ w) (types_kept p Γ) (branches_kept bs Γ) h in
       or_from ((names e x || free_in_waiting w x) || free p x) (free_in_branches bs x)
-        (or_from (names e x || free_in_waiting w x) (free p x) (or_from (names e x) (free_in_waiting w x) (condition_in_scope Γ x (no_variable Γ x k) e j.0) (waiting_names_in_scope Γ x k w j.1)) (free_in_scope p Γ j.2 x k))
-        (branches_in_scope bs Γ j.3 x k)
+      (or_from (names e x || free_in_waiting w x) (free p x) (or_from (names e x) (free_in_waiting w x) (condition_in_scope Γ x (no_variable Γ x k) e j.0) (waiting_names_in_scope Γ x k w j.1)) (free_in_scope p Γ j.2 x k))
+      (branches_in_scope bs Γ j.3 x k)
 
 -- ---- what is in scope and not free stands nowhere
 
@@ -122,8 +122,8 @@ mutual
       let j = and_four (is_condition Γ e) (waiting_kept Γ w) (types_kept p Γ) (branches_kept bs Γ) h in
       let l = or_four (names e x) (free_in_waiting w x) (free p x) (free_in_branches bs x) i in
       or_from ((names e x || stands_in_waiting w x) || stands p x) (stands_in_branches bs x)
-        (or_from (names e x || stands_in_waiting w x) (stands p x) (or_from (names e x) (stands_in_waiting w x) l.0 (waiting_stands w x l.1)) (stands_nowhere p Γ j.2 x k l.2))
-        (branches_stand bs Γ j.3 x k l.3)
+      (or_from (names e x || stands_in_waiting w x) (stands p x) (or_from (names e x) (stands_in_waiting w x) l.0 (waiting_stands w x l.1)) (stands_nowhere p Γ j.2 x k l.2))
+      (branches_stand bs Γ j.3 x k l.3)
 
 -- ---- what stands nowhere isn't free
 
@@ -160,5 +160,5 @@ mutual
   nowhere_branches (and_branch e w p bs) x h =
       let k = or_four (names e x) (stands_in_waiting w x) (stands p x) (stands_in_branches bs x) h in
       or_from ((names e x || free_in_waiting w x) || free p x) (free_in_branches bs x)
-        (or_from (names e x || free_in_waiting w x) (free p x) (or_from (names e x) (free_in_waiting w x) k.0 (nowhere_waiting w x k.1)) (nowhere_free p x k.2))
-        (nowhere_branches bs x k.3)
+      (or_from (names e x || free_in_waiting w x) (free p x) (or_from (names e x) (free_in_waiting w x) k.0 (nowhere_waiting w x k.1)) (nowhere_free p x k.2))
+      (nowhere_branches bs x k.3)

@@ -1,7 +1,9 @@
 pub mod Alike
+pub mod Beside
 pub mod Bounded
 pub mod Contexts
 pub mod Ends
+pub mod Exchanged
 pub mod Facts
 pub mod Frame
 pub mod Free
@@ -9,7 +11,6 @@ pub mod InScope
 pub mod Moved
 pub mod OffNames
 pub mod OffValues
-pub mod Parallel
 pub mod Parts
 pub mod Redeclared
 pub mod Refusals

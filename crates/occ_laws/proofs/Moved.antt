@@ -14,13 +14,15 @@ use Rattle.std.proofs.lemmas.Bool.Decides.{eqb_tells}
 use mathlib.Core.Path.{fun_ext}
 
 join_second_moved : (s a b : Values) (x v : ℕ) → b x ≡ s x → join s a b ≡ join (with_value s x v) a (with_value b x v)
-join_second_moved s a b x v kept = fun_ext (λ z. elim (eqb_tells z x)
-    [ inl k ↦ at_name z k.0 k.1
-    | inr k ↦ (let P : Bool → Type 0 = λ c. (if a z == s z then b z else a z) ≡ (if a z == (if c then v else s z) then (if c then v else b z) else a z) in subst P (sym k.0) refl) ])
+join_second_moved s a b x v kept = fun_ext (λ z. elim (eqb_tells z x) [
+  | inl k ↦ at_name z k.0 k.1
+  | inr k ↦ (let P : Bool → Type 0 = λ c. (if a z == s z then b z else a z) ≡ (if a z == (if c then v else s z) then (if c then v else b z) else a z) in subst P (sym k.0) refl)
+])
   where
     one_of : (n u : ℕ) (t : Bool) → (u == n) ≡ t → (if t then n else u) ≡ u
     one_of n u true h = sym (eqb-true u n h)
     one_of n u false h = refl
+
     at_name : (z : ℕ) → (z == x) ≡ true → z ≡ x → (if a z == s z then b z else a z) ≡ (if a z == (if z == x then v else s z) then (if z == x then v else b z) else a z)
     at_name z yes_z same =
         let P : Bool → Type 0 = λ c. a z ≡ (if a z == (if c then v else s z) then (if c then v else b z) else a z) in
@@ -28,11 +30,12 @@ join_second_moved s a b x v kept = fun_ext (λ z. elim (eqb_tells z x)
         (ap (λ n. if a z == s z then n else a z) (subst Q (sym same) kept) ∙ one_of (s z) (a z) (a z == s z) refl) ∙ subst P (sym yes_z) (sym (one_of v (a z) (a z == v) refl))
 
 join_first_moved : (s a b : Values) (x v : ℕ) → a x ≡ s x → join s a b ≡ join (with_value s x v) (with_value a x v) b
-join_first_moved s a b x v kept = fun_ext (λ z. elim (eqb_tells z x)
-    [ inl k ↦ (let P : Bool → Type 0 = λ c. (if a z == s z then b z else a z) ≡ (if (if c then v else a z) == (if c then v else s z) then b z else (if c then v else a z)) in
-        let Q : ℕ → Type 0 = λ y. a y ≡ s y in
-        subst P (sym k.0) (if_true (a z == s z) (b z) (a z) (eq-eqb (a z) (s z) (subst Q (sym k.1) kept)) ∙ sym (if_true (v == v) (b z) v (at_itself v))))
-    | inr k ↦ (let P : Bool → Type 0 = λ c. (if a z == s z then b z else a z) ≡ (if (if c then v else a z) == (if c then v else s z) then b z else (if c then v else a z)) in subst P (sym k.0) refl) ])
+join_first_moved s a b x v kept = fun_ext (λ z. elim (eqb_tells z x) [
+  | inl k ↦ (let P : Bool → Type 0 = λ c. (if a z == s z then b z else a z) ≡ (if (if c then v else a z) == (if c then v else s z) then b z else (if c then v else a z)) in
+      let Q : ℕ → Type 0 = λ y. a y ≡ s y in
+      subst P (sym k.0) (if_true (a z == s z) (b z) (a z) (eq-eqb (a z) (s z) (subst Q (sym k.1) kept)) ∙ sym (if_true (v == v) (b z) v (at_itself v))))
+  | inr k ↦ (let P : Bool → Type 0 = λ c. (if a z == s z then b z else a z) ≡ (if (if c then v else a z) == (if c then v else s z) then b z else (if c then v else a z)) in subst P (sym k.0) refl)
+])
 
 -- what the second part makes of both stays, whatever that variable holds at its beginning
 combined_second_moved : (Γ : Environment) (s : Values) (x v : ℕ) (o1 o2 o : Outcome) → ((b : Values) → o2 ≡ ended b → b x ≡ s x) → Combines Γ s o1 o2 o → Combines Γ (with_value s x v) o1 (with_result x v o2) o

@@ -1,7 +1,7 @@
 -- PAR of lists of parts: flat, in any order, with SKIP and STOP among them.
+use Rattle.occ_laws.proofs.Beside.{ChangeApart, Gives, apart_turned, beside_gives, beside_grouped, beside_skip, beside_stop, beside_turned, beside_ungrouped, done, gives_itself, gives_through, same_by, skip_added, skip_before, skip_beside, stop_added, stop_apart, then_stop}
 use Rattle.occ_laws.proofs.Frame.{part_value}
 use Rattle.occ_laws.proofs.Free.{not_written}
-use Rattle.occ_laws.proofs.Parallel.{ChangeApart, Gives, apart_turned, beside_gives, beside_grouped, beside_skip, beside_stop, beside_turned, beside_ungrouped, done, gives_itself, gives_through, same_by, skip_added, skip_before, skip_beside, stop_added, stop_apart, then_stop}
 use Rattle.occ_laws.proofs.Refusals.{parallel_shrinks, part_shrinks}
 use Rattle.occ_laws.specs.Parallel.{EachWritesApart, Reordered, WriteApart, all_of, as_they_are, behind_first, first_two, in_steps}
 use Rattle.occ_syntax.specs.Meaning.{at_the_same_time, beside, meaning, never}
@@ -29,11 +29,11 @@ all_of_beside Γ (and_tree p ps) qs =
     let some = at_the_same_time ps in
     let others = at_the_same_time qs in
     gives_through Γ (at_the_same_time (and_tree p (all_of ps qs))) (beside one (at_the_same_time (all_of ps qs))) (beside (at_the_same_time (and_tree p ps)) others) (whole_beside Γ p (all_of ps qs))
-      (gives_through Γ (beside one (at_the_same_time (all_of ps qs))) (beside one (beside some others)) (beside (at_the_same_time (and_tree p ps)) others)
-        (beside_gives Γ one one (at_the_same_time (all_of ps qs)) (beside some others) (gives_itself Γ one) (all_of_beside Γ ps qs))
-        (gives_through Γ (beside one (beside some others)) (beside (beside one some) others) (beside (at_the_same_time (and_tree p ps)) others)
-          (beside_ungrouped one some others (part_shrinks p) (parallel_shrinks ps) (parallel_shrinks qs) Γ)
-          (beside_gives Γ (beside one some) (at_the_same_time (and_tree p ps)) others others (beside_whole Γ p ps) (gives_itself Γ others))))
+    (gives_through Γ (beside one (at_the_same_time (all_of ps qs))) (beside one (beside some others)) (beside (at_the_same_time (and_tree p ps)) others)
+    (beside_gives Γ one one (at_the_same_time (all_of ps qs)) (beside some others) (gives_itself Γ one) (all_of_beside Γ ps qs))
+    (gives_through Γ (beside one (beside some others)) (beside (beside one some) others) (beside (at_the_same_time (and_tree p ps)) others)
+    (beside_ungrouped one some others (part_shrinks p) (parallel_shrinks ps) (parallel_shrinks qs) Γ)
+    (beside_gives Γ (beside one some) (at_the_same_time (and_tree p ps)) others others (beside_whole Γ p ps) (gives_itself Γ others))))
 
 pub beside_all_of : (Γ : Environment) (ps qs : Trees) → Gives Γ (beside (at_the_same_time ps) (at_the_same_time qs)) (at_the_same_time (all_of ps qs))
 beside_all_of Γ no_tree qs = skip_beside Γ (at_the_same_time qs)
@@ -42,12 +42,12 @@ beside_all_of Γ (and_tree p ps) qs =
     let some = at_the_same_time ps in
     let others = at_the_same_time qs in
     gives_through Γ (beside (at_the_same_time (and_tree p ps)) others) (beside (beside one some) others) (at_the_same_time (and_tree p (all_of ps qs)))
-      (beside_gives Γ (at_the_same_time (and_tree p ps)) (beside one some) others others (whole_beside Γ p ps) (gives_itself Γ others))
-      (gives_through Γ (beside (beside one some) others) (beside one (beside some others)) (at_the_same_time (and_tree p (all_of ps qs)))
-        (beside_grouped one some others (part_shrinks p) (parallel_shrinks ps) (parallel_shrinks qs) Γ)
-        (gives_through Γ (beside one (beside some others)) (beside one (at_the_same_time (all_of ps qs))) (at_the_same_time (and_tree p (all_of ps qs)))
-          (beside_gives Γ one one (beside some others) (at_the_same_time (all_of ps qs)) (gives_itself Γ one) (beside_all_of Γ ps qs))
-          (beside_whole Γ p (all_of ps qs))))
+    (beside_gives Γ (at_the_same_time (and_tree p ps)) (beside one some) others others (whole_beside Γ p ps) (gives_itself Γ others))
+    (gives_through Γ (beside (beside one some) others) (beside one (beside some others)) (at_the_same_time (and_tree p (all_of ps qs)))
+    (beside_grouped one some others (part_shrinks p) (parallel_shrinks ps) (parallel_shrinks qs) Γ)
+    (gives_through Γ (beside one (beside some others)) (beside one (at_the_same_time (all_of ps qs))) (at_the_same_time (and_tree p (all_of ps qs)))
+    (beside_gives Γ one one (beside some others) (at_the_same_time (all_of ps qs)) (gives_itself Γ one) (beside_all_of Γ ps qs))
+    (beside_whole Γ p (all_of ps qs))))
 
 -- a PAR in the place of a part: its parts stand in its place
 flat_in : (Γ : Environment) (qs rs : Trees) → Gives Γ (at_the_same_time (and_tree (par qs) rs)) (at_the_same_time (all_of qs rs))
@@ -60,14 +60,14 @@ flat_out Γ qs rs = gives_through Γ (at_the_same_time (all_of qs rs)) (beside (
 pub behind : (Γ : Environment) (ps qs rs : Trees) → Gives Γ (at_the_same_time qs) (at_the_same_time rs) → Gives Γ (at_the_same_time (all_of ps qs)) (at_the_same_time (all_of ps rs))
 behind Γ ps qs rs h =
     gives_through Γ (at_the_same_time (all_of ps qs)) (beside (at_the_same_time ps) (at_the_same_time qs)) (at_the_same_time (all_of ps rs)) (all_of_beside Γ ps qs)
-      (gives_through Γ (beside (at_the_same_time ps) (at_the_same_time qs)) (beside (at_the_same_time ps) (at_the_same_time rs)) (at_the_same_time (all_of ps rs))
-        (beside_gives Γ (at_the_same_time ps) (at_the_same_time ps) (at_the_same_time qs) (at_the_same_time rs) (gives_itself Γ (at_the_same_time ps)) h)
-        (beside_all_of Γ ps rs))
+    (gives_through Γ (beside (at_the_same_time ps) (at_the_same_time qs)) (beside (at_the_same_time ps) (at_the_same_time rs)) (at_the_same_time (all_of ps rs))
+    (beside_gives Γ (at_the_same_time ps) (at_the_same_time ps) (at_the_same_time qs) (at_the_same_time rs) (gives_itself Γ (at_the_same_time ps)) h)
+    (beside_all_of Γ ps rs))
 
 pub par_flat : (Γ : Environment) (ps qs rs : Trees) → SAME Γ (par (all_of ps (and_tree (par qs) rs))) (par (all_of ps (all_of qs rs)))
 par_flat Γ ps qs rs =
     same_by Γ (par (all_of ps (and_tree (par qs) rs))) (par (all_of ps (all_of qs rs)))
-      (behind Γ ps (and_tree (par qs) rs) (all_of qs rs) (flat_in Γ qs rs)) (behind Γ ps (all_of qs rs) (and_tree (par qs) rs) (flat_out Γ qs rs))
+    (behind Γ ps (and_tree (par qs) rs) (all_of qs rs) (flat_in Γ qs rs)) (behind Γ ps (all_of qs rs) (and_tree (par qs) rs) (flat_out Γ qs rs))
 
 -- ---- SKIP and STOP among the parts
 
@@ -83,14 +83,14 @@ par_skip Γ ps qs = same_by Γ (par (all_of ps (and_tree skip qs))) (par (all_of
 pub par_stop : (Γ : Environment) (p : Tree) → SAME Γ (par (and_tree p (and_tree stop no_tree))) (seq (and_tree p (and_tree stop no_tree)))
 par_stop Γ p =
     same_by Γ (par (and_tree p (and_tree stop no_tree))) (seq (and_tree p (and_tree stop no_tree)))
-      (beside_stop Γ (meaning p) (part_shrinks p)) (stop_added Γ (meaning p) (part_shrinks p))
+    (beside_stop Γ (meaning p) (part_shrinks p)) (stop_added Γ (meaning p) (part_shrinks p))
 
 pub stop_par : (Γ : Environment) (p : Tree) → SAME Γ (par (and_tree stop (and_tree p no_tree))) (seq (and_tree p (and_tree stop no_tree)))
 stop_par Γ p =
     let m = meaning p in
     same_by Γ (par (and_tree stop (and_tree p no_tree))) (seq (and_tree p (and_tree stop no_tree)))
-      (gives_through Γ (beside never m) (beside m never) (then_stop m) (beside_turned Γ never m (apart_turned m never (stop_apart m))) (beside_stop Γ m (part_shrinks p)))
-      (gives_through Γ (then_stop m) (beside m never) (beside never m) (stop_added Γ m (part_shrinks p)) (beside_turned Γ m never (stop_apart m)))
+    (gives_through Γ (beside never m) (beside m never) (then_stop m) (beside_turned Γ never m (apart_turned m never (stop_apart m))) (beside_stop Γ m (part_shrinks p)))
+    (gives_through Γ (then_stop m) (beside m never) (beside never m) (stop_added Γ m (part_shrinks p)) (beside_turned Γ m never (stop_apart m)))
 
 -- ---- in any order
 
@@ -145,9 +145,10 @@ pub apart_reordered : (ps qs : Trees) → Reordered ps qs → EachWritesApart ps
 apart_reordered ps qs as_they_are h = h
 apart_reordered ps qs (behind_first {p} {ps = us} {qs = vs} r) h =
     (λ x. (let P : Bool → Type 0 = λ b. (written p x ≡ false) ⊎ (b ≡ false) in subst P (written_reordered us vs r x) (h.0 x)), apart_reordered us vs r h.1)
-apart_reordered ps qs (first_two {p} {q} {ps = us}) h =
-    (λ x. apart_from_both (written q x) (written p x) (written_in_some us x) (other_way (apart_of (written p x) (written q x) (written_in_some us x) (h.0 x)).0) (h.1.0 x),
-     (λ x. (apart_of (written p x) (written q x) (written_in_some us x) (h.0 x)).1, h.1.1))
+apart_reordered ps qs (first_two {p} {q} {ps = us}) h = (
+  λ x. apart_from_both (written q x) (written p x) (written_in_some us x) (other_way (apart_of (written p x) (written q x) (written_in_some us x) (h.0 x)).0) (h.1.0 x),
+  (λ x. (apart_of (written p x) (written q x) (written_in_some us x) (h.0 x)).1, h.1.1),
+)
 apart_reordered ps qs (in_steps {ps = us} {qs = vs} {rs = ws} r1 r2) h = apart_reordered vs ws r2 (apart_reordered us vs r1 h)
 
 pub reordered_back : (ps qs : Trees) → Reordered ps qs → Reordered qs ps
@@ -164,12 +165,12 @@ first_two_gives Γ p q ps apart =
     let from = at_the_same_time (and_tree p (and_tree q ps)) in
     let goal = at_the_same_time (and_tree q (and_tree p ps)) in
     gives_through Γ from (beside one (beside two rest)) goal
-      (beside_gives Γ one one (at_the_same_time (and_tree q ps)) (beside two rest) (gives_itself Γ one) (whole_beside Γ q ps))
-      (gives_through Γ (beside one (beside two rest)) (beside (beside one two) rest) goal (beside_ungrouped one two rest (part_shrinks p) (part_shrinks q) (parallel_shrinks ps) Γ)
-        (gives_through Γ (beside (beside one two) rest) (beside (beside two one) rest) goal
-          (beside_gives Γ (beside one two) (beside two one) rest rest (beside_turned Γ one two apart) (gives_itself Γ rest))
-          (gives_through Γ (beside (beside two one) rest) (beside two (beside one rest)) goal (beside_grouped two one rest (part_shrinks q) (part_shrinks p) (parallel_shrinks ps) Γ)
-            (beside_gives Γ two two (beside one rest) (at_the_same_time (and_tree p ps)) (gives_itself Γ two) (beside_whole Γ p ps)))))
+    (beside_gives Γ one one (at_the_same_time (and_tree q ps)) (beside two rest) (gives_itself Γ one) (whole_beside Γ q ps))
+    (gives_through Γ (beside one (beside two rest)) (beside (beside one two) rest) goal (beside_ungrouped one two rest (part_shrinks p) (part_shrinks q) (parallel_shrinks ps) Γ)
+    (gives_through Γ (beside (beside one two) rest) (beside (beside two one) rest) goal
+    (beside_gives Γ (beside one two) (beside two one) rest rest (beside_turned Γ one two apart) (gives_itself Γ rest))
+    (gives_through Γ (beside (beside two one) rest) (beside two (beside one rest)) goal (beside_grouped two one rest (part_shrinks q) (part_shrinks p) (parallel_shrinks ps) Γ)
+    (beside_gives Γ two two (beside one rest) (at_the_same_time (and_tree p ps)) (gives_itself Γ two) (beside_whole Γ p ps)))))
 
 pub reordered_gives : (Γ : Environment) (ps qs : Trees) → Reordered ps qs → all_types_kept ps Γ ≡ true → EachWritesApart ps → Gives Γ (at_the_same_time ps) (at_the_same_time qs)
 reordered_gives Γ ps qs (as_they_are {ps = us}) t h = gives_itself Γ (at_the_same_time us)

@@ -2,17 +2,17 @@
 use Rattle.occ_base.specs.declared.event.Dir.{Dir}
 use Rattle.occ_base.specs.declared.event.Event.{Event}
 use Rattle.occ_base.specs.declared.width.Width.{Width}
+use Rattle.occ_laws.proofs.Beside.{Gives, same_by}
 use Rattle.occ_laws.proofs.Ends.{part_uses, silent_uses}
 use Rattle.occ_laws.proofs.Facts.{at_itself, clash, if_false, if_true, name_at, name_off, off_turned, value_at, value_off}
 use Rattle.occ_laws.proofs.Frame.{KeepsValue, part_value, written_in_scope}
 use Rattle.occ_laws.proofs.OffValues.{Ignores, part_ignores}
-use Rattle.occ_laws.proofs.Parallel.{Gives, same_by}
 use Rattle.occ_laws.proofs.Refusals.{Extends, end_in_scope, part_more}
 use Rattle.occ_laws.proofs.RenamedTrees.{tree_itself, tree_twice, trees_agree, types_under}
 use Rattle.occ_laws.proofs.Renaming.{exchange_is, name_under, part_carries}
 use Rattle.occ_laws.specs.Foundation.{AreOnEnds, with_result}
 use Rattle.occ_laws.specs.Rename.{exchanging, renamed, renamed_event, renamed_outcome, renamed_trace, replacing, stands, under}
-use Rattle.occ_syntax.specs.Meaning.{Outcome, WithChannel, WithVariable, at_end, at_rest, ended, is_silent, meaning, off_channel, refusing}
+use Rattle.occ_syntax.specs.Meaning.{Outcome, WithChannel, WithVariable, ended, is_silent, meaning, off_channel, refusing}
 use Rattle.occ_syntax.specs.Names.{uses_end}
 use Rattle.occ_syntax.specs.Same.{SAME}
 use Rattle.occ_syntax.specs.Scopes.{Environment, EventSet, Trace, Values, allows, variable_kind, with_name, with_value}
@@ -51,11 +51,13 @@ silent_unused y u uy (e ∷ t) h = and_from (not (e.chan.0 == y)) (is_silent y t
 
 module _ (Γ : Environment) (x y : ℕ) (off : (x == y) ≡ false) (fresh_x : Γ x ≡ None) (fresh_y : Γ y ≡ None) where
   same_scope : under (exchanging x y) Γ ≡ Γ
-  same_scope = fun_ext (λ z. elim (eqb_tells z x)
-      [ inl k ↦ ap Γ (ap (exchanging x y) k.1 ∙ exchanged_first x y) ∙ (fresh_y ∙ (sym fresh_x ∙ ap Γ (sym k.1)))
-      | inr k ↦ elim (eqb_tells z y)
-          [ inl j ↦ ap Γ (ap (exchanging x y) j.1 ∙ exchanged_second x y off) ∙ (fresh_x ∙ (sym fresh_y ∙ ap Γ (sym j.1)))
-          | inr j ↦ ap Γ (exchanged_other x y z k.0 j.0) ] ])
+  same_scope = fun_ext (λ z. elim (eqb_tells z x) [
+    | inl k ↦ ap Γ (ap (exchanging x y) k.1 ∙ exchanged_first x y) ∙ (fresh_y ∙ (sym fresh_x ∙ ap Γ (sym k.1)))
+    | inr k ↦ elim (eqb_tells z y) [
+      | inl j ↦ ap Γ (ap (exchanging x y) j.1 ∙ exchanged_second x y off) ∙ (fresh_x ∙ (sym fresh_y ∙ ap Γ (sym j.1)))
+      | inr j ↦ ap Γ (exchanged_other x y z k.0 j.0)
+    ]
+  ])
 
   other_scope : (kind : Kind) → under (exchanging x y) (with_name Γ x kind) ≡ with_name Γ y kind
   other_scope kind = name_under (exchanging x y) (exchange_is x y) Γ x kind ∙ (ap (λ Ψ. with_name Ψ (exchanging x y x) kind) same_scope ∙ ap (λ n. with_name Γ n kind) (exchanged_first x y))
@@ -86,19 +88,23 @@ module _ (Γ : Environment) (x y : ℕ) (off : (x == y) ≡ false) (fresh_x : Γ
   -- ---- a variable
 
   values_there : (s : Values) (v : ℕ) → with_value (under (exchanging x y) (with_value s x v)) x (s x) ≡ with_value s y v
-  values_there s v = fun_ext (λ z. elim (eqb_tells z x)
-      [ inl k ↦ if_true (z == x) (s x) (with_value s x v (exchanging x y z)) k.0 ∙ (ap s (sym k.1) ∙ sym (value_off s y v z (ap (λ n. n == y) k.1 ∙ off)))
-      | inr k ↦ if_false (z == x) (s x) (with_value s x v (exchanging x y z)) k.0 ∙ elim (eqb_tells z y)
-          [ inl j ↦ ap (with_value s x v) (ap (exchanging x y) j.1 ∙ exchanged_second x y off) ∙ (value_at s x v ∙ (sym (value_at s y v) ∙ ap (with_value s y v) (sym j.1)))
-          | inr j ↦ ap (with_value s x v) (exchanged_other x y z k.0 j.0) ∙ (value_off s x v z k.0 ∙ sym (value_off s y v z j.0)) ] ])
+  values_there s v = fun_ext (λ z. elim (eqb_tells z x) [
+    | inl k ↦ if_true (z == x) (s x) (with_value s x v (exchanging x y z)) k.0 ∙ (ap s (sym k.1) ∙ sym (value_off s y v z (ap (λ n. n == y) k.1 ∙ off)))
+    | inr k ↦ if_false (z == x) (s x) (with_value s x v (exchanging x y z)) k.0 ∙ elim (eqb_tells z y) [
+      | inl j ↦ ap (with_value s x v) (ap (exchanging x y) j.1 ∙ exchanged_second x y off) ∙ (value_at s x v ∙ (sym (value_at s y v) ∙ ap (with_value s y v) (sym j.1)))
+      | inr j ↦ ap (with_value s x v) (exchanged_other x y z k.0 j.0) ∙ (value_off s x v z k.0 ∙ sym (value_off s y v z j.0))
+    ]
+  ])
 
   end_there : (s s1 : Values) → s1 y ≡ s y → with_value s1 x (s x) ≡ with_value (with_value (under (exchanging x y) s1) x (s x)) y (s y)
-  end_there s s1 kept = fun_ext (λ z. elim (eqb_tells z y)
-      [ inl k ↦ value_off s1 x (s x) z (ap (λ n. n == x) k.1 ∙ off_turned x y off) ∙ (ap s1 k.1 ∙ (kept ∙ sym (if_true (z == y) (s y) (with_value (under (exchanging x y) s1) x (s x) z) k.0)))
-      | inr k ↦ elim (eqb_tells z x)
-          [ inl j ↦ if_true (z == x) (s x) (s1 z) j.0 ∙ sym (if_false (z == y) (s y) (with_value (under (exchanging x y) s1) x (s x) z) k.0 ∙ if_true (z == x) (s x) (s1 (exchanging x y z)) j.0)
-          | inr j ↦ if_false (z == x) (s x) (s1 z) j.0 ∙ sym (if_false (z == y) (s y) (with_value (under (exchanging x y) s1) x (s x) z) k.0
-              ∙ (if_false (z == x) (s x) (s1 (exchanging x y z)) j.0 ∙ ap s1 (exchanged_other x y z j.0 k.0))) ] ])
+  end_there s s1 kept = fun_ext (λ z. elim (eqb_tells z y) [
+    | inl k ↦ value_off s1 x (s x) z (ap (λ n. n == x) k.1 ∙ off_turned x y off) ∙ (ap s1 k.1 ∙ (kept ∙ sym (if_true (z == y) (s y) (with_value (under (exchanging x y) s1) x (s x) z) k.0)))
+    | inr k ↦ elim (eqb_tells z x) [
+      | inl j ↦ if_true (z == x) (s x) (s1 z) j.0 ∙ sym (if_false (z == y) (s y) (with_value (under (exchanging x y) s1) x (s x) z) k.0 ∙ if_true (z == x) (s x) (s1 (exchanging x y z)) j.0)
+      | inr j ↦ if_false (z == x) (s x) (s1 z) j.0 ∙ sym (if_false (z == y) (s y) (with_value (under (exchanging x y) s1) x (s x) z) k.0
+          ∙ (if_false (z == x) (s x) (s1 (exchanging x y z)) j.0 ∙ ap s1 (exchanged_other x y z j.0 k.0)))
+    ]
+  ])
 
   module _ (w : Width) (p : Tree) (types : types_kept p (with_name Γ x (Var w)) ≡ true) where
     unused_x : (d : Dir) → uses_end p x d ≡ false
@@ -120,29 +126,33 @@ module _ (Γ : Environment) (x y : ℕ) (off : (x == y) ≡ false) (fresh_x : Γ
         subst R (values_there s v) ((ignores_x (Var w) p types).ignored (with_name Γ y (Var w)) (under f (with_value s x v)) (s x) t (renamed_outcome f o) along)
 
     extends_there : (X : EventSet) → Extends (uses_end (renamed p (exchanging x y))) (λ e. X (renamed_event (exchanging x y) e)) X
-    extends_there X e h = elim (eqb_tells e.chan.0 x)
-        [ inl k ↦ inr (let P : ℕ → Type 0 = λ n. uses_end (renamed p (exchanging x y)) n e.dir ≡ false in subst P (sym k.1) (no_end_x (Var w) p types e.dir))
-        | inr k ↦ elim (eqb_tells e.chan.0 y)
-            [ inl j ↦ inr (let P : ℕ → Type 0 = λ n. uses_end (renamed p (exchanging x y)) n e.dir ≡ false in subst P (sym j.1) (unused_y e.dir))
-            | inr j ↦ inl (ap X (unchanged_event x y e k.0 j.0) ∙ h) ] ]
+    extends_there X e h = elim (eqb_tells e.chan.0 x) [
+      | inl k ↦ inr (let P : ℕ → Type 0 = λ n. uses_end (renamed p (exchanging x y)) n e.dir ≡ false in subst P (sym k.1) (no_end_x (Var w) p types e.dir))
+      | inr k ↦ elim (eqb_tells e.chan.0 y) [
+        | inl j ↦ inr (let P : ℕ → Type 0 = λ n. uses_end (renamed p (exchanging x y)) n e.dir ≡ false in subst P (sym j.1) (unused_y e.dir))
+        | inr j ↦ inl (ap X (unchanged_event x y e k.0 j.0) ∙ h)
+      ]
+    ]
 
     variable_there : (s : Values) (t : Trace) (o : Outcome) → WithVariable x w (meaning p) Γ s t o → WithVariable y w (meaning (renamed p (exchanging x y))) Γ s t o
     variable_there s t o (WithVariable.at_end v s1 lt e d) =
         WithVariable.at_end v (with_value (under (exchanging x y) s1) x (s x)) lt
-          (e ∙ end_there s s1 ((keeps_y (Var w) p types).value (with_name Γ x (Var w)) (with_value s x v) t s1 d ∙ value_off s x v y (off_turned x y off)))
-          (body_there s v t (ended s1) d)
+        (e ∙ end_there s s1 ((keeps_y (Var w) p types).value (with_name Γ x (Var w)) (with_value s x v) t s1 d ∙ value_off s x v y (off_turned x y off)))
+        (body_there s v t (ended s1) d)
     variable_there s t o (WithVariable.at_rest {X = X} v lt d) =
         WithVariable.at_rest v lt
-          ((part_more (renamed p (exchanging x y)) (with_name Γ y (Var w)) (types_there (Var w) p types)).more (with_name Γ y (Var w)) (with_value s y v) t (λ e. X (renamed_event (exchanging x y) e)) X (extends_there X) (body_there s v t (refusing X) d))
+        ((part_more (renamed p (exchanging x y)) (with_name Γ y (Var w)) (types_there (Var w) p types)).more (with_name Γ y (Var w)) (with_value s y v) t (λ e. X (renamed_event (exchanging x y) e)) X (extends_there X) (body_there s v t (refusing X) d))
 
   -- ---- a channel
 
   values_back : (s : Values) → with_value (with_value (under (exchanging x y) s) x (s x)) y (s y) ≡ s
-  values_back s = fun_ext (λ z. elim (eqb_tells z y)
-      [ inl k ↦ if_true (z == y) (s y) (with_value (under (exchanging x y) s) x (s x) z) k.0 ∙ ap s (sym k.1)
-      | inr k ↦ if_false (z == y) (s y) (with_value (under (exchanging x y) s) x (s x) z) k.0 ∙ elim (eqb_tells z x)
-          [ inl j ↦ if_true (z == x) (s x) (s (exchanging x y z)) j.0 ∙ ap s (sym j.1)
-          | inr j ↦ if_false (z == x) (s x) (s (exchanging x y z)) j.0 ∙ ap s (exchanged_other x y z j.0 k.0) ] ])
+  values_back s = fun_ext (λ z. elim (eqb_tells z y) [
+    | inl k ↦ if_true (z == y) (s y) (with_value (under (exchanging x y) s) x (s x) z) k.0 ∙ ap s (sym k.1)
+    | inr k ↦ if_false (z == y) (s y) (with_value (under (exchanging x y) s) x (s x) z) k.0 ∙ elim (eqb_tells z x) [
+      | inl j ↦ if_true (z == x) (s x) (s (exchanging x y z)) j.0 ∙ ap s (sym j.1)
+      | inr j ↦ if_false (z == x) (s x) (s (exchanging x y z)) j.0 ∙ ap s (exchanged_other x y z j.0 k.0)
+    ]
+  ])
 
   module _ (w : Width) (p : Tree) (types : types_kept p (with_name Γ x (Chan w None)) ≡ true) where
     ignores_y : Ignores y (meaning (renamed p (exchanging x y)))
@@ -173,16 +183,17 @@ module _ (Γ : Environment) (x y : ℕ) (off : (x == y) ≡ false) (fresh_x : Γ
         let there = subst P (other_scope (Chan w None)) ((part_carries p f (exchange_is x y)).carried (with_name Γ x (Chan w None)) s t o d) in
         let along = subst Q (unchanged_trace x y (λ c i. not (c == x) && uses_end p c i) none_on_x none_on_y t (off_x_there s t o silent d)) there in
         subst R (values_back s)
-          (ignores_y.ignored (with_name Γ y (Chan w None)) (with_value (under f s) x (s x)) (s y) t (with_result x (s x) (renamed_outcome f o))
-            ((ignores_x (Chan w None) p types).ignored (with_name Γ y (Chan w None)) (under f s) (s x) t (renamed_outcome f o) along))
+        (ignores_y.ignored (with_name Γ y (Chan w None)) (with_value (under f s) x (s x)) (s y) t (with_result x (s x) (renamed_outcome f o))
+        ((ignores_x (Chan w None) p types).ignored (with_name Γ y (Chan w None)) (under f s) (s x) t (renamed_outcome f o) along))
 
     channel_extends : (X : EventSet) → Extends (uses_end (renamed p (exchanging x y))) (λ e. off_channel x X (renamed_event (exchanging x y) e)) (off_channel y X)
     channel_extends X e h =
         let k = and_parts (not (e.chan.0 == y)) (X e) h in
         let off_y : (e.chan.0 == y) ≡ false = not-true (e.chan.0 == y) k.0 in
-        elim (eqb_tells e.chan.0 x)
-          [ inl j ↦ inr (let P : ℕ → Type 0 = λ n. uses_end (renamed p (exchanging x y)) n e.dir ≡ false in subst P (sym j.1) (no_end_x (Chan w None) p types e.dir))
-          | inr j ↦ inl (ap (off_channel x X) (unchanged_event x y e j.0 off_y) ∙ and_from (not (e.chan.0 == x)) (X e) (not_from_false (e.chan.0 == x) j.0) k.1) ]
+        elim (eqb_tells e.chan.0 x) [
+          | inl j ↦ inr (let P : ℕ → Type 0 = λ n. uses_end (renamed p (exchanging x y)) n e.dir ≡ false in subst P (sym j.1) (no_end_x (Chan w None) p types e.dir))
+          | inr j ↦ inl (ap (off_channel x X) (unchanged_event x y e j.0 off_y) ∙ and_from (not (e.chan.0 == x)) (X e) (not_from_false (e.chan.0 == x) j.0) k.1)
+        ]
 
     channel_end_there : (s s1 : Values) → s1 x ≡ s x → s1 y ≡ s y → with_value (with_value (under (exchanging x y) s1) x (s x)) y (s y) ≡ s1
     channel_end_there s s1 kx ky =
@@ -192,18 +203,19 @@ module _ (Γ : Environment) (x y : ℕ) (off : (x == y) ≡ false) (fresh_x : Γ
     channel_there s t o (WithChannel.at_end {s1 = r} silent d) =
         let P : Values → Type 0 = λ q. (meaning (renamed p (exchanging x y))).does (with_name Γ y (Chan w None)) s t (ended q) in
         WithChannel.at_end (silent_unused y (λ c i. not (c == x) && uses_end p c i) none_on_y t (off_x_there s t (ended r) silent d))
-          (subst P (channel_end_there s r (keeps_x.value (with_name Γ x (Chan w None)) s t r d) ((keeps_y (Chan w None) p types).value (with_name Γ x (Chan w None)) s t r d)) (channel_body s t (ended r) silent d))
+        (subst P (channel_end_there s r (keeps_x.value (with_name Γ x (Chan w None)) s t r d) ((keeps_y (Chan w None) p types).value (with_name Γ x (Chan w None)) s t r d)) (channel_body s t (ended r) silent d))
     channel_there s t o (WithChannel.at_rest {X = X} silent d) =
         WithChannel.at_rest (silent_unused y (λ c i. not (c == x) && uses_end p c i) none_on_y t (off_x_there s t (refusing (off_channel x X)) silent d))
-          ((part_more (renamed p (exchanging x y)) (with_name Γ y (Chan w None)) (types_there (Chan w None) p types)).more (with_name Γ y (Chan w None)) s t
-            (λ e. off_channel x X (renamed_event (exchanging x y) e)) (off_channel y X) (channel_extends X) (channel_body s t (refusing (off_channel x X)) silent d))
+        ((part_more (renamed p (exchanging x y)) (with_name Γ y (Chan w None)) (types_there (Chan w None) p types)).more (with_name Γ y (Chan w None)) s t
+        (λ e. off_channel x X (renamed_event (exchanging x y) e)) (off_channel y X) (channel_extends X) (channel_body s t (refusing (off_channel x X)) silent d))
 
 -- ---- both ways
 
 exchange_turned : (x y n : ℕ) → exchanging x y n ≡ exchanging y x n
-exchange_turned x y n = elim (eqb_tells n x)
-    [ inl k ↦ if_true (n == x) y (if n == y then x else n) k.0 ∙ from_x (n == y) refl k.0 k.1
-    | inr k ↦ if_false (n == x) y (if n == y then x else n) k.0 ∙ ap (λ z. if n == y then x else z) (sym (if_false (n == x) y n k.0)) ]
+exchange_turned x y n = elim (eqb_tells n x) [
+  | inl k ↦ if_true (n == x) y (if n == y then x else n) k.0 ∙ from_x (n == y) refl k.0 k.1
+  | inr k ↦ if_false (n == x) y (if n == y then x else n) k.0 ∙ ap (λ z. if n == y then x else z) (sym (if_false (n == x) y n k.0))
+]
   where
     from_x : (b : Bool) → (n == y) ≡ b → (n == x) ≡ true → n ≡ x → y ≡ (if n == y then x else if n == x then y else n)
     from_x true e is_x same = (sym (eqb-true n y e) ∙ same) ∙ sym (if_true (n == y) x (if n == x then y else n) e)
@@ -218,7 +230,7 @@ variable_exchanged Γ x y w p off fx fy t =
     let back_off : (y == x) ≡ false = off_turned x y off in
     let P : Tree → Type 0 = λ r. Gives Γ (meaning (declare y w q)) (meaning (declare x w r)) in
     same_by Γ (declare x w p) (declare y w q) (record { gives = variable_there Γ x y off fx fy w p t })
-      (subst P (back_again x y p) (record { gives = variable_there Γ y x back_off fy fx w q (types_there Γ x y off fx fy (Var w) p t) }))
+    (subst P (back_again x y p) (record { gives = variable_there Γ y x back_off fy fx w q (types_there Γ x y off fx fy (Var w) p t) }))
 
 pub channel_exchanged : (Γ : Environment) (x y : ℕ) (w : Width) (p : Tree) → (x == y) ≡ false → Γ x ≡ None → Γ y ≡ None → types_kept p (with_name Γ x (Chan w None)) ≡ true → SAME Γ (connect x w p) (connect y w (renamed p (exchanging x y)))
 channel_exchanged Γ x y w p off fx fy t =
@@ -226,15 +238,16 @@ channel_exchanged Γ x y w p off fx fy t =
     let back_off : (y == x) ≡ false = off_turned x y off in
     let P : Tree → Type 0 = λ r. Gives Γ (meaning (connect y w q)) (meaning (connect x w r)) in
     same_by Γ (connect x w p) (connect y w q) (record { gives = channel_there Γ x y off fx fy w p t })
-      (subst P (back_again x y p) (record { gives = channel_there Γ y x back_off fy fx w q (types_there Γ x y off fx fy (Chan w None) p t) }))
+    (subst P (back_again x y p) (record { gives = channel_there Γ y x back_off fy fx w q (types_there Γ x y off fx fy (Chan w None) p t) }))
 
 -- ---- a new name that stands nowhere
 
 pub replaced_is_exchanged : (x y : ℕ) (p : Tree) → stands p y ≡ false → renamed p (replacing x y) ≡ renamed p (exchanging x y)
-replaced_is_exchanged x y p nowhere = trees_agree p (replacing x y) (exchanging x y) (λ n h. elim (cases_Bool (n == x))
-    [ inl k ↦ if_true (n == x) y n k ∙ sym (if_true (n == x) y (if n == y then x else n) k)
-    | inr k ↦ if_false (n == x) y n k ∙ sym (if_false (n == x) y (if n == y then x else n) k ∙ if_false (n == y) x n
-        (false_from_ne_true (n == y) (λ e. (let P : ℕ → Type 0 = λ z. stands p z ≡ true in clash (stands p y) (subst P (eqb-true n y e) h) nowhere)))) ])
+replaced_is_exchanged x y p nowhere = trees_agree p (replacing x y) (exchanging x y) (λ n h. elim (cases_Bool (n == x)) [
+  | inl k ↦ if_true (n == x) y n k ∙ sym (if_true (n == x) y (if n == y then x else n) k)
+  | inr k ↦ if_false (n == x) y n k ∙ sym (if_false (n == x) y (if n == y then x else n) k ∙ if_false (n == y) x n
+      (false_from_ne_true (n == y) (λ e. (let P : ℕ → Type 0 = λ z. stands p z ≡ true in clash (stands p y) (subst P (eqb-true n y e) h) nowhere))))
+])
 
 pub variable_renamed : (Γ : Environment) (x y : ℕ) (w : Width) (p : Tree) → (x == y) ≡ false → Γ x ≡ None → Γ y ≡ None → types_kept p (with_name Γ x (Var w)) ≡ true → stands p y ≡ false → SAME Γ (declare x w p) (declare y w (renamed p (replacing x y)))
 variable_renamed Γ x y w p off fx fy t nowhere = let P : Tree → Type 0 = λ r. SAME Γ (declare x w p) (declare y w r) in subst P (sym (replaced_is_exchanged x y p nowhere)) (variable_exchanged Γ x y w p off fx fy t)

@@ -15,7 +15,6 @@ use Rattle.occ_syntax.specs.declared.scope.Kind.TheVariants.{Chan, Var}
 use Rattle.std.proofs.Common.{Bool, List, None, Some, [], ap, is_none, not, refl, sym, true, ℕ, ◌&&◌, ◌==◌, ◌||◌, ◌∙◌, ◌∷◌, ◌≡◌}
 use Rattle.std.proofs.lemmas.Bool.{or_left, or_right}
 
-
 abbrev Agree : (ℕ → ℕ) → (ℕ → ℕ) → (ℕ → Bool) → Type 0
 Agree f g has = (x : ℕ) → has x ≡ true → f x ≡ g x
 
@@ -39,7 +38,7 @@ exp_agree f g (negation e) h = ap negation (exp_agree f g e h)
 exp_agree f g (complement e) h = ap complement (exp_agree f g e h)
 exp_agree f g (operation op left right) h =
     ap (λ z. operation op z (renamed_exp f right)) (exp_agree f g left (agree_left f g (names left) (names right) h))
-      ∙ ap (λ z. operation op (renamed_exp g left) z) (exp_agree f g right (agree_right f g (names left) (names right) h))
+    ∙ ap (λ z. operation op (renamed_exp g left) z) (exp_agree f g right (agree_right f g (names left) (names right) h))
 
 names_agree : (f g : ℕ → ℕ) (xs : List ℕ) → Agree f g (is_in xs) → renamed_names f xs ≡ renamed_names g xs
 names_agree f g [] h = refl
@@ -78,25 +77,25 @@ mutual
   all_agree no_tree f g h = refl
   all_agree (and_tree p ps) f g h =
       ap (λ q. and_tree q (all_renamed ps f)) (trees_agree p f g (λ x k. h x (or_left (stands p x) (stands_in_some ps x) k)))
-        ∙ ap (λ qs. and_tree (renamed p g) qs) (all_agree ps f g (λ x k. h x (or_right (stands p x) (stands_in_some ps x) k)))
+      ∙ ap (λ qs. and_tree (renamed p g) qs) (all_agree ps f g (λ x k. h x (or_right (stands p x) (stands_in_some ps x) k)))
 
   cases_agree : (cs : Cases) (f g : ℕ → ℕ) → ((x : ℕ) → stands_in_cases cs x ≡ true → f x ≡ g x) → cases_renamed cs f ≡ cases_renamed cs g
   cases_agree no_case f g h = refl
   cases_agree (and_case e p cs) f g h =
       ap (λ z. and_case z (renamed p f) (cases_renamed cs f)) (exp_agree f g e (λ x k. h x (or_left (names e x || stands p x) (stands_in_cases cs x) (or_left (names e x) (stands p x) k))))
-        ∙ (ap (λ q. and_case (renamed_exp g e) q (cases_renamed cs f)) (trees_agree p f g (λ x k. h x (or_left (names e x || stands p x) (stands_in_cases cs x) (or_right (names e x) (stands p x) k))))
-        ∙ ap (λ r. and_case (renamed_exp g e) (renamed p g) r) (cases_agree cs f g (λ x k. h x (or_right (names e x || stands p x) (stands_in_cases cs x) k))))
+      ∙ (ap (λ q. and_case (renamed_exp g e) q (cases_renamed cs f)) (trees_agree p f g (λ x k. h x (or_left (names e x || stands p x) (stands_in_cases cs x) (or_right (names e x) (stands p x) k))))
+      ∙ ap (λ r. and_case (renamed_exp g e) (renamed p g) r) (cases_agree cs f g (λ x k. h x (or_right (names e x || stands p x) (stands_in_cases cs x) k))))
 
   branches_agree : (bs : Branches) (f g : ℕ → ℕ) → ((x : ℕ) → stands_in_branches bs x ≡ true → f x ≡ g x) → branches_renamed bs f ≡ branches_renamed bs g
   branches_agree no_branch f g h = refl
   branches_agree (and_branch e w p bs) f g h =
       ap (λ z. and_branch z (renamed_waiting f w) (renamed p f) (branches_renamed bs f))
-          (exp_agree f g e (λ x k. h x (or_left ((names e x || stands_in_waiting w x) || stands p x) (stands_in_branches bs x) (or_left (names e x || stands_in_waiting w x) (stands p x) (or_left (names e x) (stands_in_waiting w x) k)))))
-        ∙ (ap (λ z. and_branch (renamed_exp g e) z (renamed p f) (branches_renamed bs f))
-          (waiting_agree f g w (λ x k. h x (or_left ((names e x || stands_in_waiting w x) || stands p x) (stands_in_branches bs x) (or_left (names e x || stands_in_waiting w x) (stands p x) (or_right (names e x) (stands_in_waiting w x) k)))))
-        ∙ (ap (λ q. and_branch (renamed_exp g e) (renamed_waiting g w) q (branches_renamed bs f))
-          (trees_agree p f g (λ x k. h x (or_left ((names e x || stands_in_waiting w x) || stands p x) (stands_in_branches bs x) (or_right (names e x || stands_in_waiting w x) (stands p x) k))))
-        ∙ ap (λ r. and_branch (renamed_exp g e) (renamed_waiting g w) (renamed p g) r) (branches_agree bs f g (λ x k. h x (or_right ((names e x || stands_in_waiting w x) || stands p x) (stands_in_branches bs x) k)))))
+      (exp_agree f g e (λ x k. h x (or_left ((names e x || stands_in_waiting w x) || stands p x) (stands_in_branches bs x) (or_left (names e x || stands_in_waiting w x) (stands p x) (or_left (names e x) (stands_in_waiting w x) k)))))
+      ∙ (ap (λ z. and_branch (renamed_exp g e) z (renamed p f) (branches_renamed bs f))
+      (waiting_agree f g w (λ x k. h x (or_left ((names e x || stands_in_waiting w x) || stands p x) (stands_in_branches bs x) (or_left (names e x || stands_in_waiting w x) (stands p x) (or_right (names e x) (stands_in_waiting w x) k)))))
+      ∙ (ap (λ q. and_branch (renamed_exp g e) (renamed_waiting g w) q (branches_renamed bs f))
+      (trees_agree p f g (λ x k. h x (or_left ((names e x || stands_in_waiting w x) || stands p x) (stands_in_branches bs x) (or_right (names e x || stands_in_waiting w x) (stands p x) k))))
+      ∙ ap (λ r. and_branch (renamed_exp g e) (renamed_waiting g w) (renamed p g) r) (branches_agree bs f g (λ x k. h x (or_right ((names e x || stands_in_waiting w x) || stands p x) (stands_in_branches bs x) k)))))
 
 -- ---- renaming by an exchange and back
 
@@ -143,14 +142,14 @@ mutual
   cases_twice no_case f inv = refl
   cases_twice (and_case e p cs) f inv =
       ap (λ z. and_case z (renamed (renamed p f) f) (cases_renamed (cases_renamed cs f) f)) (exp_twice f inv e)
-        ∙ (ap (λ q. and_case e q (cases_renamed (cases_renamed cs f) f)) (tree_twice p f inv) ∙ ap (λ r. and_case e p r) (cases_twice cs f inv))
+      ∙ (ap (λ q. and_case e q (cases_renamed (cases_renamed cs f) f)) (tree_twice p f inv) ∙ ap (λ r. and_case e p r) (cases_twice cs f inv))
 
   branches_twice : (bs : Branches) (f : ℕ → ℕ) → IsExchange f → branches_renamed (branches_renamed bs f) f ≡ bs
   branches_twice no_branch f inv = refl
   branches_twice (and_branch e w p bs) f inv =
       ap (λ z. and_branch z (renamed_waiting f (renamed_waiting f w)) (renamed (renamed p f) f) (branches_renamed (branches_renamed bs f) f)) (exp_twice f inv e)
-        ∙ (ap (λ z. and_branch e z (renamed (renamed p f) f) (branches_renamed (branches_renamed bs f) f)) (waiting_twice f inv w)
-        ∙ (ap (λ q. and_branch e w q (branches_renamed (branches_renamed bs f) f)) (tree_twice p f inv) ∙ ap (λ r. and_branch e w p r) (branches_twice bs f inv)))
+      ∙ (ap (λ z. and_branch e z (renamed (renamed p f) f) (branches_renamed (branches_renamed bs f) f)) (waiting_twice f inv w)
+      ∙ (ap (λ q. and_branch e w q (branches_renamed (branches_renamed bs f) f)) (tree_twice p f inv) ∙ ap (λ r. and_branch e w p r) (branches_twice bs f inv)))
 
 -- ---- renaming that changes no name
 
@@ -200,14 +199,14 @@ mutual
   cases_itself no_case f inv = refl
   cases_itself (and_case e p cs) f inv =
       ap (λ z. and_case z (renamed p f) (cases_renamed cs f)) (exp_itself f inv e)
-        ∙ (ap (λ q. and_case e q (cases_renamed cs f)) (tree_itself p f inv) ∙ ap (λ r. and_case e p r) (cases_itself cs f inv))
+      ∙ (ap (λ q. and_case e q (cases_renamed cs f)) (tree_itself p f inv) ∙ ap (λ r. and_case e p r) (cases_itself cs f inv))
 
   branches_itself : (bs : Branches) (f : ℕ → ℕ) → ChangesNone f → branches_renamed bs f ≡ bs
   branches_itself no_branch f inv = refl
   branches_itself (and_branch e w p bs) f inv =
       ap (λ z. and_branch z (renamed_waiting f w) (renamed p f) (branches_renamed bs f)) (exp_itself f inv e)
-        ∙ (ap (λ z. and_branch e z (renamed p f) (branches_renamed bs f)) (waiting_itself f inv w)
-        ∙ (ap (λ q. and_branch e w q (branches_renamed bs f)) (tree_itself p f inv) ∙ ap (λ r. and_branch e w p r) (branches_itself bs f inv)))
+      ∙ (ap (λ z. and_branch e z (renamed p f) (branches_renamed bs f)) (waiting_itself f inv w)
+      ∙ (ap (λ q. and_branch e w q (branches_renamed bs f)) (tree_itself p f inv) ∙ ap (λ r. and_branch e w p r) (branches_itself bs f inv)))
 
 -- ---- types
 
@@ -243,10 +242,10 @@ pairs_under f inv Γ (x ∷ xs) (e ∷ es) =
     let a = agree (variable_kind (Γ (f (f x)))) (type_of (under f Γ) (renamed_exp f e)) in
     let b = not (is_in (renamed_names f xs) (f x)) in
     and_same (a && b) (pairs_kept (under f Γ) (renamed_names f xs) (renamed_exps f es)) (agree (variable_width Γ x) (type_of Γ e) && not (is_in xs x)) (pairs_kept Γ xs es)
-      (and_same a b (agree (variable_width Γ x) (type_of Γ e)) (not (is_in xs x))
-        (ap (λ n. agree (variable_kind (Γ n)) (type_of (under f Γ) (renamed_exp f e))) (inv x) ∙ ap (λ o. agree (variable_width Γ x) o) (type_under f inv Γ e))
-        (ap not (is_in_under f inv xs x)))
-      (pairs_under f inv Γ xs es)
+    (and_same a b (agree (variable_width Γ x) (type_of Γ e)) (not (is_in xs x))
+    (ap (λ n. agree (variable_kind (Γ n)) (type_of (under f Γ) (renamed_exp f e))) (inv x) ∙ ap (λ o. agree (variable_width Γ x) o) (type_under f inv Γ e))
+    (ap not (is_in_under f inv xs x)))
+    (pairs_under f inv Γ xs es)
 
 pair_under : (f : ℕ → ℕ) (xs : List ℕ) → is_pair (renamed_names f xs) ≡ is_pair xs
 pair_under f [] = refl
@@ -256,7 +255,7 @@ declare_under : (f : ℕ → ℕ) → IsExchange f → (Γ : Environment) (x : �
     → (can_declare (under f Γ) (f x) w && types_kept (renamed p f) (with_name (under f Γ) (f x) kind)) ≡ (can_declare Γ x w && types_kept p (with_name Γ x kind))
 declare_under f inv Γ x w kind p ih =
     and_same (can_declare (under f Γ) (f x) w) (types_kept (renamed p f) (with_name (under f Γ) (f x) kind)) (can_declare Γ x w) (types_kept p (with_name Γ x kind))
-      (ap (λ n. is_none (Γ n) && is_width w) (inv x)) (ap (types_kept (renamed p f)) (sym (name_under f inv Γ x kind)) ∙ ih)
+    (ap (λ n. is_none (Γ n) && is_width w) (inv x)) (ap (types_kept (renamed p f)) (sym (name_under f inv Γ x kind)) ∙ ih)
 
 mutual
   pub types_under : (p : Tree) (f : ℕ → ℕ) → IsExchange f → (Γ : Environment) → types_kept (renamed p f) (under f Γ) ≡ types_kept p Γ
@@ -280,15 +279,15 @@ mutual
   case_types_under no_case f inv Γ = refl
   case_types_under (and_case e p cs) f inv Γ =
       and_same (is_condition (under f Γ) (renamed_exp f e) && types_kept (renamed p f) (under f Γ)) (cases_kept (cases_renamed cs f) (under f Γ)) (is_condition Γ e && types_kept p Γ) (cases_kept cs Γ)
-        (and_same (is_condition (under f Γ) (renamed_exp f e)) (types_kept (renamed p f) (under f Γ)) (is_condition Γ e) (types_kept p Γ) (condition_under f inv Γ e) (types_under p f inv Γ))
-        (case_types_under cs f inv Γ)
+      (and_same (is_condition (under f Γ) (renamed_exp f e)) (types_kept (renamed p f) (under f Γ)) (is_condition Γ e) (types_kept p Γ) (condition_under f inv Γ e) (types_under p f inv Γ))
+      (case_types_under cs f inv Γ)
 
   branch_types_under : (bs : Branches) (f : ℕ → ℕ) → IsExchange f → (Γ : Environment) → branches_kept (branches_renamed bs f) (under f Γ) ≡ branches_kept bs Γ
   branch_types_under no_branch f inv Γ = refl
   branch_types_under (and_branch e w p bs) f inv Γ =
       and_same ((is_condition (under f Γ) (renamed_exp f e) && waiting_kept (under f Γ) (renamed_waiting f w)) && types_kept (renamed p f) (under f Γ)) (branches_kept (branches_renamed bs f) (under f Γ))
-          ((is_condition Γ e && waiting_kept Γ w) && types_kept p Γ) (branches_kept bs Γ)
-        (and_same (is_condition (under f Γ) (renamed_exp f e) && waiting_kept (under f Γ) (renamed_waiting f w)) (types_kept (renamed p f) (under f Γ)) (is_condition Γ e && waiting_kept Γ w) (types_kept p Γ)
-          (and_same (is_condition (under f Γ) (renamed_exp f e)) (waiting_kept (under f Γ) (renamed_waiting f w)) (is_condition Γ e) (waiting_kept Γ w) (condition_under f inv Γ e) (waiting_under f inv Γ w))
-          (types_under p f inv Γ))
-        (branch_types_under bs f inv Γ)
+      ((is_condition Γ e && waiting_kept Γ w) && types_kept p Γ) (branches_kept bs Γ)
+      (and_same (is_condition (under f Γ) (renamed_exp f e) && waiting_kept (under f Γ) (renamed_waiting f w)) (types_kept (renamed p f) (under f Γ)) (is_condition Γ e && waiting_kept Γ w) (types_kept p Γ)
+      (and_same (is_condition (under f Γ) (renamed_exp f e)) (waiting_kept (under f Γ) (renamed_waiting f w)) (is_condition Γ e) (waiting_kept Γ w) (condition_under f inv Γ e) (waiting_under f inv Γ w))
+      (types_under p f inv Γ))
+      (branch_types_under bs f inv Γ)

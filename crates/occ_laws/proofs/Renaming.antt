@@ -6,7 +6,7 @@ use Rattle.occ_base.specs.declared.width.Width.{Width}
 use Rattle.occ_laws.proofs.Facts.{at_itself, both, if_false, if_true}
 use Rattle.occ_laws.specs.Rename.{all_renamed, branches_renamed, cases_renamed, exchanging, renamed, renamed_event, renamed_exp, renamed_exps, renamed_names, renamed_outcome, renamed_trace, renamed_waiting, under}
 use Rattle.occ_syntax.specs.Eval.{applied, bits_in, bits_of_exp, eval, is_true, keeps_width}
-use Rattle.occ_syntax.specs.Meaning.{After, Alternates, Combines, Followed, Guards, IsQuiet, Meaning, Outcome, Stopped, Taken, Together, Weave, WithChannel, WithVariable, alternatives, and_guard, assigned, at_end, at_event, at_once, at_ready, at_rest, at_the_same_time, beside_all, both_done, both_ended, chosen, ended, first_choice, first_ended, followed, guards, in_first, in_second, in_turn, is_silent, meaning, neither_ended, never, no_guard, of_first, of_second, off_channel, refusing, second_ended, stable, stopped, taken, together, unseen}
+use Rattle.occ_syntax.specs.Meaning.{After, Alternates, Combines, Followed, Guards, IsQuiet, Meaning, Outcome, Stopped, Taken, Together, Weave, WithChannel, WithVariable, alternatives, and_guard, assigned, at_event, at_once, at_ready, at_the_same_time, beside_all, both_done, both_ended, chosen, ended, first_choice, first_ended, followed, guards, in_first, in_second, in_turn, is_silent, meaning, neither_ended, never, no_guard, of_first, of_second, off_channel, refusing, second_ended, stable, stopped, taken, together, unseen}
 use Rattle.occ_syntax.specs.Scopes.{Environment, EventSet, Trace, Values, channel_kind, has_width, variable_kind, with_name, with_value}
 use Rattle.occ_syntax.specs.Tree.{Branches, Cases, Exp, Tree, Trees, Waiting, alt, and_branch, and_case, and_tree, assign, complement, connect, declare, input, negation, no_branch, no_case, no_tree, numeral, operation, output, par, ready, receive, select, send, seq, skip, stop, truth, variable}
 use Rattle.occ_syntax.specs.Types.{if_truth_value, if_word, type_of, type_of_two}
@@ -17,14 +17,14 @@ use Rattle.std.proofs.lemmas.Bool.{eq-eqb, eqb-true, ne_eqb}
 use Rattle.std.proofs.lemmas.Bool.Decides.{eqb_tells}
 use mathlib.Core.Path.{fun_ext}
 
-
 abbrev pub IsExchange : (ℕ → ℕ) → Type 0
 IsExchange f = (n : ℕ) → f (f n) ≡ n
 
 pub flip : (f : ℕ → ℕ) → IsExchange f → (a b : ℕ) → (a == f b) ≡ (f a == b)
-flip f inv a b = elim (eqb_tells a (f b))
-    [ inl k ↦ k.0 ∙ sym (eq-eqb (f a) b (ap f k.1 ∙ inv b))
-    | inr k ↦ k.0 ∙ sym (ne_eqb (f a) b (λ e. k.1 (sym (inv a) ∙ ap f e))) ]
+flip f inv a b = elim (eqb_tells a (f b)) [
+  | inl k ↦ k.0 ∙ sym (eq-eqb (f a) b (ap f k.1 ∙ inv b))
+  | inr k ↦ k.0 ∙ sym (ne_eqb (f a) b (λ e. k.1 (sym (inv a) ∙ ap f e)))
+]
 
 pub one_for_one : (f : ℕ → ℕ) → IsExchange f → (a b : ℕ) → (f a == f b) ≡ (a == b)
 one_for_one f inv a b = flip f inv (f a) b ∙ ap (λ n. n == b) (inv a)
@@ -36,11 +36,13 @@ pub name_under : (f : ℕ → ℕ) → IsExchange f → (Γ : Environment) (x : 
 name_under f inv Γ x kind = fun_ext (λ y. ap (λ b. if b then Some kind else Γ (f y)) (sym (flip f inv y x)))
 
 pub exchange_is : (a b : ℕ) → IsExchange (exchanging a b)
-exchange_is a b n = elim (eqb_tells n a)
-    [ inl k ↦ ap (exchanging a b) (if_true (n == a) b (if n == b then a else n) k.0) ∙ (to_second (b == a) refl ∙ sym k.1)
-    | inr k ↦ elim (eqb_tells n b)
-        [ inl j ↦ ap (exchanging a b) (if_false (n == a) b (if n == b then a else n) k.0 ∙ if_true (n == b) a n j.0) ∙ (if_true (a == a) b (if a == b then a else a) (at_itself a) ∙ sym j.1)
-        | inr j ↦ ap (exchanging a b) (if_false (n == a) b (if n == b then a else n) k.0 ∙ if_false (n == b) a n j.0) ∙ (if_false (n == a) b (if n == b then a else n) k.0 ∙ if_false (n == b) a n j.0) ] ]
+exchange_is a b n = elim (eqb_tells n a) [
+  | inl k ↦ ap (exchanging a b) (if_true (n == a) b (if n == b then a else n) k.0) ∙ (to_second (b == a) refl ∙ sym k.1)
+  | inr k ↦ elim (eqb_tells n b) [
+    | inl j ↦ ap (exchanging a b) (if_false (n == a) b (if n == b then a else n) k.0 ∙ if_true (n == b) a n j.0) ∙ (if_true (a == a) b (if a == b then a else a) (at_itself a) ∙ sym j.1)
+    | inr j ↦ ap (exchanging a b) (if_false (n == a) b (if n == b then a else n) k.0 ∙ if_false (n == b) a n j.0) ∙ (if_false (n == a) b (if n == b then a else n) k.0 ∙ if_false (n == b) a n j.0)
+  ]
+]
   where
     to_second : (t : Bool) → (b == a) ≡ t → exchanging a b b ≡ a
     to_second true e = if_true (b == a) b (if b == b then a else b) e ∙ eqb-true b a e
@@ -65,8 +67,8 @@ eval_under f inv Γ s (complement e) =
     ap (λ n. 2 ^ n - 1 - eval (under f Γ) (renamed_exp f e) (under f s)) (bits_under f inv Γ e) ∙ ap (λ n. 2 ^ bits_of_exp Γ e - 1 - n) (eval_under f inv Γ s e)
 eval_under f inv Γ s (operation op left right) =
     ap (λ n. applied op n (eval (under f Γ) (renamed_exp f left) (under f s)) (eval (under f Γ) (renamed_exp f right) (under f s))) (bits_under f inv Γ left)
-      ∙ (ap (λ n. applied op (bits_of_exp Γ left) n (eval (under f Γ) (renamed_exp f right) (under f s))) (eval_under f inv Γ s left)
-      ∙ ap (λ n. applied op (bits_of_exp Γ left) (eval Γ left s) n) (eval_under f inv Γ s right))
+    ∙ (ap (λ n. applied op (bits_of_exp Γ left) n (eval (under f Γ) (renamed_exp f right) (under f s))) (eval_under f inv Γ s left)
+    ∙ ap (λ n. applied op (bits_of_exp Γ left) (eval Γ left s) n) (eval_under f inv Γ s right))
 
 pub type_under : (f : ℕ → ℕ) → IsExchange f → (Γ : Environment) (e : Exp) → type_of (under f Γ) (renamed_exp f e) ≡ type_of Γ e
 type_under f inv Γ (variable x) = ap (λ n. variable_kind (Γ n)) (inv x)
@@ -85,8 +87,8 @@ assigned_under f inv Γ s [] es = refl
 assigned_under f inv Γ s (x ∷ xs) [] = refl
 assigned_under f inv Γ s (x ∷ xs) (e ∷ es) =
     value_under f inv (assigned xs es Γ s) x (eval Γ e s)
-      ∙ (ap (λ r. with_value r (f x) (eval Γ e s)) (assigned_under f inv Γ s xs es)
-      ∙ ap (λ n. with_value (assigned (renamed_names f xs) (renamed_exps f es) (under f Γ) (under f s)) (f x) n) (sym (eval_under f inv Γ s e)))
+    ∙ (ap (λ r. with_value r (f x) (eval Γ e s)) (assigned_under f inv Γ s xs es)
+    ∙ ap (λ n. with_value (assigned (renamed_names f xs) (renamed_exps f es) (under f Γ) (under f s)) (f x) n) (sym (eval_under f inv Γ s e)))
 
 -- ---- one operator at a time
 
@@ -122,9 +124,11 @@ followed_carries : (f : ℕ → ℕ) (m m' n n' : Meaning) → Carries f m m' �
 followed_carries f m m' n n' hm hn = record { carried = followed_carried f m m' n n' hm hn }
 
 chosen_carries : (f : ℕ → ℕ) → IsExchange f → (e : Exp) (m m' n n' : Meaning) → Carries f m m' → Carries f n n' → Carries f (chosen e m n) (chosen (renamed_exp f e) m' n')
-chosen_carries f inv e m m' n n' hm hn = record { carried = λ Γ s t o d.
-    let P : Bool → Type 0 = λ b. MatchBool b (m'.does (under f Γ) (under f s) (renamed_trace f t) (renamed_outcome f o)) (n'.does (under f Γ) (under f s) (renamed_trace f t) (renamed_outcome f o)) in
-    subst P (sym (truth_under f inv Γ s e)) (both (is_true Γ e s) (λ h. hm.carried Γ s t o h) (λ h. hn.carried Γ s t o h) d) }
+chosen_carries f inv e m m' n n' hm hn = record {
+  carried = λ Γ s t o d.
+      let P : Bool → Type 0 = λ b. MatchBool b (m'.does (under f Γ) (under f s) (renamed_trace f t) (renamed_outcome f o)) (n'.does (under f Γ) (under f s) (renamed_trace f t) (renamed_outcome f o)) in
+      subst P (sym (truth_under f inv Γ s e)) (both (is_true Γ e s) (λ h. hm.carried Γ s t o h) (λ h. hn.carried Γ s t o h) d);
+}
 
 pub after_under : (f : ℕ → ℕ) → IsExchange f → (Γ : Environment) (s : Values) (w : Waiting) (e : Event) (u : Values) → After Γ s w e u → After (under f Γ) (under f s) (renamed_waiting f w) (renamed_event f e) (under f u)
 after_under f inv Γ s ready e u a = a
@@ -139,9 +143,14 @@ after_back f inv Γ s ready e u a = absurd a
 after_back f inv Γ s (input c x) e u a =
     let P : ℕ → Type 0 = λ n. has_width (channel_kind (Γ n)) a.0 ≡ true in
     (with_value s x a.0, (a.0, subst P (inv c) a.1, ap (renamed_event f) a.2 ∙ ap (λ n. record { chan = record { 0 = n }; dir = Input; value = a.0 }) (inv c), refl))
-after_back f inv Γ s (output c z) e u a =
-    (s, (ap (renamed_event f) a.0 ∙ (ap (λ n. record { chan = record { 0 = n }; dir = Output; value = eval (under f Γ) (renamed_exp f z) (under f s) }) (inv c)
-      ∙ ap (λ v. record { chan = record { 0 = c }; dir = Output; value = v }) (eval_under f inv Γ s z)), refl))
+after_back f inv Γ s (output c z) e u a = (
+  s,
+  (
+    ap (renamed_event f) a.0 ∙ (ap (λ n. record { chan = record { 0 = n }; dir = Output; value = eval (under f Γ) (renamed_exp f z) (under f s) }) (inv c)
+        ∙ ap (λ v. record { chan = record { 0 = c }; dir = Output; value = v }) (eval_under f inv Γ s z)),
+    refl,
+  ),
+)
 
 taken_under : (f : ℕ → ℕ) → IsExchange f → (Γ : Environment) (s : Values) (w : Waiting) (t : Trace) (u : Values) (a : Trace) → Taken Γ s w t u a → Taken (under f Γ) (under f s) (renamed_waiting f w) (renamed_trace f t) (under f u) (renamed_trace f a)
 taken_under f inv Γ s w t u a at_ready = at_ready
@@ -157,14 +166,16 @@ no_guard_carries f = record { first = λ Γ s X d. d; later = λ Γ s t o d. d }
 
 and_guard_carries : (f : ℕ → ℕ) → IsExchange f → (b : Exp) (w : Waiting) (m m' : Meaning) (g h : Guards) → Carries f m m' → CarriesGuards f g h → CarriesGuards f (and_guard b w m g) (and_guard (renamed_exp f b) (renamed_waiting f w) m' h)
 and_guard_carries f inv b w m m' g h hm hg = record {
-  first = λ Γ s X d.
-    (let P : Bool → Type 0 = λ c. MatchBool c (IsQuiet (under f Γ) (under f s) (renamed_waiting f w) (λ e. X (renamed_event f e))) (Unit {0}) in
-      subst P (sym (truth_under f inv Γ s b))
+  first = λ Γ s X d. (
+    let P : Bool → Type 0 = λ c. MatchBool c (IsQuiet (under f Γ) (under f s) (renamed_waiting f w) (λ e. X (renamed_event f e))) (Unit {0}) in
+        subst P (sym (truth_under f inv Γ s b))
         (both (is_true Γ b s) (λ q. record { not_ready = λ e. q.not_ready (ready_back f w e); refused = λ e u a. let r = after_back f inv Γ s w e u a in q.refused (renamed_event f e) r.0 r.1 }) (λ q. q) d.0),
-     hg.first Γ s X d.1);
-  later = λ Γ s t o d. elim d
-    [ inl k ↦ inl (truth_under f inv Γ s b ∙ k.0, (under f k.1.0, renamed_trace f k.1.1, taken_under f inv Γ s w t k.1.0 k.1.1 k.1.2, hm.carried Γ k.1.0 k.1.1 o k.1.3))
-    | inr k ↦ inr (hg.later Γ s t o k) ];
+    hg.first Γ s X d.1,
+  );
+  later = λ Γ s t o d. elim d [
+    | inl k ↦ inl (truth_under f inv Γ s b ∙ k.0, (under f k.1.0, renamed_trace f k.1.1, taken_under f inv Γ s w t k.1.0 k.1.1 k.1.2, hm.carried Γ k.1.0 k.1.1 o k.1.3))
+    | inr k ↦ inr (hg.later Γ s t o k)
+  ];
 }
 
 alternates_carried : (f : ℕ → ℕ) (g h : Guards) → CarriesGuards f g h → (Γ : Environment) (s : Values) (t : Trace) (o : Outcome) → Alternates g Γ s t o → Alternates h (under f Γ) (under f s) (renamed_trace f t) (renamed_outcome f o)
@@ -199,7 +210,7 @@ variable_carried f inv x w m n h Γ s t o (WithVariable.at_end v s1 lt e d) =
     let P : Environment → Type 0 = λ Ψ. n.does Ψ (under f (with_value s x v)) (renamed_trace f t) (ended (under f s1)) in
     let Q : Values → Type 0 = λ r. n.does (with_name (under f Γ) (f x) (Var w)) r (renamed_trace f t) (ended (under f s1)) in
     WithVariable.at_end v (under f s1) lt (ap (λ r. under f r) e ∙ (value_under f inv s1 x (s x) ∙ ap (λ k. with_value (under f s1) (f x) k) (ap s (sym (inv x)))))
-      (subst Q (value_under f inv s x v) (subst P (name_under f inv Γ x (Var w)) (h.carried (with_name Γ x (Var w)) (with_value s x v) t (ended s1) d)))
+    (subst Q (value_under f inv s x v) (subst P (name_under f inv Γ x (Var w)) (h.carried (with_name Γ x (Var w)) (with_value s x v) t (ended s1) d)))
 variable_carried f inv x w m n h Γ s t o (WithVariable.at_rest {X = X} v lt d) =
     let P : Environment → Type 0 = λ Ψ. n.does Ψ (under f (with_value s x v)) (renamed_trace f t) (refusing (λ e. X (renamed_event f e))) in
     let Q : Values → Type 0 = λ r. n.does (with_name (under f Γ) (f x) (Var w)) r (renamed_trace f t) (refusing (λ e. X (renamed_event f e))) in
@@ -220,12 +231,12 @@ channel_carried f inv c w m n h Γ s t o (WithChannel.at_rest {X = X} silent d) 
     let P : Environment → Type 0 = λ Ψ. n.does Ψ (under f s) (renamed_trace f t) (refusing (λ e. off_channel c X (renamed_event f e))) in
     let Q : EventSet → Type 0 = λ Y. n.does (with_name (under f Γ) (f c) (Chan w None)) (under f s) (renamed_trace f t) (refusing Y) in
     WithChannel.at_rest (silent_under f inv c t ∙ silent)
-      (subst Q (off_under f inv c X) (subst P (name_under f inv Γ c (Chan w None)) (h.carried (with_name Γ c (Chan w None)) s t (refusing (off_channel c X)) d)))
+    (subst Q (off_under f inv c X) (subst P (name_under f inv Γ c (Chan w None)) (h.carried (with_name Γ c (Chan w None)) s t (refusing (off_channel c X)) d)))
 
 alone_carries : (f : ℕ → ℕ) → IsExchange f → (w : Waiting) → Carries f (alternatives (and_guard (truth true) w (at_once (λ Γ s. s)) no_guard)) (alternatives (and_guard (truth true) (renamed_waiting f w) (at_once (λ Γ s. s)) no_guard))
 alone_carries f inv w =
     alternatives_carry f (and_guard (truth true) w (at_once (λ Γ s. s)) no_guard) (and_guard (truth true) (renamed_waiting f w) (at_once (λ Γ s. s)) no_guard)
-      (and_guard_carries f inv (truth true) w (at_once (λ Γ s. s)) (at_once (λ Γ s. s)) no_guard no_guard (skip_carries f) (no_guard_carries f))
+    (and_guard_carries f inv (truth true) w (at_once (λ Γ s. s)) (at_once (λ Γ s. s)) no_guard no_guard (skip_carries f) (no_guard_carries f))
 
 -- ---- the whole language
 

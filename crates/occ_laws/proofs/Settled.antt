@@ -9,7 +9,7 @@ use Rattle.occ_base.specs.declared.event.Event.{Event}
 use Rattle.occ_base.specs.declared.width.Width.{Width}
 use Rattle.occ_laws.proofs.Facts.{clash, event_itself, false_not_true, if_false, if_true, same_events, true_not_false}
 use Rattle.occ_syntax.specs.Eval.{eval, is_true}
-use Rattle.occ_syntax.specs.Meaning.{After, Alternates, Followed, Guards, Meaning, Outcome, Stopped, Taken, Together, Weave, WithChannel, WithVariable, alternatives, and_guard, answered, assigned, at_end, at_event, at_once, at_ready, at_rest, at_the_same_time, beside, beside_all, both_done, both_ended, chosen, ended, first_choice, first_ended, followed, guards, in_first, in_second, in_turn, is_silent, join, meaning, neither_ended, never, no_guard, of_first, of_second, off_channel, over_channel, over_variable, refused_with, refusing, second_ended, stable, stopped, taken, together, unseen}
+use Rattle.occ_syntax.specs.Meaning.{After, Alternates, Followed, Guards, Meaning, Outcome, Stopped, Taken, Together, Weave, WithChannel, WithVariable, alternatives, and_guard, answered, assigned, at_event, at_once, at_ready, at_the_same_time, beside, beside_all, both_done, both_ended, chosen, ended, first_choice, first_ended, followed, guards, in_first, in_second, in_turn, is_silent, join, meaning, neither_ended, never, no_guard, of_first, of_second, off_channel, over_channel, over_variable, refused_with, refusing, second_ended, stable, stopped, taken, together, unseen}
 use Rattle.occ_syntax.specs.Same.{HasTrace}
 use Rattle.occ_syntax.specs.Scopes.{Environment, EventSet, Trace, Values, among, channel_width, has_width, in_scope, same_event, with_name, with_value}
 use Rattle.occ_syntax.specs.Tree.{Branches, Cases, Exp, Tree, Trees, Waiting, alt, and_branch, and_case, and_tree, assign, connect, declare, input, no_branch, no_case, no_tree, output, par, ready, receive, select, send, seq, skip, stop, truth}
@@ -55,11 +55,13 @@ among_cases f us e h = elim (cases_Bool (same_event e f))
 -- the first of those events whose counterpart is one of these, if there is one
 meeting : (us bs : List Event) → ((e : Event) × (among us e ≡ true) × (among bs (counterpart e) ≡ true)) ⊎ ((e : Event) → among us e ≡ true → among bs (counterpart e) ≡ false)
 meeting [] bs = inr (λ e h. false_not_true h)
-meeting (f ∷ us) bs = elim (cases_Bool (among bs (counterpart f)))
-    [ inl yes_f ↦ inl (f, among_head f us, yes_f)
-    | inr no_f ↦ elim (meeting us bs)
-        [ inl k ↦ inl (k.0, among_tail f us k.0 k.1, k.2)
-        | inr k ↦ inr (λ e h. let P : Event → Type 0 = λ g. among bs (counterpart g) ≡ false in elim (among_cases f us e h) [ inl same ↦ subst P (sym same) no_f | inr rest ↦ k e rest ]) ] ]
+meeting (f ∷ us) bs = elim (cases_Bool (among bs (counterpart f))) [
+  | inl yes_f ↦ inl (f, among_head f us, yes_f)
+  | inr no_f ↦ elim (meeting us bs) [
+    | inl k ↦ inl (k.0, among_tail f us k.0 k.1, k.2)
+    | inr k ↦ inr (λ e h. let P : Event → Type 0 = λ g. among bs (counterpart g) ≡ false in elim (among_cases f us e h) [ inl same ↦ subst P (sym same) no_f | inr rest ↦ k e rest ])
+  ]
+]
 
 -- ---- settled behaviours of one operator in another
 
@@ -91,7 +93,7 @@ cut_twice (e ∷ t1) t2 (f ∷ a) b h =
     let heads : e ≡ f = cc in
     let tails : t1 ++ t2 ≡ a ++ b = cc in
     elim (cut_twice t1 t2 a b tails)
-      [ inl k ↦ inl (k.0, (let r = k.1 in cons_both e f t1 (a ++ k.0) heads r)) | inr k ↦ inr (k.0, cons_both f e a (t1 ++ k.0) (sym heads) k.1, k.2) ]
+    [ inl k ↦ inl (k.0, (let r = k.1 in cons_both e f t1 (a ++ k.0) heads r)) | inr k ↦ inr (k.0, cons_both f e a (t1 ++ k.0) (sym heads) k.1, k.2) ]
   where
     cons_both : (x y : Event) (u v : Trace) → x ≡ y → u ≡ v → x ∷ u ≡ y ∷ v
     cons_both x y u v hx hu = cc
@@ -120,15 +122,16 @@ never_settles = record { starts = never_starts; fronts = never_fronts }
 followed_settled : (m n : Meaning) → Settles n → (Γ : Environment) (s : Values) (t : Trace) → Settled (m.does Γ s) t → Settled ((followed m n).does Γ s) t
 followed_settled m n hn Γ s t (at_last s1 d) =
     settled_at ((followed m n).does Γ s) (t ++ []) t (append-nil t)
-      (settled_behind (n.does Γ s1) ((followed m n).does Γ s) t (λ t2 o d2. in_second t t2 s1 refl d d2) [] (hn.starts Γ s1))
+    (settled_behind (n.does Γ s1) ((followed m n).does Γ s) t (λ t2 o d2. in_second t t2 s1 refl d d2) [] (hn.starts Γ s1))
 followed_settled m n hn Γ s t (waits us d k) = waits us (λ X av. in_first (d X av)) (λ e h. followed_settled m n hn Γ s (t ++ e ∷ []) (k e h))
 
 followed_fronts : (m n : Meaning) → Settles m → Settles n → (Γ : Environment) (s : Values) (t : Trace) (o : Outcome) → Followed m n Γ s t o → (a b : Trace) → t ≡ a ++ b → Settled ((followed m n).does Γ s) a
 followed_fronts m n hm hn Γ s t o (in_first {X = X} d) a b e = followed_settled m n hn Γ s a (hm.fronts Γ s t (refusing X) d a b e)
-followed_fronts m n hm hn Γ s t o (in_second t1 t2 s1 i d1 d2) a b e = elim (cut_twice t1 t2 a b (sym i ∙ e))
-    [ inl k ↦ followed_settled m n hn Γ s a (hm.fronts Γ s t1 (ended s1) d1 a k.0 k.1)
-    | inr k ↦ settled_at ((followed m n).does Γ s) (t1 ++ k.0) a (sym k.1)
-        (settled_behind (n.does Γ s1) ((followed m n).does Γ s) t1 (λ r u d. in_second t1 r s1 refl d1 d) k.0 (hn.fronts Γ s1 t2 o d2 k.0 b k.2)) ]
+followed_fronts m n hm hn Γ s t o (in_second t1 t2 s1 i d1 d2) a b e = elim (cut_twice t1 t2 a b (sym i ∙ e)) [
+  | inl k ↦ followed_settled m n hn Γ s a (hm.fronts Γ s t1 (ended s1) d1 a k.0 k.1)
+  | inr k ↦ settled_at ((followed m n).does Γ s) (t1 ++ k.0) a (sym k.1)
+      (settled_behind (n.does Γ s1) ((followed m n).does Γ s) t1 (λ r u d. in_second t1 r s1 refl d1 d) k.0 (hn.fronts Γ s1 t2 o d2 k.0 b k.2))
+]
 
 pub followed_settles : (m n : Meaning) → Settles m → Settles n → Settles (followed m n)
 followed_settles m n hm hn = record { starts = λ Γ s. followed_settled m n hn Γ s [] (hm.starts Γ s); fronts = followed_fronts m n hm hn }
@@ -158,9 +161,10 @@ chosen_right e m n Γ s h t k = settled_all (n.does Γ s) ((chosen e m n).does �
 pub chosen_settles : (e : Exp) (m n : Meaning) → Settles m → Settles n → Settles (chosen e m n)
 chosen_settles e m n hm hn = record {
   starts = λ Γ s. elim (cases_Bool (is_true Γ e s)) [ inl h ↦ chosen_left e m n Γ s h [] (hm.starts Γ s) | inr h ↦ chosen_right e m n Γ s h [] (hn.starts Γ s) ];
-  fronts = λ Γ s t o d a b i. elim (cases_Bool (is_true Γ e s))
-    [ inl h ↦ chosen_left e m n Γ s h a (hm.fronts Γ s t o (first_of (is_true Γ e s) _ _ h d) a b i)
-    | inr h ↦ chosen_right e m n Γ s h a (hn.fronts Γ s t o (second_of (is_true Γ e s) _ _ h d) a b i) ];
+  fronts = λ Γ s t o d a b i. elim (cases_Bool (is_true Γ e s)) [
+    | inl h ↦ chosen_left e m n Γ s h a (hm.fronts Γ s t o (first_of (is_true Γ e s) _ _ h d) a b i)
+    | inr h ↦ chosen_right e m n Γ s h a (hn.fronts Γ s t o (second_of (is_true Γ e s) _ _ h d) a b i)
+  ];
 }
 
 -- ---- guards
@@ -184,9 +188,10 @@ input_there c v zero lt = absurd (omega arith)
 input_there c v (suc n) lt =
     let f : Event = record { chan = record { 0 = c }; dir = Input; value = n } in
     let g : Event = record { chan = record { 0 = c }; dir = Input; value = v } in
-    elim (eqb_tells v n)
-      [ inl k ↦ (let P : ℕ → Type 0 = λ u. among (f ∷ inputs_below c n) (record { chan = record { 0 = c }; dir = Input; value = u }) ≡ true in subst P (sym k.1) (among_head f (inputs_below c n)))
-      | inr k ↦ among_tail f (inputs_below c n) g (input_there c v n (let ne : v ≢ n = k.1 in omega arith)) ]
+    elim (eqb_tells v n) [
+      | inl k ↦ (let P : ℕ → Type 0 = λ u. among (f ∷ inputs_below c n) (record { chan = record { 0 = c }; dir = Input; value = u }) ≡ true in subst P (sym k.1) (among_head f (inputs_below c n)))
+      | inr k ↦ among_tail f (inputs_below c n) g (input_there c v n (let ne : v ≢ n = k.1 in omega arith))
+    ]
 
 input_below : (c n : ℕ) (e : Event) → among (inputs_below c n) e ≡ true → (v : ℕ) × (v < n) × (e ≡ record { chan = record { 0 = c }; dir = Input; value = v })
 unfolding inputs_below
@@ -247,14 +252,17 @@ disabled_offers e w m g Γ s h k = record {
 enabled_offers : (e : Exp) (w : Waiting) (m : Meaning) (g : Guards) → Settles m → (Γ : Environment) (s : Values) → is_true Γ e s ≡ true → (w ≡ ready → ⊥) → Offers g Γ s → Offers (and_guard e w m g) Γ s
 enabled_offers e w m g hm Γ s h unready k = record {
   events = events_of Γ s w ++ k.events;
-  quiet = λ X av.
-    (chosen_first (is_true Γ e s) _ _ h (record {
-        not_ready = unready;
-        refused = λ f u a. false_from_ne_true (X f) (λ i. clash (among (events_of Γ s w) f) (after_there Γ s w f u a) (or_parts (among (events_of Γ s w) f) (among k.events f) (sym (among_both (events_of Γ s w) k.events f) ∙ av f i)).0) }),
-     k.quiet X (λ f i. (or_parts (among (events_of Γ s w) f) (among k.events f) (sym (among_both (events_of Γ s w) k.events f) ∙ av f i)).1));
-  each = λ f i. elim (or_cases (among (events_of Γ s w) f) (among k.events f) (sym (among_both (events_of Γ s w) k.events f) ∙ i))
-    [ inl j ↦ (let r = there_after Γ s w f j in guard_goes e w m g Γ s r.0 (f ∷ []) h (λ t. at_event r.1) [] (hm.starts Γ r.0))
-    | inr j ↦ others_go e w m g Γ s (f ∷ []) (k.each f j) ];
+  quiet = λ X av. (
+    chosen_first (is_true Γ e s) _ _ h (record {
+      not_ready = unready;
+      refused = λ f u a. false_from_ne_true (X f) (λ i. clash (among (events_of Γ s w) f) (after_there Γ s w f u a) (or_parts (among (events_of Γ s w) f) (among k.events f) (sym (among_both (events_of Γ s w) k.events f) ∙ av f i)).0);
+    }),
+    k.quiet X (λ f i. (or_parts (among (events_of Γ s w) f) (among k.events f) (sym (among_both (events_of Γ s w) k.events f) ∙ av f i)).1),
+  );
+  each = λ f i. elim (or_cases (among (events_of Γ s w) f) (among k.events f) (sym (among_both (events_of Γ s w) k.events f) ∙ i)) [
+    | inl j ↦ (let r = there_after Γ s w f j in guard_goes e w m g Γ s r.0 (f ∷ []) h (λ t. at_event r.1) [] (hm.starts Γ r.0))
+    | inr j ↦ others_go e w m g Γ s (f ∷ []) (k.each f j)
+  ];
 }
 
 enabled_starts : (e : Exp) (w : Waiting) (m : Meaning) (g : Guards) → Settles m → (Γ : Environment) (s : Values) → is_true Γ e s ≡ true → Settled (g.goes Γ s) [] ⊎ Offers g Γ s → Settled ((and_guard e w m g).goes Γ s) [] ⊎ Offers (and_guard e w m g) Γ s
@@ -273,24 +281,28 @@ taken_fronts e w m g hm Γ s h t u r o (at_event {w = y} {e = f} {u = z} {t = l}
 
 and_guard_settles : (e : Exp) (w : Waiting) (m : Meaning) (g : Guards) → Settles m → GuardsSettle g → GuardsSettle (and_guard e w m g)
 and_guard_settles e w m g hm hg = record {
-  starts = λ Γ s. elim (cases_Bool (is_true Γ e s))
-    [ inl h ↦ enabled_starts e w m g hm Γ s h (hg.starts Γ s)
-    | inr h ↦ elim (hg.starts Γ s) [ inl j ↦ inl (others_go e w m g Γ s [] j) | inr j ↦ inr (disabled_offers e w m g Γ s h j) ] ];
-  fronts = λ Γ s t o d a b i. elim d
-    [ inl k ↦ taken_fronts e w m g hm Γ s k.0 t k.1.0 k.1.1 o k.1.2 k.1.3 a b i
-    | inr k ↦ elim (hg.fronts Γ s t o k a b i) [ inl j ↦ inl j | inr j ↦ inr (others_go e w m g Γ s a j) ] ];
+  starts = λ Γ s. elim (cases_Bool (is_true Γ e s)) [
+    | inl h ↦ enabled_starts e w m g hm Γ s h (hg.starts Γ s)
+    | inr h ↦ elim (hg.starts Γ s) [ inl j ↦ inl (others_go e w m g Γ s [] j) | inr j ↦ inr (disabled_offers e w m g Γ s h j) ]
+  ];
+  fronts = λ Γ s t o d a b i. elim d [
+    | inl k ↦ taken_fronts e w m g hm Γ s k.0 t k.1.0 k.1.1 o k.1.2 k.1.3 a b i
+    | inr k ↦ elim (hg.fronts Γ s t o k a b i) [ inl j ↦ inl j | inr j ↦ inr (others_go e w m g Γ s a j) ]
+  ];
 }
 
 alternates_start : (g : Guards) → GuardsSettle g → (Γ : Environment) (s : Values) → Settled ((alternatives g).does Γ s) []
-alternates_start g hg Γ s = elim (hg.starts Γ s)
-    [ inl k ↦ settled_all (g.goes Γ s) ((alternatives g).does Γ s) (λ t o d. taken d) [] k
-    | inr k ↦ waits k.events (λ X av. stable (k.quiet X av)) (λ e h. settled_all (g.goes Γ s) ((alternatives g).does Γ s) (λ t o d. taken d) (e ∷ []) (k.each e h)) ]
+alternates_start g hg Γ s = elim (hg.starts Γ s) [
+  | inl k ↦ settled_all (g.goes Γ s) ((alternatives g).does Γ s) (λ t o d. taken d) [] k
+  | inr k ↦ waits k.events (λ X av. stable (k.quiet X av)) (λ e h. settled_all (g.goes Γ s) ((alternatives g).does Γ s) (λ t o d. taken d) (e ∷ []) (k.each e h))
+]
 
 alternates_front : (g : Guards) → GuardsSettle g → (Γ : Environment) (s : Values) (t : Trace) (o : Outcome) → Alternates g Γ s t o → (a b : Trace) → t ≡ a ++ b → Settled ((alternatives g).does Γ s) a
 alternates_front g hg Γ s t o (stable d) a b i = settled_at ((alternatives g).does Γ s) [] a (sym (no_front a b i)) (alternates_start g hg Γ s)
-alternates_front g hg Γ s t o (taken d) a b i = elim (hg.fronts Γ s t o d a b i)
-    [ inl k ↦ settled_at ((alternatives g).does Γ s) [] a (sym k) (alternates_start g hg Γ s)
-    | inr k ↦ settled_all (g.goes Γ s) ((alternatives g).does Γ s) (λ r u j. taken j) a k ]
+alternates_front g hg Γ s t o (taken d) a b i = elim (hg.fronts Γ s t o d a b i) [
+  | inl k ↦ settled_at ((alternatives g).does Γ s) [] a (sym k) (alternates_start g hg Γ s)
+  | inr k ↦ settled_all (g.goes Γ s) ((alternatives g).does Γ s) (λ r u j. taken j) a k
+]
 
 alternatives_settle : (g : Guards) → GuardsSettle g → Settles (alternatives g)
 alternatives_settle g hg = record { starts = alternates_start g hg; fronts = alternates_front g hg }
@@ -319,7 +331,7 @@ first_at_last : (m n : Meaning) (Γ : Environment) (s s1 : Values) (t1 : Trace) 
 first_at_last m n Γ s s1 t1 d1 t2 (at_last s2 d2) t w = at_last (join s s1 s2) (together t1 t2 (ended s1) (ended s2) w (both_ended refl) d1 d2)
 first_at_last m n Γ s s1 t1 d1 t2 (waits bs d2 k2) t w =
     waits bs (λ X av. together t1 t2 (ended s1) (refusing X) w first_ended d1 (d2 X av))
-      (λ e h. first_at_last m n Γ s s1 t1 d1 (t2 ++ e ∷ []) (k2 e h) (t ++ e ∷ []) (longer_second e t1 t2 t w))
+    (λ e h. first_at_last m n Γ s s1 t1 d1 (t2 ++ e ∷ []) (k2 e h) (t ++ e ∷ []) (longer_second e t1 t2 t w))
 
 abbrev GoesOn : (m n : Meaning) (Γ : Environment) (s : Values) → List Event → Trace → Type 0
 GoesOn m n Γ s us t1 = (e : Event) → among us e ≡ true → (t2 : Trace) → Settled (n.does Γ s) t2 → (t : Trace) → Weave (t1 ++ e ∷ []) t2 t → Settled ((beside m n).does Γ s) t
@@ -330,11 +342,12 @@ both_quiet : (m n : Meaning) (Γ : Environment) (s : Values) (us bs : List Event
 both_quiet m n Γ s us bs t1 t2 t w d1 d2 apart X av =
     let Y : EventSet = λ e. not (among us e) in
     together t1 t2 (refusing (refused_with Γ X Y)) (refusing (refused_with Γ X (answered Y))) w (neither_ended X Y)
-      (d1 (refused_with Γ X Y) (λ e h. elim (or_cases (X e) (in_scope Γ e && Y e) h)
-        [ inl k ↦ (or_parts (among us e) (among bs e) (sym (among_both us bs e) ∙ av e k)).0 | inr k ↦ not-true (among us e) (and_parts (in_scope Γ e) (Y e) k).1 ]))
-      (d2 (refused_with Γ X (answered Y)) (λ e h. elim (or_cases (X e) (in_scope Γ e && answered Y e) h)
-        [ inl k ↦ (or_parts (among us e) (among bs e) (sym (among_both us bs e) ∙ av e k)).1
-        | inr k ↦ met e (and_parts (in_scope Γ e) (answered Y e) k).1 ]))
+    (d1 (refused_with Γ X Y) (λ e h. elim (or_cases (X e) (in_scope Γ e && Y e) h)
+    [ inl k ↦ (or_parts (among us e) (among bs e) (sym (among_both us bs e) ∙ av e k)).0 | inr k ↦ not-true (among us e) (and_parts (in_scope Γ e) (Y e) k).1 ]))
+    (d2 (refused_with Γ X (answered Y)) (λ e h. elim (or_cases (X e) (in_scope Γ e && answered Y e) h) [
+      | inl k ↦ (or_parts (among us e) (among bs e) (sym (among_both us bs e) ∙ av e k)).1
+      | inr k ↦ met e (and_parts (in_scope Γ e) (answered Y e) k).1
+    ]))
   where
     turned : (e : Event) → counterpart (counterpart e) ≡ e
     turned e = ap (λ d. record { chan = e.chan; dir = d; value = e.value }) (twice e.dir)
@@ -342,9 +355,11 @@ both_quiet m n Γ s us bs t1 t2 t w d1 d2 apart X av =
         twice : (d : Dir) → other_direction (other_direction d) ≡ d
         twice Input = refl
         twice Output = refl
+
     both_nots : (b : Bool) → not (not b) ≡ true → b ≡ true
     both_nots true h = refl
     both_nots false h = false_not_true h
+
     met : (e : Event) → not (not (among us (counterpart e))) ≡ true → among bs e ≡ false
     met e h = let P : Event → Type 0 = λ f. among bs f ≡ false in subst P (turned e) (apart (counterpart e) (both_nots (among us (counterpart e)) h))
 
@@ -352,12 +367,14 @@ second_turn : (m n : Meaning) (Γ : Environment) (s : Values) (us : List Event) 
     → (t2 : Trace) → Settled (n.does Γ s) t2 → (t : Trace) → Weave t1 t2 t → Settled ((beside m n).does Γ s) t
 second_turn m n Γ s us t1 d1 on t2 (at_last s2 d2) t w =
     waits us (λ X av. together t1 t2 (refusing X) (ended s2) w second_ended (d1 X av) d2) (λ e h. on e h t2 (at_last s2 d2) (t ++ e ∷ []) (longer_first e t1 t2 t w))
-second_turn m n Γ s us t1 d1 on t2 (waits bs d2 k2) t w = elim (meeting us bs)
-    [ inl k ↦ on k.0 k.1 (t2 ++ counterpart k.0 ∷ []) (k2 (counterpart k.0) k.2) t (longer_both k.0 t1 t2 t w)
-    | inr apart ↦ waits (us ++ bs) (both_quiet m n Γ s us bs t1 t2 t w d1 d2 apart)
-        (λ e h. elim (or_cases (among us e) (among bs e) (sym (among_both us bs e) ∙ h))
-          [ inl k ↦ on e k t2 (waits bs d2 k2) (t ++ e ∷ []) (longer_first e t1 t2 t w)
-          | inr k ↦ second_turn m n Γ s us t1 d1 on (t2 ++ e ∷ []) (k2 e k) (t ++ e ∷ []) (longer_second e t1 t2 t w) ]) ]
+second_turn m n Γ s us t1 d1 on t2 (waits bs d2 k2) t w = elim (meeting us bs) [
+  | inl k ↦ on k.0 k.1 (t2 ++ counterpart k.0 ∷ []) (k2 (counterpart k.0) k.2) t (longer_both k.0 t1 t2 t w)
+  | inr apart ↦ waits (us ++ bs) (both_quiet m n Γ s us bs t1 t2 t w d1 d2 apart)
+      (λ e h. elim (or_cases (among us e) (among bs e) (sym (among_both us bs e) ∙ h)) [
+        | inl k ↦ on e k t2 (waits bs d2 k2) (t ++ e ∷ []) (longer_first e t1 t2 t w)
+        | inr k ↦ second_turn m n Γ s us t1 d1 on (t2 ++ e ∷ []) (k2 e k) (t ++ e ∷ []) (longer_second e t1 t2 t w)
+      ])
+]
 
 both_settled : (m n : Meaning) (Γ : Environment) (s : Values) (t1 : Trace) → Settled (m.does Γ s) t1 → (t2 : Trace) → Settled (n.does Γ s) t2 → (t : Trace) → Weave t1 t2 t → Settled ((beside m n).does Γ s) t
 both_settled m n Γ s t1 (at_last s1 d1) t2 k t w = first_at_last m n Γ s s1 t1 d1 t2 k t w
@@ -409,7 +426,7 @@ beside_all_settles (and_tree p ps) m n hm hn = beside_settles m n hm hn
 variable_settled : (x : ℕ) (w : Width) (m : Meaning) (Γ : Environment) (s : Values) (v : ℕ) → v < 2 ^ bits_of w → (t : Trace) → Settled (m.does (with_name Γ x (Var w)) (with_value s x v)) t → Settled ((over_variable x w m).does Γ s) t
 variable_settled x w m Γ s v lt t k =
     settled_in (m.does (with_name Γ x (Var w)) (with_value s x v)) ((over_variable x w m).does Γ s)
-      (λ r s1 d. (with_value s1 x (s x), WithVariable.at_end v s1 lt refl d)) (λ r X d. WithVariable.at_rest v lt d) t k
+    (λ r s1 d. (with_value s1 x (s x), WithVariable.at_end v s1 lt refl d)) (λ r X d. WithVariable.at_rest v lt d) t k
 
 variable_fronts : (x : ℕ) (w : Width) (m : Meaning) → Settles m → (Γ : Environment) (s : Values) (t : Trace) (o : Outcome) → WithVariable x w m Γ s t o → (a b : Trace) → t ≡ a ++ b → Settled ((over_variable x w m).does Γ s) a
 variable_fronts x w m hm Γ s t o (WithVariable.at_end v s1 lt e d) a b i = variable_settled x w m Γ s v lt a (hm.fronts (with_name Γ x (Var w)) (with_value s x v) t (ended s1) d a b i)
@@ -428,26 +445,30 @@ without c (e ∷ us) = if e.chan.0 == c then without c us else e ∷ without c u
 without_of : (c : ℕ) (us : List Event) (e : Event) → among (without c us) e ≡ true → (among us e ≡ true) × ((e.chan.0 == c) ≡ false)
 unfolding without
 without_of c [] e h = false_not_true h
-without_of c (f ∷ us) e h = elim (cases_Bool (f.chan.0 == c))
-    [ inl k ↦ (let P : List Event → Type 0 = λ l. among l e ≡ true in
-        let r = without_of c us e (subst P (if_true (f.chan.0 == c) (without c us) (f ∷ without c us) k) h) in (among_tail f us e r.0, r.1))
-    | inr k ↦ (let P : List Event → Type 0 = λ l. among l e ≡ true in
-        elim (among_cases f (without c us) e (subst P (if_false (f.chan.0 == c) (without c us) (f ∷ without c us) k) h))
-          [ inl same ↦ (let Q : Event → Type 0 = λ g. (among (f ∷ us) g ≡ true) × ((g.chan.0 == c) ≡ false) in subst Q (sym same) (among_head f us, k))
-          | inr rest ↦ (let r = without_of c us e rest in (among_tail f us e r.0, r.1)) ]) ]
+without_of c (f ∷ us) e h = elim (cases_Bool (f.chan.0 == c)) [
+  | inl k ↦ (let P : List Event → Type 0 = λ l. among l e ≡ true in
+      let r = without_of c us e (subst P (if_true (f.chan.0 == c) (without c us) (f ∷ without c us) k) h) in (among_tail f us e r.0, r.1))
+  | inr k ↦ (let P : List Event → Type 0 = λ l. among l e ≡ true in
+      elim (among_cases f (without c us) e (subst P (if_false (f.chan.0 == c) (without c us) (f ∷ without c us) k) h)) [
+        | inl same ↦ (let Q : Event → Type 0 = λ g. (among (f ∷ us) g ≡ true) × ((g.chan.0 == c) ≡ false) in subst Q (sym same) (among_head f us, k))
+        | inr rest ↦ (let r = without_of c us e rest in (among_tail f us e r.0, r.1))
+      ])
+]
 
 into_without : (c : ℕ) (us : List Event) (e : Event) → (e.chan.0 == c) ≡ false → among us e ≡ true → among (without c us) e ≡ true
 unfolding without
 into_without c [] e off h = h
 into_without c (f ∷ us) e off h =
     let P : List Event → Type 0 = λ l. among l e ≡ true in
-    elim (cases_Bool (f.chan.0 == c))
-      [ inl k ↦ subst P (sym (if_true (f.chan.0 == c) (without c us) (f ∷ without c us) k))
+    elim (cases_Bool (f.chan.0 == c)) [
+      | inl k ↦ subst P (sym (if_true (f.chan.0 == c) (without c us) (f ∷ without c us) k))
           (elim (among_cases f us e h) [ inl same ↦ clash (f.chan.0 == c) k (let Q : Event → Type 0 = λ g. (g.chan.0 == c) ≡ false in subst Q same off) | inr rest ↦ into_without c us e off rest ])
       | inr k ↦ subst P (sym (if_false (f.chan.0 == c) (without c us) (f ∷ without c us) k))
-          (elim (among_cases f us e h)
-            [ inl same ↦ (let Q : Event → Type 0 = λ g. among (f ∷ without c us) g ≡ true in subst Q (sym same) (among_head f (without c us)))
-            | inr rest ↦ among_tail f (without c us) e (into_without c us e off rest) ]) ]
+          (elim (among_cases f us e h) [
+            | inl same ↦ (let Q : Event → Type 0 = λ g. among (f ∷ without c us) g ≡ true in subst Q (sym same) (among_head f (without c us)))
+            | inr rest ↦ among_tail f (without c us) e (into_without c us e off rest)
+          ])
+    ]
 
 silent_longer : (c : ℕ) (t : Trace) (e : Event) → is_silent c t ≡ true → (e.chan.0 == c) ≡ false → is_silent c (t ++ e ∷ []) ≡ true
 silent_longer c [] e h off = and_from (not (e.chan.0 == c)) true (not_from_false (e.chan.0 == c) off) refl
@@ -461,10 +482,10 @@ channel_settled : (c : ℕ) (w : Width) (m : Meaning) (Γ : Environment) (s : Va
 channel_settled c w m Γ s t (at_last s1 d) silent = at_last s1 (WithChannel.at_end silent d)
 channel_settled c w m Γ s t (waits us d k) silent =
     waits (without c us)
-      (λ X av. WithChannel.at_rest silent (d (off_channel c X) (λ e h.
-        let j = and_parts (not (e.chan.0 == c)) (X e) h in
-        false_from_ne_true (among us e) (λ i. clash (among (without c us) e) (into_without c us e (not-true (e.chan.0 == c) j.0) i) (av e j.1)))))
-      (λ e h. let r = without_of c us e h in channel_settled c w m Γ s (t ++ e ∷ []) (k e r.0) (silent_longer c t e silent r.1))
+    (λ X av. WithChannel.at_rest silent (d (off_channel c X) (λ e h.
+    let j = and_parts (not (e.chan.0 == c)) (X e) h in
+    false_from_ne_true (among us e) (λ i. clash (among (without c us) e) (into_without c us e (not-true (e.chan.0 == c) j.0) i) (av e j.1)))))
+    (λ e h. let r = without_of c us e h in channel_settled c w m Γ s (t ++ e ∷ []) (k e r.0) (silent_longer c t e silent r.1))
 
 channel_fronts : (c : ℕ) (w : Width) (m : Meaning) → Settles m → (Γ : Environment) (s : Values) (t : Trace) (o : Outcome) → WithChannel c w m Γ s t o → (a b : Trace) → t ≡ a ++ b → Settled ((over_channel c w m).does Γ s) a
 channel_fronts c w m hm Γ s t o (WithChannel.at_end {s1 = r} silent d) a b i =
@@ -520,6 +541,7 @@ pub empty_trace : (Γ : Environment) (p : Tree) (s : Values) → HasTrace Γ p s
 empty_trace Γ p s = settled_trace Γ p s [] ((part_settles p).starts Γ s)
 
 pub front_trace : (Γ : Environment) (p : Tree) (s : Values) (a b : Trace) → HasTrace Γ p s (a ++ b) → HasTrace Γ p s a
-front_trace Γ p s a b h = elim h
-    [ inl k ↦ settled_trace Γ p s a ((part_settles p).fronts Γ s (a ++ b) (refusing (λ e. false)) k a b refl)
-    | inr k ↦ settled_trace Γ p s a ((part_settles p).fronts Γ s (a ++ b) (ended k.0) k.1 a b refl) ]
+front_trace Γ p s a b h = elim h [
+  | inl k ↦ settled_trace Γ p s a ((part_settles p).fronts Γ s (a ++ b) (refusing (λ e. false)) k a b refl)
+  | inr k ↦ settled_trace Γ p s a ((part_settles p).fronts Γ s (a ++ b) (ended k.0) k.1 a b refl)
+]

@@ -23,9 +23,10 @@ value_type Γ [] (e ∷ es) h y = refl
 value_type Γ (x ∷ xs) [] h y = refl
 value_type Γ (x ∷ xs) (e ∷ es) h y =
     let k = pair_types Γ x xs e es h in
-    elim (eqb_tells y x)
-      [ inl i ↦ ap (type_of Γ) (if_true (y == x) e (value_for xs es y) i.0) ∙ (k.0.2 ∙ (sym k.0.1 ∙ ap (variable_width Γ) (sym i.1)))
-      | inr i ↦ ap (type_of Γ) (if_false (y == x) e (value_for xs es y) i.0) ∙ value_type Γ xs es k.1 y ]
+    elim (eqb_tells y x) [
+      | inl i ↦ ap (type_of Γ) (if_true (y == x) e (value_for xs es y) i.0) ∙ (k.0.2 ∙ (sym k.0.1 ∙ ap (variable_width Γ) (sym i.1)))
+      | inr i ↦ ap (type_of Γ) (if_false (y == x) e (value_for xs es y) i.0) ∙ value_type Γ xs es k.1 y
+    ]
 
 pub value_bits : (Γ : Environment) (xs : List ℕ) (es : List Exp) → pairs_kept Γ xs es ≡ true → (y : ℕ) → bits_of_exp Γ (value_for xs es y) ≡ bits_of_exp Γ (variable y)
 value_bits Γ [] [] h y = refl
@@ -33,16 +34,18 @@ value_bits Γ [] (e ∷ es) h y = refl
 value_bits Γ (x ∷ xs) [] h y = refl
 value_bits Γ (x ∷ xs) (e ∷ es) h y =
     let k = pair_types Γ x xs e es h in
-    elim (eqb_tells y x)
-      [ inl i ↦ ap (bits_of_exp Γ) (if_true (y == x) e (value_for xs es y) i.0) ∙ (bits_of_type Γ e k.0.0 k.0.2 ∙ (ap bits_in (sym k.0.1) ∙ ap (λ z. bits_in (variable_width Γ z)) (sym i.1)))
-      | inr i ↦ ap (bits_of_exp Γ) (if_false (y == x) e (value_for xs es y) i.0) ∙ value_bits Γ xs es k.1 y ]
+    elim (eqb_tells y x) [
+      | inl i ↦ ap (bits_of_exp Γ) (if_true (y == x) e (value_for xs es y) i.0) ∙ (bits_of_type Γ e k.0.0 k.0.2 ∙ (ap bits_in (sym k.0.1) ∙ ap (λ z. bits_in (variable_width Γ z)) (sym i.1)))
+      | inr i ↦ ap (bits_of_exp Γ) (if_false (y == x) e (value_for xs es y) i.0) ∙ value_bits Γ xs es k.1 y
+    ]
 
 pub value_assigned : (Γ : Environment) (s : Values) (xs : List ℕ) (es : List Exp) (y : ℕ) → eval Γ (value_for xs es y) s ≡ assigned xs es Γ s y
 value_assigned Γ s [] es y = refl
 value_assigned Γ s (x ∷ xs) [] y = refl
-value_assigned Γ s (x ∷ xs) (e ∷ es) y = elim (cases_Bool (y == x))
-    [ inl i ↦ ap (λ z. eval Γ z s) (if_true (y == x) e (value_for xs es y) i) ∙ sym (if_true (y == x) (eval Γ e s) (assigned xs es Γ s y) i)
-    | inr i ↦ ap (λ z. eval Γ z s) (if_false (y == x) e (value_for xs es y) i) ∙ (value_assigned Γ s xs es y ∙ sym (if_false (y == x) (eval Γ e s) (assigned xs es Γ s y) i)) ]
+value_assigned Γ s (x ∷ xs) (e ∷ es) y = elim (cases_Bool (y == x)) [
+  | inl i ↦ ap (λ z. eval Γ z s) (if_true (y == x) e (value_for xs es y) i) ∙ sym (if_true (y == x) (eval Γ e s) (assigned xs es Γ s y) i)
+  | inr i ↦ ap (λ z. eval Γ z s) (if_false (y == x) e (value_for xs es y) i) ∙ (value_assigned Γ s xs es y ∙ sym (if_false (y == x) (eval Γ e s) (assigned xs es Γ s y) i))
+]
 
 pub substituted_type : (Γ : Environment) (xs : List ℕ) (es : List Exp) → pairs_kept Γ xs es ≡ true → (e : Exp) → type_of Γ (substituted xs es e) ≡ type_of Γ e
 substituted_type Γ xs es h (variable y) = value_type Γ xs es h y
@@ -70,8 +73,8 @@ substituted_value Γ s xs es h (complement e) =
     ap (λ n. 2 ^ n - 1 - eval Γ (substituted xs es e) s) (substituted_bits Γ xs es h e) ∙ ap (λ n. 2 ^ bits_of_exp Γ e - 1 - n) (substituted_value Γ s xs es h e)
 substituted_value Γ s xs es h (operation op left right) =
     ap (λ n. applied op n (eval Γ (substituted xs es left) s) (eval Γ (substituted xs es right) s)) (substituted_bits Γ xs es h left)
-      ∙ (ap (λ n. applied op (bits_of_exp Γ left) n (eval Γ (substituted xs es right) s)) (substituted_value Γ s xs es h left)
-      ∙ ap (λ n. applied op (bits_of_exp Γ left) (eval Γ left (assigned xs es Γ s)) n) (substituted_value Γ s xs es h right))
+    ∙ (ap (λ n. applied op (bits_of_exp Γ left) n (eval Γ (substituted xs es right) s)) (substituted_value Γ s xs es h left)
+    ∙ ap (λ n. applied op (bits_of_exp Γ left) (eval Γ left (assigned xs es Γ s)) n) (substituted_value Γ s xs es h right))
 
 -- ---- which names are left
 
@@ -100,12 +103,14 @@ value_gone Γ (z ∷ xs) [] t x h k y = false_not_true t
 value_gone Γ (z ∷ xs) (e ∷ es) t x h k y =
     let j = or_parts (names e x) (some_names es x) k in
     let P : Exp → Type 0 = λ r. names r x ≡ false in
-    elim (eqb_tells y z)
-      [ inl i ↦ subst P (sym (if_true (y == z) e (value_for xs es y) i.0)) j.0
+    elim (eqb_tells y z) [
+      | inl i ↦ subst P (sym (if_true (y == z) e (value_for xs es y) i.0)) j.0
       | inr i ↦ subst P (sym (if_false (y == z) e (value_for xs es y) i.0))
-          (elim (eqb_tells x z)
-            [ inl same ↦ value_names xs es x y (ne_eqb x y (λ eq. i.1 (sym eq ∙ same.1))) j.1
-            | inr other ↦ value_gone Γ xs es (pair_types Γ z xs e es t).1 x (elim (or_cases (x == z) (is_in xs x) h) [ inl r ↦ clash (x == z) r other.0 | inr r ↦ r ]) j.1 y ]) ]
+          (elim (eqb_tells x z) [
+            | inl same ↦ value_names xs es x y (ne_eqb x y (λ eq. i.1 (sym eq ∙ same.1))) j.1
+            | inr other ↦ value_gone Γ xs es (pair_types Γ z xs e es t).1 x (elim (or_cases (x == z) (is_in xs x) h) [ inl r ↦ clash (x == z) r other.0 | inr r ↦ r ]) j.1 y
+          ])
+    ]
 
 -- a variable that is replaced is gone where no expression put in names it
 pub substituted_gone : (Γ : Environment) (xs : List ℕ) (es : List Exp) → pairs_kept Γ xs es ≡ true → (x : ℕ) → is_in xs x ≡ true → some_names es x ≡ false → (e : Exp) → names (substituted xs es e) x ≡ false
@@ -134,4 +139,4 @@ nothing_substituted xs es (negation e) h = ap negation (nothing_substituted xs e
 nothing_substituted xs es (complement e) h = ap complement (nothing_substituted xs es e h)
 nothing_substituted xs es (operation op left right) h =
     ap (λ a. operation op a (substituted xs es right)) (nothing_substituted xs es left (λ x k. h x (or_left (names left x) (names right x) k)))
-      ∙ ap (λ b. operation op left b) (nothing_substituted xs es right (λ x k. h x (or_right (names left x) (names right x) k)))
+    ∙ ap (λ b. operation op left b) (nothing_substituted xs es right (λ x k. h x (or_right (names left x) (names right x) k)))

@@ -2,7 +2,6 @@
 use Rattle.occ_syntax.specs.Tree.{Branches, Cases, Tree, Trees, Waiting, alt, and_branch, and_case, and_tree, assign, connect, declare, input, no_branch, no_case, no_tree, output, par, ready, receive, select, send, seq, skip, stop}
 use Rattle.std.specs.Prelude.{max, ℕ, ◌+◌}
 
-
 abbrev pub guard_events : Waiting → ℕ
 guard_events ready = 0
 guard_events (input c x) = 1

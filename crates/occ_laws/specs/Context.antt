@@ -6,7 +6,6 @@ use Rattle.occ_syntax.specs.declared.scope.Kind.TheVariants.{Chan, Var}
 use Rattle.std.specs.Option.{option_and_then, option_map, unwrap_or}
 use Rattle.std.specs.Prelude.{List, None, Option, Some, [], suc, zero, ℕ, ◌∷◌}
 
-
 pub data EachSame (Γ : Environment) : Trees → Trees → Type 0 where
   no_parts : EachSame Γ no_tree no_tree
   and_part : {p q : Tree} {ps qs : Trees} → SAME Γ p q → EachSame Γ ps qs → EachSame Γ (and_tree p ps) (and_tree q qs)

@@ -6,7 +6,6 @@ use Rattle.occ_syntax.specs.Scopes.{Environment, Trace, variable_width, with_val
 use Rattle.occ_syntax.specs.Tree.{Tree}
 use Rattle.std.specs.Prelude.{Bool, None, [], false, true, ℕ, ◌==◌, ◌∷◌, ◌≡◌, ◌⊎◌}
 
-
 -- every event of the trace is on one of these channel ends
 abbrev pub AreOnEnds : (ℕ → Dir → Bool) → Trace → Type 0
 AreOnEnds u [] = Unit {0}

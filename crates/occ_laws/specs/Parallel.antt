@@ -3,7 +3,6 @@ use Rattle.occ_syntax.specs.Names.{written}
 use Rattle.occ_syntax.specs.Tree.{Tree, Trees, and_tree, no_tree, par}
 use Rattle.std.specs.Prelude.{false, ℕ, ◌≡◌, ◌⊎◌}
 
-
 -- the parts of two lists in one
 abbrev pub all_of : Trees → Trees → Trees
 all_of no_tree qs = qs

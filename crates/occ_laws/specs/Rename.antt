@@ -6,7 +6,6 @@ use Rattle.occ_syntax.specs.Scopes.{Trace}
 use Rattle.occ_syntax.specs.Tree.{Branches, Cases, Exp, Tree, Trees, Waiting, alt, and_branch, and_case, and_tree, assign, complement, connect, declare, input, negation, no_branch, no_case, no_tree, numeral, operation, output, par, ready, receive, select, send, seq, skip, stop, truth, variable}
 use Rattle.std.specs.Prelude.{Bool, List, [], false, if◌then◌else◌, ℕ, ◌==◌, ◌||◌, ◌∷◌}
 
-
 -- a new name for an old one
 abbrev pub replacing : ℕ → ℕ → ℕ → ℕ
 replacing old new n = if n == old then new else n

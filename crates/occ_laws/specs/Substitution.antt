@@ -2,7 +2,6 @@
 use Rattle.occ_syntax.specs.Tree.{Exp, complement, negation, numeral, operation, truth, variable}
 use Rattle.std.specs.Prelude.{List, [], if◌then◌else◌, ℕ, ◌==◌, ◌∷◌}
 
-
 -- the expression that stands for a variable: its own, or the variable where it has none
 abbrev pub value_for : List ℕ → List Exp → ℕ → Exp
 value_for [] es y = variable y

@@ -72,15 +72,17 @@ join_turned s s1 s2 apart = fun_ext (λ x. at_one (s x) (s1 x) (s2 x) (apart x))
     one_kept : (a c : ℕ) (b : Bool) → (c == a) ≡ b → c ≡ (if b then a else c)
     one_kept a c true h = eqb-true c a h
     one_kept a c false h = refl
+
     at_one : (a b c : ℕ) → (b ≡ a) ⊎ (c ≡ a) → (if b == a then c else b) ≡ (if c == a then b else c)
-    at_one a b c h = elim h
-      [ inl k ↦ if_true (b == a) c b (eq-eqb b a k) ∙ (one_kept a c (c == a) refl ∙ ap (λ n. if c == a then n else c) (sym k))
-      | inr k ↦ ap (λ n. if b == a then n else b) k ∙ (sym (one_kept a b (b == a) refl) ∙ sym (if_true (c == a) b c (eq-eqb c a k))) ]
+    at_one a b c h = elim h [
+      | inl k ↦ if_true (b == a) c b (eq-eqb b a k) ∙ (one_kept a c (c == a) refl ∙ ap (λ n. if c == a then n else c) (sym k))
+      | inr k ↦ ap (λ n. if b == a then n else b) k ∙ (sym (one_kept a b (b == a) refl) ∙ sym (if_true (c == a) b c (eq-eqb c a k)))
+    ]
 
 combine_turned : (m n : Meaning) → ChangeApart m n → (Γ : Environment) (s : Values) (t1 t2 t : Trace) → Weave t1 t2 t → (o1 o2 o : Outcome) → m.does Γ s t1 o1 → n.does Γ s t2 o2 → Combines Γ s o1 o2 o → Together n m Γ s t o
 combine_turned m n apart Γ s t1 t2 t w o1 o2 o d1 d2 (both_ended {s1 = a} {s2 = b} {s' = r} e) =
     together t2 t1 (ended b) (ended a) (weave_turned t1 t2 t w)
-      (both_ended (e ∙ join_turned s a b (λ x. elim (apart.one_keeps x) [ inl k ↦ inl (k.value Γ s t1 a d1) | inr k ↦ inr (k.value Γ s t2 b d2) ]))) d2 d1
+    (both_ended (e ∙ join_turned s a b (λ x. elim (apart.one_keeps x) [ inl k ↦ inl (k.value Γ s t1 a d1) | inr k ↦ inr (k.value Γ s t2 b d2) ]))) d2 d1
 combine_turned m n apart Γ s t1 t2 t w o1 o2 o d1 d2 (first_ended {s1 = a} {X = X}) = together t2 t1 (refusing X) (ended a) (weave_turned t1 t2 t w) second_ended d2 d1
 combine_turned m n apart Γ s t1 t2 t w o1 o2 o d1 d2 (second_ended {s2 = a} {X = X}) = together t2 t1 (ended a) (refusing X) (weave_turned t1 t2 t w) first_ended d2 d1
 combine_turned m n apart Γ s t1 t2 t w o1 o2 o d1 d2 (neither_ended X Y) =
@@ -180,10 +182,10 @@ module _ (p q r : Meaning) (hp : Shrinks p) (hq : Shrinks q) (hr : Shrinks r) (�
       let U : EventSet = λ e. Y e || W e in
       let Z : EventSet = refused_with Γ X (answered U) in
       together t1 m (refusing (refused_with Γ X U)) (refusing Z) w (neither_ended X U)
-        (shrink p hp Γ s t1 (refused_with Γ (refused_with Γ X Y) W) (refused_with Γ X U) (λ e h. in_first_group (X e) (in_scope Γ e) (Y e) (W e) h) d1)
-        (together t2 t3 (refusing (refused_with Γ Z Y)) (refusing (refused_with Γ Z (answered Y))) v (neither_ended Z Y)
-          (shrink q hq Γ s t2 (refused_with Γ (refused_with Γ X Y) (answered W)) (refused_with Γ Z Y) (λ e h. in_middle_group (X e) (in_scope Γ e) (Y e) (Y (counterpart e)) (W (counterpart e)) h) d2)
-          (shrink r hr Γ s t3 (refused_with Γ X (answered Y)) (refused_with Γ Z (answered Y)) (λ e h. in_last_group (X e) (in_scope Γ e) (Y (counterpart e)) (W (counterpart e)) h) d3))
+      (shrink p hp Γ s t1 (refused_with Γ (refused_with Γ X Y) W) (refused_with Γ X U) (λ e h. in_first_group (X e) (in_scope Γ e) (Y e) (W e) h) d1)
+      (together t2 t3 (refusing (refused_with Γ Z Y)) (refusing (refused_with Γ Z (answered Y))) v (neither_ended Z Y)
+      (shrink q hq Γ s t2 (refused_with Γ (refused_with Γ X Y) (answered W)) (refused_with Γ Z Y) (λ e h. in_middle_group (X e) (in_scope Γ e) (Y e) (Y (counterpart e)) (W (counterpart e)) h) d2)
+      (shrink r hr Γ s t3 (refused_with Γ X (answered Y)) (refused_with Γ Z (answered Y)) (λ e h. in_last_group (X e) (in_scope Γ e) (Y (counterpart e)) (W (counterpart e)) h) d3))
 
   ungrouped_stable : (t1 t2 t3 m t : Trace) → Weave t1 t2 m → Weave m t3 t → (X Y W : EventSet) → p.does Γ s t1 (refusing (refused_with Γ X Y)) → q.does Γ s t2 (refusing (refused_with Γ (refused_with Γ X (answered Y)) W))
       → r.does Γ s t3 (refusing (refused_with Γ (refused_with Γ X (answered Y)) (answered W))) → Together (beside p q) r Γ s t (refusing X)
@@ -191,10 +193,10 @@ module _ (p q r : Meaning) (hp : Shrinks p) (hq : Shrinks q) (hr : Shrinks r) (�
       let U : EventSet = λ e. Y e && W e in
       let Z : EventSet = refused_with Γ X U in
       together m t3 (refusing Z) (refusing (refused_with Γ X (answered U))) w (neither_ended X U)
-        (together t1 t2 (refusing (refused_with Γ Z Y)) (refusing (refused_with Γ Z (answered Y))) v (neither_ended Z Y)
-          (shrink p hp Γ s t1 (refused_with Γ X Y) (refused_with Γ Z Y) (λ e h. out_first_group (X e) (in_scope Γ e) (Y e) (W e) h) d1)
-          (shrink q hq Γ s t2 (refused_with Γ (refused_with Γ X (answered Y)) W) (refused_with Γ Z (answered Y)) (λ e h. out_middle_group (X e) (in_scope Γ e) (Y e) (W e) (Y (counterpart e)) h) d2))
-        (shrink r hr Γ s t3 (refused_with Γ (refused_with Γ X (answered Y)) (answered W)) (refused_with Γ X (answered U)) (λ e h. out_last_group (X e) (in_scope Γ e) (Y (counterpart e)) (W (counterpart e)) h) d3)
+      (together t1 t2 (refusing (refused_with Γ Z Y)) (refusing (refused_with Γ Z (answered Y))) v (neither_ended Z Y)
+      (shrink p hp Γ s t1 (refused_with Γ X Y) (refused_with Γ Z Y) (λ e h. out_first_group (X e) (in_scope Γ e) (Y e) (W e) h) d1)
+      (shrink q hq Γ s t2 (refused_with Γ (refused_with Γ X (answered Y)) W) (refused_with Γ Z (answered Y)) (λ e h. out_middle_group (X e) (in_scope Γ e) (Y e) (W e) (Y (counterpart e)) h) d2))
+      (shrink r hr Γ s t3 (refused_with Γ (refused_with Γ X (answered Y)) (answered W)) (refused_with Γ X (answered U)) (λ e h. out_last_group (X e) (in_scope Γ e) (Y (counterpart e)) (W (counterpart e)) h) d3)
 
   grouped_neither : (t1 t2 t3 m t : Trace) → Weave t2 t3 m → Weave t1 m t → (X Y V : EventSet) → V ≡ refused_with Γ X Y → (o1 o2 : Outcome) → p.does Γ s t1 o1 → q.does Γ s t2 o2 → r.does Γ s t3 (refusing (refused_with Γ X (answered Y))) → Combines Γ s o1 o2 (refusing V) → Together p (beside q r) Γ s t (refusing X)
   grouped_neither t1 t2 t3 m t v w X Y V is o1 o2 d1 d2 d3 (first_ended {s1 = a}) =
@@ -364,7 +366,7 @@ stop_beside_at : (m : Meaning) → Shrinks m → (Γ : Environment) (s : Values)
 stop_beside_at m h Γ s t o (in_first {X = X} d) =
     let Y : EventSet = λ e. false in
     together t [] (refusing (refused_with Γ X Y)) (refusing (refused_with Γ X (answered Y))) (with_none t) (neither_ended X Y)
-      (shrink m h Γ s t X (refused_with Γ X Y) (λ e k. without_more (X e) (in_scope Γ e) k) d) stopped
+    (shrink m h Γ s t X (refused_with Γ X Y) (λ e k. without_more (X e) (in_scope Γ e) k) d) stopped
 stop_beside_at m h Γ s t o (in_second t1 t2 s1 e d1 d2) = stop_after m Γ s s1 t t1 t2 o e d1 (only_stopped Γ s1 t2 o d2)
 
 pub stop_added : (Γ : Environment) (m : Meaning) → Shrinks m → Gives Γ (then_stop m) (beside m never)
