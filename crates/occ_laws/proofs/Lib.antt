@@ -8,10 +8,12 @@ pub mod Facts
 pub mod Frame
 pub mod Free
 pub mod InScope
+pub mod Interface
 pub mod Moved
 pub mod OffNames
 pub mod OffValues
 pub mod Parts
+pub mod Places
 pub mod Redeclared
 pub mod Refusals
 pub mod RenamedTrees

@@ -2,11 +2,11 @@
 
 ghost use Rattle.occ_base.specs.declared.event.Event.{Event};
 ghost use Rattle.occ_laws.specs.Bound.{most_events};
-ghost use Rattle.occ_laws.specs.Foundation.{AreOnEnds};
+ghost use Rattle.occ_laws.specs.Foundation.{AreOnEnds, AreWithin};
 ghost use Rattle.occ_syntax.specs.Meaning.{Outcome, fails, meaning};
 ghost use Rattle.occ_syntax.specs.Names.{uses_end};
 ghost use Rattle.occ_syntax.specs.Same.{HasTrace};
-ghost use Rattle.occ_syntax.specs.Scopes.{Environment, EventSet, Trace, Values};
+ghost use Rattle.occ_syntax.specs.Scopes.{Environment, EventSet, IsState, Trace, Values, in_interface};
 ghost use Rattle.occ_syntax.specs.Tree.{Tree};
 ghost use Rattle.occ_syntax.specs.Types.{types_kept};
 ghost use Rattle.std.specs.Prelude.{[], false, length, true, ◌++◌, ◌≡◌, ◌≤◌, ◌⊎◌};
@@ -24,6 +24,11 @@ pub fn unused_ends_are_refused()
 /// Each event of each trace of a part is on a channel end that the part uses.
 pub fn events_are_on_used_ends()
     ensures { (Θ : Environment) (p : Tree) → types_kept p Θ ≡ true → (Γ : Environment) (s : Values) (t : Trace) (o : Outcome) → (meaning p).does Γ s t o → AreOnEnds (uses_end p) t }
+{}
+
+/// From a state, each event of each trace of a well-typed part is of its interface: on a channel in scope, with a value of its width, in a direction that its mark allows.
+pub fn events_are_of_the_interface()
+    ensures { (Γ : Environment) (p : Tree) → types_kept p Γ ≡ true → (s : Values) (t : Trace) (o : Outcome) → IsState Γ s → (meaning p).does Γ s t o → AreWithin (in_interface Γ) t }
 {}
 
 /// From all values every part has the empty trace, well typed or not: it comes to an end, or to a point at which it is stable.

@@ -9,6 +9,7 @@ ghost use Rattle.occ_syntax.specs.Names.{written};
 ghost use Rattle.occ_syntax.specs.Scopes.{Environment, IsState, Trace, Values};
 ghost use Rattle.occ_syntax.specs.Tree.{Exp, Tree};
 ghost use Rattle.occ_syntax.specs.Types.{type_of, types_kept};
+ghost use Rattle.occ_syntax.specs.Usage.{Keeps};
 ghost use Rattle.std.specs.Prelude.{List, Some, false, true, ℕ, ◌<◌, ◌^◌, ◌≡◌};
 
 /// The value of a typed expression in a state is below two to the width of its type.
@@ -29,4 +30,9 @@ pub fn unwritten_variables_keep_their_values()
 /// The part at a path of a well-typed part is well typed in the environment there.
 pub fn parts_of_typed_parts_are_typed()
     ensures { (path : List ℕ) (Γ : Environment) (p q : Tree) → types_kept p Γ ≡ true → part_at path p ≡ Some q → types_kept q (environment_at path Γ p) ≡ true }
+{}
+
+/// The part at a path of a part that keeps types and usage keeps them in the environment there.
+pub fn parts_of_parts_that_keep_the_rules_keep_them()
+    ensures { (path : List ℕ) (Γ : Environment) (p q : Tree) → Keeps Γ p → part_at path p ≡ Some q → Keeps (environment_at path Γ p) q }
 {}

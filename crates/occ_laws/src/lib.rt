@@ -11,11 +11,12 @@ mod scope;
 mod substitution;
 
 pub use behaviour::{
-    events_are_on_used_ends, every_part_has_the_empty_trace, refusals_shrink, traces_are_bounded,
-    traces_are_closed_under_fronts, unused_ends_are_refused,
+    events_are_of_the_interface, events_are_on_used_ends, every_part_has_the_empty_trace,
+    refusals_shrink, traces_are_bounded, traces_are_closed_under_fronts, unused_ends_are_refused,
 };
 pub use foundation::{
-    evaluation_stays_below, parts_of_typed_parts_are_typed, typed_parts_take_states_to_states,
+    evaluation_stays_below, parts_of_parts_that_keep_the_rules_keep_them,
+    parts_of_typed_parts_are_typed, typed_parts_take_states_to_states,
     unwritten_variables_keep_their_values,
 };
 pub use parallel::{
@@ -31,8 +32,9 @@ pub use rename::{
 };
 pub use same::{
     a_part_is_the_same_as_itself, alt_of_same_processes, if_of_same_processes, par_of_same_parts,
-    same_both_ways, same_parts_have_the_same_traces, same_parts_may_be_put_in,
-    same_through_a_third, same_under_a_channel, same_under_a_variable, seq_of_same_parts,
+    same_both_ways, same_over_the_interface, same_parts_have_the_same_traces,
+    same_parts_may_be_put_in, same_through_a_third, same_under_a_channel, same_under_a_variable,
+    seq_of_same_parts, typed_parts_may_be_put_in, what_is_put_in_is_there,
 };
 pub use scope::{
     free_names_are_in_scope, other_names_in_scope_do_not_matter, other_values_do_not_matter,
