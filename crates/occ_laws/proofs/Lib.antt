@@ -1,4 +1,5 @@
 pub mod Alike
+pub mod AssignedFirst
 pub mod Beside
 pub mod Bounded
 pub mod Contexts
@@ -9,9 +10,11 @@ pub mod Frame
 pub mod Free
 pub mod InScope
 pub mod Interface
+pub mod Members
 pub mod Moved
 pub mod OffNames
 pub mod OffValues
+pub mod OtherScopes
 pub mod Parts
 pub mod Places
 pub mod Redeclared

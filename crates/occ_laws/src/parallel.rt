@@ -1,12 +1,13 @@
 //! PAR: its parts in other groups and orders, and SKIP and STOP among them.
 
 ghost use Rattle.occ_laws.specs.Parallel.{EachWritesApart, Reordered, WriteApart, all_of};
+ghost use Rattle.occ_syntax.specs.Names.{free, is_in};
 ghost use Rattle.occ_syntax.specs.Same.{SAME};
 ghost use Rattle.occ_syntax.specs.Scopes.{Environment};
-ghost use Rattle.occ_syntax.specs.Tree.{Tree, Trees, and_tree, no_tree, par, seq, skip, stop};
+ghost use Rattle.occ_syntax.specs.Tree.{Exp, Tree, Trees, and_tree, assign, no_tree, par, seq, skip, stop};
 ghost use Rattle.occ_syntax.specs.Types.{all_types_kept, types_kept};
 ghost use Rattle.occ_syntax.specs.Usage.{AreSeparate, Keeps};
-ghost use Rattle.std.specs.Prelude.{true, ◌≡◌};
+ghost use Rattle.std.specs.Prelude.{List, false, true, ℕ, ◌≡◌};
 
 /// A PAR among the parts of a PAR gives its parts in its place. It holds of all parts.
 pub fn par_in_par_is_flat()
@@ -31,6 +32,11 @@ pub fn par_with_stop_stops_at_its_end()
 /// STOP beside a part is that part followed by STOP.
 pub fn stop_with_a_part_stops_at_its_end()
     ensures { (Γ : Environment) (p : Tree) → SAME Γ (par (and_tree stop (and_tree p no_tree))) (seq (and_tree p (and_tree stop no_tree))) }
+{}
+
+/// An assignment at the beginning of one part may stand in front of the PAR, where the other part names none of its variables.
+pub fn assignments_may_leave_a_par()
+    ensures { (Γ : Environment) (xs : List ℕ) (es : List Exp) (ps : Trees) (q : Tree) → types_kept q Γ ≡ true → ((x : ℕ) → is_in xs x ≡ true → free q x ≡ false) → SAME Γ (par (and_tree (seq (and_tree (assign xs es) ps)) (and_tree q no_tree))) (seq (and_tree (assign xs es) (and_tree (par (and_tree (seq ps) (and_tree q no_tree))) no_tree))) }
 {}
 
 /// Parts that keep the usage rule write no variable in common.

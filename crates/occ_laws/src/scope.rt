@@ -5,6 +5,7 @@ ghost use Rattle.occ_laws.specs.Foundation.{AgreeOff, IsNoVariable, with_result}
 ghost use Rattle.occ_laws.specs.Rename.{stands};
 ghost use Rattle.occ_syntax.specs.Meaning.{Outcome, meaning};
 ghost use Rattle.occ_syntax.specs.Names.{free, uses_end, written};
+ghost use Rattle.occ_syntax.specs.Same.{SAME};
 ghost use Rattle.occ_syntax.specs.Scopes.{Environment, Trace, Values, allows, variable_width, with_value};
 ghost use Rattle.occ_syntax.specs.Tree.{Tree};
 ghost use Rattle.occ_syntax.specs.Types.{types_kept};
@@ -48,4 +49,9 @@ pub fn other_names_in_scope_do_not_matter()
 /// A part does the same whatever a name holds that is no variable of it, and leaves that value as it is.
 pub fn other_values_do_not_matter()
     ensures { (Θ : Environment) (p : Tree) → types_kept p Θ ≡ true → (x : ℕ) → IsNoVariable Θ p x → (Γ : Environment) (s : Values) (v : ℕ) (t : Trace) (o : Outcome) → (meaning p).does Γ s t o → (meaning p).does Γ (with_value s x v) t (with_result x v o) }
+{}
+
+/// Whether two parts are the same doesn't depend on a name that is free in neither: on whether it is in scope, and as what.
+pub fn same_whatever_other_names_are_in_scope()
+    ensures { (p q : Tree) (Θ Ψ : Environment) → types_kept p Θ ≡ true → types_kept q Ψ ≡ true → (x : ℕ) → free p x ≡ false → free q x ≡ false → (Γ Δ : Environment) → AgreeOff x Γ Δ → SAME Γ p q → SAME Δ p q }
 {}
