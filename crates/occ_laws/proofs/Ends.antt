@@ -5,7 +5,7 @@ use Rattle.occ_laws.proofs.Facts.{and_four, and_three, clash, either, false_not_
 use Rattle.occ_laws.proofs.Refusals.{after_end, unused_below}
 use Rattle.occ_laws.specs.Foundation.{AreOnEnds}
 use Rattle.occ_syntax.specs.Eval.{is_true}
-use Rattle.occ_syntax.specs.Meaning.{Alternates, Followed, Guards, Meaning, Outcome, Stopped, Taken, Together, Weave, WithChannel, WithVariable, alternatives, and_guard, assigned, at_end, at_event, at_once, at_ready, at_rest, at_the_same_time, beside, beside_all, both_done, chosen, ended, first_choice, followed, guards, in_first, in_second, in_turn, is_silent, meaning, never, no_guard, of_first, of_second, off_channel, over_channel, over_variable, refusing, stable, stopped, taken, together, unseen}
+use Rattle.occ_syntax.specs.Meaning.{Alternates, Followed, Guards, Meaning, Outcome, Stopped, Taken, Together, Weave, WithChannel, WithVariable, alternatives, and_guard, assigned, at_event, at_once, at_ready, at_the_same_time, beside, beside_all, both_done, chosen, ended, first_choice, followed, guards, in_first, in_second, in_turn, is_silent, meaning, never, no_guard, of_first, of_second, off_channel, over_channel, over_variable, refusing, stable, stopped, taken, together, unseen}
 use Rattle.occ_syntax.specs.Names.{end_in_branches, end_in_cases, end_in_some, end_in_waiting, uses_end}
 use Rattle.occ_syntax.specs.Scopes.{Environment, Trace, Values, with_name, with_value}
 use Rattle.occ_syntax.specs.Tree.{Branches, Cases, Exp, Tree, Trees, Waiting, alt, and_branch, and_case, and_tree, assign, connect, declare, input, no_branch, no_case, no_tree, output, par, receive, select, send, seq, skip, stop, truth}
@@ -57,16 +57,18 @@ followed_on u v m n hm hn Γ s t o (in_first {X = X} d) = on_more u (λ c d. u c
 followed_on u v m n hm hn Γ s t o (in_second t1 t2 s1 e d1 d2) =
     let P : Trace → Type 0 = λ r. AreOnEnds (λ c d. u c d || v c d) r in
     subst P (sym e) (on_both (λ c d. u c d || v c d) t1 t2
-      (on_more u (λ c d. u c d || v c d) (left_of u v) t1 (hm.on_ends Γ s t1 (ended s1) d1))
-      (on_more v (λ c d. u c d || v c d) (right_of u v) t2 (hn.on_ends Γ s1 t2 o d2)))
+    (on_more u (λ c d. u c d || v c d) (left_of u v) t1 (hm.on_ends Γ s t1 (ended s1) d1))
+    (on_more v (λ c d. u c d || v c d) (right_of u v) t2 (hn.on_ends Γ s1 t2 o d2)))
 
 pub followed_uses : (u v : ℕ → Dir → Bool) (m n : Meaning) → UsesOnly u m → UsesOnly v n → UsesOnly (λ c d. u c d || v c d) (followed m n)
 followed_uses u v m n hm hn = record { on_ends = followed_on u v m n hm hn }
 
 pub chosen_uses : (u v : ℕ → Dir → Bool) (e : Exp) (m n : Meaning) → UsesOnly u m → UsesOnly v n → UsesOnly (λ c d. u c d || v c d) (chosen e m n)
-chosen_uses u v e m n hm hn = record { on_ends = λ Γ s t o d. either (is_true Γ e s)
-    (λ h. on_more u (λ c d. u c d || v c d) (left_of u v) t (hm.on_ends Γ s t o h))
-    (λ h. on_more v (λ c d. u c d || v c d) (right_of u v) t (hn.on_ends Γ s t o h)) d }
+chosen_uses u v e m n hm hn = record {
+  on_ends = λ Γ s t o d. either (is_true Γ e s)
+      (λ h. on_more u (λ c d. u c d || v c d) (left_of u v) t (hm.on_ends Γ s t o h))
+      (λ h. on_more v (λ c d. u c d || v c d) (right_of u v) t (hn.on_ends Γ s t o h)) d;
+}
 
 taken_uses : (Γ : Environment) (s : Values) (w : Waiting) (t : Trace) (u : Values) (a : Trace) (v : ℕ → Dir → Bool) → ((c : ℕ) (d : Dir) → end_in_waiting w c d ≡ true → v c d ≡ true) → AreOnEnds v a → Taken Γ s w t u a → AreOnEnds v t
 taken_uses Γ s w t u a v imp h at_ready = h
@@ -78,10 +80,13 @@ no_guard_uses u = record { on_ends = λ Γ s t o d. absurd d }
 pub and_guard_uses : (u v : ℕ → Dir → Bool) (b : Exp) (w : Waiting) (m : Meaning) (g : Guards) → UsesOnly u m → UseOnly v g → UseOnly (λ c d. (end_in_waiting w c d || u c d) || v c d) (and_guard b w m g)
 and_guard_uses u v b w m g hm hg =
     let all : ℕ → Dir → Bool = λ c d. (end_in_waiting w c d || u c d) || v c d in
-    record { on_ends = λ Γ s t o d. elim d
-      [ inl k ↦ taken_uses Γ s w t k.1.0 k.1.1 all (λ c e h. or_left (end_in_waiting w c e || u c e) (v c e) (or_left (end_in_waiting w c e) (u c e) h))
-          (on_more u all (λ c e h. or_left (end_in_waiting w c e || u c e) (v c e) (or_right (end_in_waiting w c e) (u c e) h)) k.1.1 (hm.on_ends Γ k.1.0 k.1.1 o k.1.3)) k.1.2
-      | inr k ↦ on_more v all (λ c e h. or_right (end_in_waiting w c e || u c e) (v c e) h) t (hg.on_ends Γ s t o k) ] }
+    record {
+      on_ends = λ Γ s t o d. elim d [
+        | inl k ↦ taken_uses Γ s w t k.1.0 k.1.1 all (λ c e h. or_left (end_in_waiting w c e || u c e) (v c e) (or_left (end_in_waiting w c e) (u c e) h))
+            (on_more u all (λ c e h. or_left (end_in_waiting w c e || u c e) (v c e) (or_right (end_in_waiting w c e) (u c e) h)) k.1.1 (hm.on_ends Γ k.1.0 k.1.1 o k.1.3)) k.1.2
+        | inr k ↦ on_more v all (λ c e h. or_right (end_in_waiting w c e || u c e) (v c e) h) t (hg.on_ends Γ s t o k)
+      ];
+    }
 
 alternates_on : (u : ℕ → Dir → Bool) (g : Guards) → UseOnly u g → (Γ : Environment) (s : Values) (t : Trace) (o : Outcome) → Alternates g Γ s t o → AreOnEnds u t
 alternates_on u g hg Γ s t o (stable d) = tt
@@ -93,8 +98,8 @@ alternatives_uses u g hg = record { on_ends = alternates_on u g hg }
 together_on : (u v : ℕ → Dir → Bool) (m n : Meaning) → UsesOnly u m → UsesOnly v n → (Γ : Environment) (s : Values) (t : Trace) (o : Outcome) → Together m n Γ s t o → AreOnEnds (λ c d. u c d || v c d) t
 together_on u v m n hm hn Γ s t o (together t1 t2 o1 o2 woven c d1 d2) =
     on_woven (λ c d. u c d || v c d) t1 t2 t woven
-      (on_more u (λ c d. u c d || v c d) (left_of u v) t1 (hm.on_ends Γ s t1 o1 d1))
-      (on_more v (λ c d. u c d || v c d) (right_of u v) t2 (hn.on_ends Γ s t2 o2 d2))
+    (on_more u (λ c d. u c d || v c d) (left_of u v) t1 (hm.on_ends Γ s t1 o1 d1))
+    (on_more v (λ c d. u c d || v c d) (right_of u v) t2 (hn.on_ends Γ s t2 o2 d2))
 
 pub beside_uses : (u v : ℕ → Dir → Bool) (m n : Meaning) → UsesOnly u m → UsesOnly v n → UsesOnly (λ c d. u c d || v c d) (beside m n)
 beside_uses u v m n hm hn = record { on_ends = together_on u v m n hm hn }
@@ -106,7 +111,7 @@ variable_on u y w m hm Γ s t o (WithVariable.at_rest {X = X} v lt d) = hm.on_en
 pub variable_uses : (u : ℕ → Dir → Bool) (y : ℕ) (w : Width) (m : Meaning) → UsesOnly u m → UsesOnly u (over_variable y w m)
 variable_uses u y w m hm = record { on_ends = variable_on u y w m hm }
 
-silent_uses : (u : ℕ → Dir → Bool) (b : ℕ) (t : Trace) → is_silent b t ≡ true → AreOnEnds u t → AreOnEnds (λ c d. not (c == b) && u c d) t
+pub silent_uses : (u : ℕ → Dir → Bool) (b : ℕ) (t : Trace) → is_silent b t ≡ true → AreOnEnds u t → AreOnEnds (λ c d. not (c == b) && u c d) t
 silent_uses u b [] h k = tt
 silent_uses u b (e ∷ t) h k = let j = and_parts (not (e.chan.0 == b)) (is_silent b t) h in (and_from (not (e.chan.0 == b)) (u e.chan.0 e.dir) j.0 k.0, silent_uses u b t j.1 k.1)
 
@@ -122,7 +127,7 @@ alone_uses w =
     let u : ℕ → Dir → Bool = λ c d. false in
     let g = and_guard (truth true) w (at_once (λ Γ s. s)) no_guard in
     uses_weaker (λ c d. (end_in_waiting w c d || false) || false) (end_in_waiting w) (alternatives g) (λ c d h. first_of_three (end_in_waiting w c d) h)
-      (alternatives_uses (λ c d. (end_in_waiting w c d || false) || false) g (and_guard_uses u u (truth true) w (at_once (λ Γ s. s)) no_guard (once_uses u (λ Γ s. s)) (no_guard_uses u)))
+    (alternatives_uses (λ c d. (end_in_waiting w c d || false) || false) g (and_guard_uses u u (truth true) w (at_once (λ Γ s. s)) no_guard (once_uses u (λ Γ s. s)) (no_guard_uses u)))
   where
     first_of_three : (b : Bool) → ((b || false) || false) ≡ true → b ≡ true
     first_of_three true h = refl
@@ -150,7 +155,7 @@ mutual
   part_uses (declare x w p) Θ h =
       let k = (and_parts (can_declare Θ x w) (types_kept p (with_name Θ x (Var w))) h).1 in
       uses_weaker (uses_end p) (λ c d. not (c == x) && uses_end p c d) (over_variable x w (meaning p)) (used_below p Θ x w k)
-        (variable_uses (uses_end p) x w (meaning p) (part_uses p (with_name Θ x (Var w)) k))
+      (variable_uses (uses_end p) x w (meaning p) (part_uses p (with_name Θ x (Var w)) k))
   part_uses (connect c w p) Θ h = channel_uses (uses_end p) c w (meaning p) (part_uses p (with_name Θ c (Chan w None)) (and_parts (can_declare Θ c w) (types_kept p (with_name Θ c (Chan w None))) h).1)
 
   pub turn_uses : (ps : Trees) (Θ : Environment) → all_types_kept ps Θ ≡ true → UsesOnly (end_in_some ps) (in_turn ps)

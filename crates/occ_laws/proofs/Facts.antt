@@ -134,6 +134,7 @@ same_events e f h = let k = and_three (e.chan.0 == f.chan.0) (same_dir e.dir f.d
   where
     made : ℕ → Dir → ℕ → Event
     made c d v = record { chan = record { 0 = c }; dir = d; value = v }
+
     event_of : (c c' : ℕ) (d d' : Dir) (v v' : ℕ) → c ≡ c' → d ≡ d' → v ≡ v' → made c d v ≡ made c' d' v'
     event_of c c' d d' v v' hc hd hv = cc
 

@@ -5,7 +5,7 @@ use Rattle.occ_base.specs.declared.width.Width.{Width}
 use Rattle.occ_laws.proofs.Facts.{and_four, and_second, and_three, either, if_false, if_true, name_off, or_three, value_off}
 use Rattle.occ_laws.proofs.Typing.{pairs_in_scope, variable_in_scope}
 use Rattle.occ_syntax.specs.Eval.{eval, is_true}
-use Rattle.occ_syntax.specs.Meaning.{After, Alternates, Combines, Followed, Guards, Meaning, Outcome, Stopped, Taken, Together, WithChannel, WithVariable, alternatives, and_guard, assigned, at_end, at_event, at_once, at_ready, at_the_same_time, beside, beside_all, both_ended, chosen, ended, first_choice, followed, guards, in_second, in_turn, meaning, never, no_guard, over_channel, over_variable, taken, together}
+use Rattle.occ_syntax.specs.Meaning.{After, Alternates, Combines, Followed, Guards, Meaning, Outcome, Stopped, Taken, Together, WithChannel, WithVariable, alternatives, and_guard, assigned, at_event, at_once, at_ready, at_the_same_time, beside, beside_all, both_ended, chosen, ended, first_choice, followed, guards, in_second, in_turn, meaning, never, no_guard, over_channel, over_variable, taken, together}
 use Rattle.occ_syntax.specs.Names.{is_in, written, written_in_branches, written_in_cases, written_in_some, written_in_waiting}
 use Rattle.occ_syntax.specs.Scopes.{Environment, Trace, Values, allows, channel_width, variable_kind, variable_width, with_name, with_value}
 use Rattle.occ_syntax.specs.Tree.{Branches, Cases, Exp, Tree, Trees, Waiting, alt, and_branch, and_case, and_tree, assign, connect, declare, input, no_branch, no_case, no_tree, output, par, ready, receive, select, send, seq, skip, stop, truth}
@@ -64,8 +64,8 @@ mutual
   branches_written_in_scope (and_branch e w p bs) Γ h x k =
       let j = and_four (is_condition Γ e) (waiting_kept Γ w) (types_kept p Γ) (branches_kept bs Γ) h in
       or_from (written_in_waiting w x || written p x) (written_in_branches bs x)
-        (or_from (written_in_waiting w x) (written p x) (written_in_waiting_scope Γ x k w j.1) (written_in_scope p Γ j.2 x k))
-        (branches_written_in_scope bs Γ j.3 x k)
+      (or_from (written_in_waiting w x) (written p x) (written_in_waiting_scope Γ x k w j.1) (written_in_scope p Γ j.2 x k))
+      (branches_written_in_scope bs Γ j.3 x k)
 
 -- ---- one operator at a time
 
@@ -118,8 +118,10 @@ no_guard_value : (x : ℕ) → KeepValue x no_guard
 no_guard_value x = record { value = λ Γ s t s' d. absurd d }
 
 and_guard_value : (x : ℕ) (e : Exp) (w : Waiting) (m : Meaning) (g : Guards) → written_in_waiting w x ≡ false → KeepsValue x m → KeepValue x g → KeepValue x (and_guard e w m g)
-and_guard_value x e w m g h hm hg = record { value = λ Γ s t s' d.
-    elim d [ inl k ↦ hm.value Γ k.1.0 k.1.1 s' k.1.3 ∙ taken_value Γ s x w t k.1.0 k.1.1 h k.1.2 | inr k ↦ hg.value Γ s t s' k ] }
+and_guard_value x e w m g h hm hg = record {
+  value = λ Γ s t s' d.
+      elim d [ inl k ↦ hm.value Γ k.1.0 k.1.1 s' k.1.3 ∙ taken_value Γ s x w t k.1.0 k.1.1 h k.1.2 | inr k ↦ hg.value Γ s t s' k ];
+}
 
 alternates_end : (x : ℕ) (g : Guards) → KeepValue x g → (Γ : Environment) (s : Values) (t : Trace) (s' : Values) → Alternates g Γ s t (ended s') → s' x ≡ s x
 alternates_end x g hg Γ s t s' (taken d) = hg.value Γ s t s' d
@@ -137,8 +139,8 @@ combined_value Γ s x o1 o2 s' first second (both_ended {s1 = a} {s2 = b} {s' = 
 together_end : (x : ℕ) (m n : Meaning) → KeepsValue x m → KeepsValue x n → (Γ : Environment) (s : Values) (t : Trace) (s' : Values) → Together m n Γ s t (ended s') → s' x ≡ s x
 together_end x m n hm hn Γ s t s' (together t1 t2 o1 o2 woven c d1 d2) =
     combined_value Γ s x o1 o2 s'
-      (λ s1 e. hm.value Γ s t1 s1 (let P : Outcome → Type 0 = λ o. m.does Γ s t1 o in subst P e d1))
-      (λ s2 e. hn.value Γ s t2 s2 (let P : Outcome → Type 0 = λ o. n.does Γ s t2 o in subst P e d2)) c
+    (λ s1 e. hm.value Γ s t1 s1 (let P : Outcome → Type 0 = λ o. m.does Γ s t1 o in subst P e d1))
+    (λ s2 e. hn.value Γ s t2 s2 (let P : Outcome → Type 0 = λ o. n.does Γ s t2 o in subst P e d2)) c
 
 pub beside_value : (x : ℕ) (m n : Meaning) → KeepsValue x m → KeepsValue x n → KeepsValue x (beside m n)
 beside_value x m n hm hn = record { value = together_end x m n hm hn }
@@ -149,9 +151,10 @@ beside_all_value x (and_tree p ps) m n hm hn = beside_value x m n hm hn
 
 variable_end : (x y : ℕ) (w : Width) (m : Meaning) → ((x == y) ≡ false → KeepsValue x m) → (Γ : Environment) (s : Values) (t : Trace) (s' : Values) → WithVariable y w m Γ s t (ended s') → s' x ≡ s x
 variable_end x y w m hm Γ s t s' (WithVariable.at_end v s1 lt e d) =
-    ap (λ r. r x) e ∙ elim (eqb_tells x y)
-      [ inl k ↦ if_true (x == y) (s y) (s1 x) k.0 ∙ ap s (sym k.1)
-      | inr k ↦ if_false (x == y) (s y) (s1 x) k.0 ∙ ((hm k.0).value (with_name Γ y (Var w)) (with_value s y v) t s1 d ∙ value_off s y v x k.0) ]
+    ap (λ r. r x) e ∙ elim (eqb_tells x y) [
+      | inl k ↦ if_true (x == y) (s y) (s1 x) k.0 ∙ ap s (sym k.1)
+      | inr k ↦ if_false (x == y) (s y) (s1 x) k.0 ∙ ((hm k.0).value (with_name Γ y (Var w)) (with_value s y v) t s1 d ∙ value_off s y v x k.0)
+    ]
 
 variable_value : (x y : ℕ) (w : Width) (m : Meaning) → ((x == y) ≡ false → KeepsValue x m) → KeepsValue x (over_variable y w m)
 variable_value x y w m hm = record { value = variable_end x y w m hm }
@@ -167,9 +170,10 @@ guard_alone x w h = alternatives_value x (and_guard (truth true) w (at_once (λ 
 
 -- under a channel of that name nothing is written either
 unwritten_below : (p : Tree) (Γ : Environment) (x c : ℕ) (w : Width) → types_kept p (with_name Γ c (Chan w None)) ≡ true → (not (x == c) && written p x) ≡ false → written p x ≡ false
-unwritten_below p Γ x c w h k = elim (cases_Bool (x == c))
-    [ inl e ↦ written_in_scope p (with_name Γ c (Chan w None)) h x (no_variable_at Γ x c w e)
-    | inr e ↦ and_second (not (x == c)) (written p x) k (not_from_false (x == c) e) ]
+unwritten_below p Γ x c w h k = elim (cases_Bool (x == c)) [
+  | inl e ↦ written_in_scope p (with_name Γ c (Chan w None)) h x (no_variable_at Γ x c w e)
+  | inr e ↦ and_second (not (x == c)) (written p x) k (not_from_false (x == c) e)
+]
 
 -- ---- the whole language
 

@@ -8,7 +8,7 @@ use Rattle.occ_laws.proofs.Free.{no_end, some_no_end}
 use Rattle.occ_laws.proofs.Refusals.{Extends, RefusesMore, parallel_more, part_more}
 use Rattle.occ_laws.specs.Foundation.{AgreeOff}
 use Rattle.occ_syntax.specs.Eval.{applied, bits_in, bits_of_exp, eval, is_true, keeps_width}
-use Rattle.occ_syntax.specs.Meaning.{After, Alternates, Combines, Followed, Guards, IsQuiet, Meaning, Outcome, Taken, Together, Weave, WithChannel, WithVariable, alternatives, and_guard, answered, assigned, at_end, at_event, at_once, at_ready, at_rest, at_the_same_time, beside, beside_all, both_ended, chosen, ended, first_choice, first_ended, followed, guards, in_first, in_second, in_turn, meaning, neither_ended, never, no_guard, off_channel, over_channel, over_variable, refused_with, refusing, second_ended, stable, taken, together}
+use Rattle.occ_syntax.specs.Meaning.{After, Alternates, Combines, Followed, Guards, IsQuiet, Meaning, Outcome, Taken, Together, Weave, WithChannel, WithVariable, alternatives, and_guard, answered, assigned, at_event, at_once, at_ready, at_the_same_time, beside, beside_all, both_ended, chosen, ended, first_choice, first_ended, followed, guards, in_first, in_second, in_turn, meaning, neither_ended, never, no_guard, off_channel, over_channel, over_variable, refused_with, refusing, second_ended, stable, taken, together}
 use Rattle.occ_syntax.specs.Names.{end_in_some, free, free_in_branches, free_in_cases, free_in_some, free_in_waiting, is_in, names, some_names, uses_end}
 use Rattle.occ_syntax.specs.Scopes.{Environment, EventSet, Trace, Values, channel_kind, has_width, in_scope, variable_kind, with_name, with_value}
 use Rattle.occ_syntax.specs.Tree.{Branches, Cases, Exp, Tree, Trees, Waiting, alt, and_branch, and_case, and_tree, assign, complement, connect, declare, input, negation, no_branch, no_case, no_tree, numeral, operation, output, par, ready, receive, select, send, seq, skip, stop, truth, variable}
@@ -28,9 +28,10 @@ agree_below x y Γ Δ kind h z off = let P : Option Kind → Type 0 = λ o. (if 
 
 -- under a declaration of that very name the two are one
 pub agree_same : (x : ℕ) (Γ Δ : Environment) (kind : Kind) → AgreeOff x Γ Δ → with_name Γ x kind ≡ with_name Δ x kind
-agree_same x Γ Δ kind h = fun_ext (λ y. elim (cases_Bool (y == x))
-    [ inl e ↦ if_true (y == x) (Some kind) (Γ y) e ∙ sym (if_true (y == x) (Some kind) (Δ y) e)
-    | inr e ↦ if_false (y == x) (Some kind) (Γ y) e ∙ (h y e ∙ sym (if_false (y == x) (Some kind) (Δ y) e)) ])
+agree_same x Γ Δ kind h = fun_ext (λ y. elim (cases_Bool (y == x)) [
+  | inl e ↦ if_true (y == x) (Some kind) (Γ y) e ∙ sym (if_true (y == x) (Some kind) (Δ y) e)
+  | inr e ↦ if_false (y == x) (Some kind) (Γ y) e ∙ (h y e ∙ sym (if_false (y == x) (Some kind) (Δ y) e))
+])
 
 -- ---- expressions
 
@@ -51,8 +52,8 @@ same_value x Γ Δ s h (complement e) k = ap (λ n. 2 ^ n - 1 - eval Γ e s) (sa
 same_value x Γ Δ s h (operation op left right) k =
     let j = or_parts (names left x) (names right x) k in
     ap (λ n. applied op n (eval Γ left s) (eval Γ right s)) (same_bits x Γ Δ h left j.0)
-      ∙ (ap (λ n. applied op (bits_of_exp Δ left) n (eval Γ right s)) (same_value x Γ Δ s h left j.0)
-      ∙ ap (λ n. applied op (bits_of_exp Δ left) (eval Δ left s) n) (same_value x Γ Δ s h right j.1))
+    ∙ (ap (λ n. applied op (bits_of_exp Δ left) n (eval Γ right s)) (same_value x Γ Δ s h left j.0)
+    ∙ ap (λ n. applied op (bits_of_exp Δ left) (eval Δ left s) n) (same_value x Γ Δ s h right j.1))
 
 pub same_truth : (x : ℕ) (Γ Δ : Environment) (s : Values) → AgreeOff x Γ Δ → (e : Exp) → names e x ≡ false → is_true Γ e s ≡ is_true Δ e s
 same_truth x Γ Δ s h e k = ap (λ n. n == 1) (same_value x Γ Δ s h e k)
@@ -93,9 +94,11 @@ pub followed_moves : (Γ Δ : Environment) (m n : Meaning) → Moves Γ Δ m →
 followed_moves Γ Δ m n hm hn = record { moved = followed_does Γ Δ m n hm hn }
 
 pub chosen_moves : (Γ Δ : Environment) (e : Exp) (m n : Meaning) → ((s : Values) → is_true Γ e s ≡ is_true Δ e s) → Moves Γ Δ m → Moves Γ Δ n → Moves Γ Δ (chosen e m n)
-chosen_moves Γ Δ e m n same hm hn = record { moved = λ s t o d.
-    let P : Bool → Type 0 = λ b. MatchBool b (m.does Δ s t o) (n.does Δ s t o) in
-    subst P (same s) (both (is_true Γ e s) (λ h. hm.moved s t o h) (λ h. hn.moved s t o h) d) }
+chosen_moves Γ Δ e m n same hm hn = record {
+  moved = λ s t o d.
+      let P : Bool → Type 0 = λ b. MatchBool b (m.does Δ s t o) (n.does Δ s t o) in
+      subst P (same s) (both (is_true Γ e s) (λ h. hm.moved s t o h) (λ h. hn.moved s t o h) d);
+}
 
 pub after_moves : (x : ℕ) (Γ Δ : Environment) (s : Values) → AgreeOff x Γ Δ → (w : Waiting) → free_in_waiting w x ≡ false → (e : Event) (u : Values) → After Γ s w e u → After Δ s w e u
 after_moves x Γ Δ s h ready k e u a = a
@@ -114,14 +117,16 @@ no_guard_moves Γ Δ = record { first = λ s X d. d; later = λ s t o d. d }
 
 pub and_guard_moves : (x : ℕ) (Γ Δ : Environment) → AgreeOff x Γ Δ → (b : Exp) (w : Waiting) (m : Meaning) (g : Guards) → names b x ≡ false → free_in_waiting w x ≡ false → Moves Γ Δ m → GuardsMove Γ Δ g → GuardsMove Γ Δ (and_guard b w m g)
 and_guard_moves x Γ Δ h b w m g kb kw hm hg = record {
-  first = λ s X d.
-    (let P : Bool → Type 0 = λ c. MatchBool c (IsQuiet Δ s w X) (Unit {0}) in
-      subst P (same_truth x Γ Δ s h b kb)
+  first = λ s X d. (
+    let P : Bool → Type 0 = λ c. MatchBool c (IsQuiet Δ s w X) (Unit {0}) in
+        subst P (same_truth x Γ Δ s h b kb)
         (both (is_true Γ b s) (λ q. record { not_ready = q.not_ready; refused = λ e u a. q.refused e u (after_moves x Δ Γ s (agree_turned x Γ Δ h) w kw e u a) }) (λ q. q) d.0),
-     hg.first s X d.1);
-  later = λ s t o d. elim d
-    [ inl k ↦ inl (sym (same_truth x Γ Δ s h b kb) ∙ k.0, (k.1.0, k.1.1, taken_moves Γ Δ s w (after_moves x Γ Δ s h w kw) t k.1.0 k.1.1 k.1.2, hm.moved k.1.0 k.1.1 o k.1.3))
-    | inr k ↦ inr (hg.later s t o k) ];
+    hg.first s X d.1,
+  );
+  later = λ s t o d. elim d [
+    | inl k ↦ inl (sym (same_truth x Γ Δ s h b kb) ∙ k.0, (k.1.0, k.1.1, taken_moves Γ Δ s w (after_moves x Γ Δ s h w kw) t k.1.0 k.1.1 k.1.2, hm.moved k.1.0 k.1.1 o k.1.3))
+    | inr k ↦ inr (hg.later s t o k)
+  ];
 }
 
 alternates_move : (Γ Δ : Environment) (g : Guards) → GuardsMove Γ Δ g → (s : Values) (t : Trace) (o : Outcome) → Alternates g Γ s t o → Alternates g Δ s t o
@@ -133,11 +138,13 @@ alternatives_move Γ Δ g hg = record { moved = alternates_move Γ Δ g hg }
 
 -- the events in scope differ on the channel of that name alone
 scope_moves : (x : ℕ) (Γ Δ : Environment) → AgreeOff x Γ Δ → (u : ℕ → Dir → Bool) → ((d : Dir) → u x d ≡ false) → (X Y : EventSet) → Extends u (refused_with Γ X Y) (refused_with Δ X Y)
-scope_moves x Γ Δ h u unused X Y e k = elim (or_cases (X e) (in_scope Δ e && Y e) k)
-    [ inl j ↦ inl (or_left (X e) (in_scope Γ e && Y e) j)
-    | inr j ↦ elim (eqb_tells e.chan.0 x)
-        [ inl i ↦ inr (let P : ℕ → Type 0 = λ c. u c e.dir ≡ false in subst P (sym i.1) (unused e.dir))
-        | inr i ↦ inl (or_right (X e) (in_scope Γ e && Y e) (let P : Option Kind → Type 0 = λ o. (has_width (channel_kind o) e.value && Y e) ≡ true in subst P (sym (h e.chan.0 i.0)) j)) ] ]
+scope_moves x Γ Δ h u unused X Y e k = elim (or_cases (X e) (in_scope Δ e && Y e) k) [
+  | inl j ↦ inl (or_left (X e) (in_scope Γ e && Y e) j)
+  | inr j ↦ elim (eqb_tells e.chan.0 x) [
+    | inl i ↦ inr (let P : ℕ → Type 0 = λ c. u c e.dir ≡ false in subst P (sym i.1) (unused e.dir))
+    | inr i ↦ inl (or_right (X e) (in_scope Γ e && Y e) (let P : Option Kind → Type 0 = λ o. (has_width (channel_kind o) e.value && Y e) ≡ true in subst P (sym (h e.chan.0 i.0)) j))
+  ]
+]
 
 combine_move : (x : ℕ) (Γ Δ : Environment) → AgreeOff x Γ Δ → (u v : ℕ → Dir → Bool) (m n : Meaning) → ((d : Dir) → u x d ≡ false) → ((d : Dir) → v x d ≡ false) → RefusesMore u m → RefusesMore v n → Moves Γ Δ m → Moves Γ Δ n
     → (s : Values) (t1 t2 t : Trace) → Weave t1 t2 t → (o1 o2 o : Outcome) → m.does Γ s t1 o1 → n.does Γ s t2 o2 → Combines Γ s o1 o2 o → Together m n Δ s t o
@@ -149,8 +156,8 @@ combine_move x Γ Δ h u v m n ku kv rm rn hm hn s t1 t2 t woven o1 o2 o d1 d2 (
     together t1 t2 (refusing X) (ended b) woven second_ended (hm.moved s t1 (refusing X) d1) (hn.moved s t2 (ended b) d2)
 combine_move x Γ Δ h u v m n ku kv rm rn hm hn s t1 t2 t woven o1 o2 o d1 d2 (neither_ended X Y) =
     together t1 t2 (refusing (refused_with Δ X Y)) (refusing (refused_with Δ X (answered Y))) woven (neither_ended X Y)
-      (rm.more Δ s t1 (refused_with Γ X Y) (refused_with Δ X Y) (scope_moves x Γ Δ h u ku X Y) (hm.moved s t1 (refusing (refused_with Γ X Y)) d1))
-      (rn.more Δ s t2 (refused_with Γ X (answered Y)) (refused_with Δ X (answered Y)) (scope_moves x Γ Δ h v kv X (answered Y)) (hn.moved s t2 (refusing (refused_with Γ X (answered Y))) d2))
+    (rm.more Δ s t1 (refused_with Γ X Y) (refused_with Δ X Y) (scope_moves x Γ Δ h u ku X Y) (hm.moved s t1 (refusing (refused_with Γ X Y)) d1))
+    (rn.more Δ s t2 (refused_with Γ X (answered Y)) (refused_with Δ X (answered Y)) (scope_moves x Γ Δ h v kv X (answered Y)) (hn.moved s t2 (refusing (refused_with Γ X (answered Y))) d2))
 
 together_moves : (x : ℕ) (Γ Δ : Environment) → AgreeOff x Γ Δ → (u v : ℕ → Dir → Bool) (m n : Meaning) → ((d : Dir) → u x d ≡ false) → ((d : Dir) → v x d ≡ false) → RefusesMore u m → RefusesMore v n → Moves Γ Δ m → Moves Γ Δ n
     → (s : Values) (t : Trace) (o : Outcome) → Together m n Γ s t o → Together m n Δ s t o
@@ -183,9 +190,10 @@ beside_all_moves x Γ Δ h p (and_tree q qs) ku kv rm rn hm hn = beside_moves x 
 
 -- inside a declaration of a name
 below_moves : (x y : ℕ) (Γ Δ : Environment) (kind : Kind) (p : Tree) → AgreeOff x Γ Δ → (not (x == y) && free p x) ≡ false → (free p x ≡ false → AgreeOff x (with_name Γ y kind) (with_name Δ y kind) → Moves (with_name Γ y kind) (with_name Δ y kind) (meaning p)) → Moves (with_name Γ y kind) (with_name Δ y kind) (meaning p)
-below_moves x y Γ Δ kind p h k ih = elim (eqb_tells x y)
-    [ inl e ↦ moves_along (with_name Γ y kind) (with_name Δ y kind) (meaning p) (let P : ℕ → Type 0 = λ z. with_name Γ z kind ≡ with_name Δ z kind in subst P e.1 (agree_same x Γ Δ kind h))
-    | inr e ↦ ih (and_second (not (x == y)) (free p x) k (not_from_false (x == y) e.0)) (agree_below x y Γ Δ kind h) ]
+below_moves x y Γ Δ kind p h k ih = elim (eqb_tells x y) [
+  | inl e ↦ moves_along (with_name Γ y kind) (with_name Δ y kind) (meaning p) (let P : ℕ → Type 0 = λ z. with_name Γ z kind ≡ with_name Δ z kind in subst P e.1 (agree_same x Γ Δ kind h))
+  | inr e ↦ ih (and_second (not (x == y)) (free p x) k (not_from_false (x == y) e.0)) (agree_below x y Γ Δ kind h)
+]
 
 -- ---- the whole language
 

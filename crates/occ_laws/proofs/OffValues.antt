@@ -8,7 +8,7 @@ use Rattle.occ_laws.proofs.Frame.{no_variable_at, still_no_variable}
 use Rattle.occ_laws.proofs.Typing.{condition_in_scope, names_in_scope, output_types, pairs_in_scope, variable_in_scope}
 use Rattle.occ_laws.specs.Foundation.{with_result}
 use Rattle.occ_syntax.specs.Eval.{applied, bits_of_exp, eval, is_true}
-use Rattle.occ_syntax.specs.Meaning.{After, Alternates, Combines, Followed, Guards, IsQuiet, Meaning, Outcome, Stopped, Taken, Together, WithChannel, WithVariable, alternatives, and_guard, assigned, at_end, at_event, at_once, at_ready, at_rest, at_the_same_time, beside, beside_all, both_ended, chosen, ended, first_choice, first_ended, followed, guards, in_first, in_second, in_turn, join, meaning, neither_ended, never, no_guard, off_channel, over_channel, over_variable, refusing, second_ended, stable, stopped, taken, together}
+use Rattle.occ_syntax.specs.Meaning.{After, Alternates, Combines, Followed, Guards, IsQuiet, Meaning, Outcome, Stopped, Taken, Together, WithChannel, WithVariable, alternatives, and_guard, assigned, at_event, at_once, at_ready, at_the_same_time, beside, beside_all, both_ended, chosen, ended, first_choice, first_ended, followed, guards, in_first, in_second, in_turn, join, meaning, neither_ended, never, no_guard, off_channel, over_channel, over_variable, refusing, second_ended, stable, stopped, taken, together}
 use Rattle.occ_syntax.specs.Names.{free, free_in_branches, free_in_cases, free_in_some, free_in_waiting, is_in, names, some_names}
 use Rattle.occ_syntax.specs.Scopes.{Environment, EventSet, Trace, Values, allows, channel_width, variable_width, with_name, with_value}
 use Rattle.occ_syntax.specs.Tree.{Branches, Cases, Exp, Tree, Trees, Waiting, alt, and_branch, and_case, and_tree, assign, complement, connect, declare, input, negation, no_branch, no_case, no_tree, numeral, operation, output, par, ready, receive, select, send, seq, skip, stop, truth, variable}
@@ -19,7 +19,6 @@ use Rattle.std.proofs.Common.{Bool, List, MatchBool, None, [], ap, false, if◌t
 use Rattle.std.proofs.lemmas.Bool.{and_parts, cases_Bool, eq-eqb, eqb-true, not_from_false, or_parts}
 use Rattle.std.proofs.lemmas.Bool.Decides.{eqb_tells}
 use mathlib.Core.Path.{fun_ext}
-
 
 swap_ifs : (p q : Bool) (a v c : ℕ) → (p ≡ true → q ≡ true → ⊥) → (if p then a else if q then v else c) ≡ (if q then v else if p then a else c)
 swap_ifs true true a v c no_both = absurd (no_both refl refl)
@@ -52,7 +51,7 @@ value_unnamed Γ s x v (complement e) k = ap (λ n. 2 ^ bits_of_exp Γ e - 1 - n
 value_unnamed Γ s x v (operation op left right) k =
     let j = or_parts (names left x) (names right x) k in
     ap (λ n. applied op (bits_of_exp Γ left) n (eval Γ right s)) (value_unnamed Γ s x v left j.0)
-      ∙ ap (λ n. applied op (bits_of_exp Γ left) (eval Γ left (with_value s x v)) n) (value_unnamed Γ s x v right j.1)
+    ∙ ap (λ n. applied op (bits_of_exp Γ left) (eval Γ left (with_value s x v)) n) (value_unnamed Γ s x v right j.1)
 
 pub truth_unnamed : (Γ : Environment) (s : Values) (x v : ℕ) (e : Exp) → names e x ≡ false → is_true Γ e s ≡ is_true Γ e (with_value s x v)
 truth_unnamed Γ s x v e k = ap (λ n. n == 1) (value_unnamed Γ s x v e k)
@@ -64,7 +63,7 @@ assigned_unnamed Γ s x v (y ∷ xs) (e ∷ es) h k =
     let i = or_parts (x == y) (is_in xs x) h in
     let j = or_parts (names e x) (some_names es x) k in
     sym (swap_values (assigned xs es Γ s) x v y (eval Γ e s) i.0)
-      ∙ (ap (λ r. with_value r y (eval Γ e s)) (assigned_unnamed Γ s x v xs es i.1 j.1) ∙ ap (λ n. with_value (assigned xs es Γ (with_value s x v)) y n) (value_unnamed Γ s x v e j.0))
+    ∙ (ap (λ r. with_value r y (eval Γ e s)) (assigned_unnamed Γ s x v xs es i.1 j.1) ∙ ap (λ n. with_value (assigned xs es Γ (with_value s x v)) y n) (value_unnamed Γ s x v e j.0))
 
 -- ---- one operator at a time
 
@@ -95,9 +94,11 @@ pub followed_ignores : (x : ℕ) (m n : Meaning) → Ignores x m → Ignores x n
 followed_ignores x m n hm hn = record { ignored = followed_does x m n hm hn }
 
 pub chosen_ignores : (x : ℕ) (e : Exp) (m n : Meaning) → names e x ≡ false → Ignores x m → Ignores x n → Ignores x (chosen e m n)
-chosen_ignores x e m n k hm hn = record { ignored = λ Γ s v t o d.
-    let P : Bool → Type 0 = λ b. MatchBool b (m.does Γ (with_value s x v) t (with_result x v o)) (n.does Γ (with_value s x v) t (with_result x v o)) in
-    subst P (truth_unnamed Γ s x v e k) (both (is_true Γ e s) (λ h. hm.ignored Γ s v t o h) (λ h. hn.ignored Γ s v t o h) d) }
+chosen_ignores x e m n k hm hn = record {
+  ignored = λ Γ s v t o d.
+      let P : Bool → Type 0 = λ b. MatchBool b (m.does Γ (with_value s x v) t (with_result x v o)) (n.does Γ (with_value s x v) t (with_result x v o)) in
+      subst P (truth_unnamed Γ s x v e k) (both (is_true Γ e s) (λ h. hm.ignored Γ s v t o h) (λ h. hn.ignored Γ s v t o h) d);
+}
 
 -- the expression and the variable of a guard aren't that name
 abbrev pub Aloof : Waiting → ℕ → Type 0
@@ -125,14 +126,16 @@ no_guard_ignores x = record { first = λ Γ s v X d. d; later = λ Γ s v t o d.
 
 pub and_guard_ignores : (x : ℕ) (b : Exp) (w : Waiting) (m : Meaning) (g : Guards) → names b x ≡ false → Aloof w x → Ignores x m → Ignore x g → Ignore x (and_guard b w m g)
 and_guard_ignores x b w m g kb kw hm hg = record {
-  first = λ Γ s v X d.
-    (let P : Bool → Type 0 = λ c. MatchBool c (IsQuiet Γ (with_value s x v) w X) (Unit {0}) in
-      subst P (truth_unnamed Γ s x v b kb)
+  first = λ Γ s v X d. (
+    let P : Bool → Type 0 = λ c. MatchBool c (IsQuiet Γ (with_value s x v) w X) (Unit {0}) in
+        subst P (truth_unnamed Γ s x v b kb)
         (both (is_true Γ b s) (λ q. record { not_ready = q.not_ready; refused = λ e u a. let r = after_from Γ s x v w kw e u a in q.refused e r.0 r.1 }) (λ q. q) d.0),
-     hg.first Γ s v X d.1);
-  later = λ Γ s v t o d. elim d
-    [ inl k ↦ inl (sym (truth_unnamed Γ s x v b kb) ∙ k.0, (with_value k.1.0 x v, k.1.1, taken_ignores Γ s x v w kw t k.1.0 k.1.1 k.1.2, hm.ignored Γ k.1.0 v k.1.1 o k.1.3))
-    | inr k ↦ inr (hg.later Γ s v t o k) ];
+    hg.first Γ s v X d.1,
+  );
+  later = λ Γ s v t o d. elim d [
+    | inl k ↦ inl (sym (truth_unnamed Γ s x v b kb) ∙ k.0, (with_value k.1.0 x v, k.1.1, taken_ignores Γ s x v w kw t k.1.0 k.1.1 k.1.2, hm.ignored Γ k.1.0 v k.1.1 o k.1.3))
+    | inr k ↦ inr (hg.later Γ s v t o k)
+  ];
 }
 
 alternates_ignore : (x : ℕ) (g : Guards) → Ignore x g → (Γ : Environment) (s : Values) (v : ℕ) (t : Trace) (o : Outcome) → Alternates g Γ s t o → Alternates g Γ (with_value s x v) t (with_result x v o)
@@ -179,16 +182,17 @@ variable_does : (x y : ℕ) (w : Width) (m : Meaning) → (x == y) ≡ false →
 variable_does x y w m off hm Γ s v t o (WithVariable.at_end {s' = r} u s1 lt e d) =
     let P : Values → Type 0 = λ q. m.does (with_name Γ y (Var w)) q t (ended (with_value s1 x v)) in
     WithVariable.at_end u (with_value s1 x v) lt
-      (ap (λ q. with_value q x v) e ∙ (sym (swap_values s1 x v y (s y) off) ∙ ap (λ n. with_value (with_value s1 x v) y n) (sym (value_off s x v y (off_turned x y off)))))
-      (subst P (sym (swap_values s x v y u off)) (hm.ignored (with_name Γ y (Var w)) (with_value s y u) v t (ended s1) d))
+    (ap (λ q. with_value q x v) e ∙ (sym (swap_values s1 x v y (s y) off) ∙ ap (λ n. with_value (with_value s1 x v) y n) (sym (value_off s x v y (off_turned x y off)))))
+    (subst P (sym (swap_values s x v y u off)) (hm.ignored (with_name Γ y (Var w)) (with_value s y u) v t (ended s1) d))
 variable_does x y w m off hm Γ s v t o (WithVariable.at_rest {X = X} u lt d) =
     let P : Values → Type 0 = λ q. m.does (with_name Γ y (Var w)) q t (refusing X) in
     WithVariable.at_rest u lt (subst P (sym (swap_values s x v y u off)) (hm.ignored (with_name Γ y (Var w)) (with_value s y u) v t (refusing X) d))
 
 pub variable_ignores : (x y : ℕ) (w : Width) (m : Meaning) → ((x == y) ≡ false → Ignores x m) → Ignores x (over_variable y w m)
-variable_ignores x y w m hm = elim (eqb_tells x y)
-    [ inl e ↦ (let P : ℕ → Type 0 = λ z. Ignores x (over_variable z w m) in subst P e.1 (record { ignored = declared_does x w m }))
-    | inr e ↦ record { ignored = variable_does x y w m e.0 (hm e.0) } ]
+variable_ignores x y w m hm = elim (eqb_tells x y) [
+  | inl e ↦ (let P : ℕ → Type 0 = λ z. Ignores x (over_variable z w m) in subst P e.1 (record { ignored = declared_does x w m }))
+  | inr e ↦ record { ignored = variable_does x y w m e.0 (hm e.0) }
+]
 
 channel_does : (x c : ℕ) (w : Width) (m : Meaning) → Ignores x m → (Γ : Environment) (s : Values) (v : ℕ) (t : Trace) (o : Outcome) → WithChannel c w m Γ s t o → WithChannel c w m Γ (with_value s x v) t (with_result x v o)
 channel_does x c w m hm Γ s v t o (WithChannel.at_end {s1 = r} silent d) = WithChannel.at_end silent (hm.ignored (with_name Γ c (Chan w None)) s v t (ended r) d)

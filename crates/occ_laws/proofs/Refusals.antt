@@ -8,7 +8,7 @@ use Rattle.occ_laws.proofs.Facts.{and_four, and_second, and_three, at_itself, bo
 use Rattle.occ_laws.proofs.Frame.{not_and}
 use Rattle.occ_laws.proofs.Typing.{input_types, output_types}
 use Rattle.occ_syntax.specs.Eval.{is_true}
-use Rattle.occ_syntax.specs.Meaning.{After, Alternates, Combines, Followed, Guards, IsQuiet, Meaning, Outcome, Stopped, Together, Weave, WithChannel, WithVariable, alternatives, and_guard, answered, assigned, at_once, at_rest, at_the_same_time, beside, beside_all, chosen, ended, first_choice, first_ended, followed, guards, in_first, in_second, in_turn, meaning, neither_ended, never, no_guard, off_channel, over_channel, over_variable, refused_with, refusing, second_ended, stable, stopped, taken, together}
+use Rattle.occ_syntax.specs.Meaning.{After, Alternates, Combines, Followed, Guards, IsQuiet, Meaning, Outcome, Stopped, Together, Weave, WithChannel, WithVariable, alternatives, and_guard, answered, assigned, at_once, at_the_same_time, beside, beside_all, chosen, ended, first_choice, first_ended, followed, guards, in_first, in_second, in_turn, meaning, neither_ended, never, no_guard, off_channel, over_channel, over_variable, refused_with, refusing, second_ended, stable, stopped, taken, together}
 use Rattle.occ_syntax.specs.Names.{end_in_branches, end_in_cases, end_in_some, end_in_waiting, uses_end}
 use Rattle.occ_syntax.specs.Scopes.{Environment, EventSet, Trace, Values, allows, in_scope, same_dir, with_name, with_value}
 use Rattle.occ_syntax.specs.Tree.{Branches, Cases, Exp, Tree, Trees, Waiting, alt, and_branch, and_case, and_tree, assign, connect, declare, input, no_branch, no_case, no_tree, output, par, ready, receive, select, send, seq, skip, stop, truth}
@@ -18,13 +18,12 @@ use Rattle.occ_syntax.specs.declared.scope.Kind.TheVariants.{Chan, Var}
 use Rattle.std.proofs.Common.{Bool, None, Some, ap, false, inl, inr, not, refl, subst, sym, true, ℕ, ◌&&◌, ◌==◌, ◌||◌, ◌∙◌, ◌≡◌, ◌⊎◌}
 use Rattle.std.proofs.lemmas.Bool.{and_from, and_parts, cases_Bool, eqb-true, false_from_ne_true, not_from_false, or_cases, or_from, or_left, or_parts, or_right}
 
-
 end_allowed : (Γ : Environment) (b c : ℕ) (d e : Dir) → allows (Γ b) e ≡ true → allows (Γ c) d ≡ false → (c == b && same_dir d e) ≡ false
 end_allowed Γ b c d e yes_b no_c = false_from_ne_true (c == b && same_dir d e)
     (λ h. let k = and_parts (c == b) (same_dir d e) h in
-      let P : ℕ → Type 0 = λ n. allows (Γ n) d ≡ false in
-      let Q : Dir → Type 0 = λ n. allows (Γ b) n ≡ false in
-      clash (allows (Γ b) e) yes_b (subst Q (same_dirs d e k.1) (subst P (eqb-true c b k.0) no_c)))
+    let P : ℕ → Type 0 = λ n. allows (Γ n) d ≡ false in
+    let Q : Dir → Type 0 = λ n. allows (Γ b) n ≡ false in
+    clash (allows (Γ b) e) yes_b (subst Q (same_dirs d e k.1) (subst P (eqb-true c b k.0) no_c)))
 
 end_in_waiting_allowed : (Γ : Environment) (c : ℕ) (d : Dir) → allows (Γ c) d ≡ false → (w : Waiting) → waiting_kept Γ w ≡ true → end_in_waiting w c d ≡ false
 end_in_waiting_allowed Γ c d k ready h = refl
@@ -66,14 +65,15 @@ mutual
   branch_end_in_scope (and_branch e w p bs) Γ h c d k =
       let j = and_four (is_condition Γ e) (waiting_kept Γ w) (types_kept p Γ) (branches_kept bs Γ) h in
       or_from (end_in_waiting w c d || uses_end p c d) (end_in_branches bs c d)
-        (or_from (end_in_waiting w c d) (uses_end p c d) (end_in_waiting_allowed Γ c d k w j.1) (end_in_scope p Γ j.2 c d k))
-        (branch_end_in_scope bs Γ j.3 c d k)
+      (or_from (end_in_waiting w c d) (uses_end p c d) (end_in_waiting_allowed Γ c d k w j.1) (end_in_scope p Γ j.2 c d k))
+      (branch_end_in_scope bs Γ j.3 c d k)
 
 -- under a variable of that name no end is used
 pub unused_below : (p : Tree) (Γ : Environment) (y : ℕ) (w : Width) → types_kept p (with_name Γ y (Var w)) ≡ true → (c : ℕ) (d : Dir) → (not (c == y) && uses_end p c d) ≡ false → uses_end p c d ≡ false
-unused_below p Γ y w h c d k = elim (cases_Bool (c == y))
-    [ inl e ↦ end_in_scope p (with_name Γ y (Var w)) h c d (ap (λ o. allows o d) (if_true (c == y) (Some (Var w)) (Γ c) e))
-    | inr e ↦ and_second (not (c == y)) (uses_end p c d) k (not_from_false (c == y) e) ]
+unused_below p Γ y w h c d k = elim (cases_Bool (c == y)) [
+  | inl e ↦ end_in_scope p (with_name Γ y (Var w)) h c d (ap (λ o. allows o d) (if_true (c == y) (Some (Var w)) (Γ c) e))
+  | inr e ↦ and_second (not (c == y)) (uses_end p c d) k (not_from_false (c == y) e)
+]
 
 -- ---- refusals, one operator at a time
 
@@ -118,8 +118,10 @@ pub followed_more : (u v : ℕ → Dir → Bool) (m n : Meaning) → RefusesMore
 followed_more u v m n hm hn = record { more = followed_does_more u v m n hm hn }
 
 pub chosen_more : (u v : ℕ → Dir → Bool) (e : Exp) (m n : Meaning) → RefusesMore u m → RefusesMore v n → RefusesMore (λ c d. u c d || v c d) (chosen e m n)
-chosen_more u v e m n hm hn = record { more = λ Γ s t X W ext d.
-    both (is_true Γ e s) (λ h. hm.more Γ s t X W (extends_left u v X W ext) h) (λ h. hn.more Γ s t X W (extends_right u v X W ext) h) d }
+chosen_more u v e m n hm hn = record {
+  more = λ Γ s t X W ext d.
+      both (is_true Γ e s) (λ h. hm.more Γ s t X W (extends_left u v X W ext) h) (λ h. hn.more Γ s t X W (extends_right u v X W ext) h) d;
+}
 
 -- an event behind a guard is on the guard's end
 pub after_end : (Γ : Environment) (s : Values) (w : Waiting) (e : Event) (u : Values) → After Γ s w e u → end_in_waiting w e.chan.0 e.dir ≡ true
@@ -150,9 +152,10 @@ extends_others u v w X W ext e h = elim (ext e h) [ inl k ↦ inl k | inr k ↦ 
 pub and_guard_more : (u v : ℕ → Dir → Bool) (b : Exp) (w : Waiting) (m : Meaning) (g : Guards) → RefusesMore u m → RefuseMore v g → RefuseMore (λ c d. (end_in_waiting w c d || u c d) || v c d) (and_guard b w m g)
 and_guard_more u v b w m g hm hg = record {
   first = λ Γ s X W ext d. (both (is_true Γ b s) (λ q. quiet_more Γ s w X W (extends_guard u v w X W ext) q) (λ q. q) d.0, hg.first Γ s X W (extends_others u v w X W ext) d.1);
-  later = λ Γ s t X W ext d. elim d
-    [ inl k ↦ inl (k.0, (k.1.0, k.1.1, k.1.2, hm.more Γ k.1.0 k.1.1 X W (extends_process u v w X W ext) k.1.3))
-    | inr k ↦ inr (hg.later Γ s t X W (extends_others u v w X W ext) k) ];
+  later = λ Γ s t X W ext d. elim d [
+    | inl k ↦ inl (k.0, (k.1.0, k.1.1, k.1.2, hm.more Γ k.1.0 k.1.1 X W (extends_process u v w X W ext) k.1.3))
+    | inr k ↦ inr (hg.later Γ s t X W (extends_others u v w X W ext) k)
+  ];
 }
 
 alternates_more : (u : ℕ → Dir → Bool) (g : Guards) → RefuseMore u g → (Γ : Environment) (s : Values) (t : Trace) (X W : EventSet) → Extends u X W → Alternates g Γ s t (refusing X) → Alternates g Γ s t (refusing W)
@@ -175,8 +178,8 @@ combine_more u v m n hm hn Γ s X W ext t1 t2 t woven o1 o2 d1 d2 (second_ended 
     together t1 t2 (refusing W) (ended a) woven second_ended (hm.more Γ s t1 X W (extends_left u v X W ext) d1) d2
 combine_more u v m n hm hn Γ s X W ext t1 t2 t woven o1 o2 d1 d2 (neither_ended Z Y) =
     together t1 t2 (refusing (refused_with Γ W Y)) (refusing (refused_with Γ W (answered Y))) woven (neither_ended W Y)
-      (hm.more Γ s t1 (refused_with Γ X Y) (refused_with Γ W Y) (extends_with u Γ X W Y (extends_left u v X W ext)) d1)
-      (hn.more Γ s t2 (refused_with Γ X (answered Y)) (refused_with Γ W (answered Y)) (extends_with v Γ X W (answered Y) (extends_right u v X W ext)) d2)
+    (hm.more Γ s t1 (refused_with Γ X Y) (refused_with Γ W Y) (extends_with u Γ X W Y (extends_left u v X W ext)) d1)
+    (hn.more Γ s t2 (refused_with Γ X (answered Y)) (refused_with Γ W (answered Y)) (extends_with v Γ X W (answered Y) (extends_right u v X W ext)) d2)
 
 together_more : (u v : ℕ → Dir → Bool) (m n : Meaning) → RefusesMore u m → RefusesMore v n → (Γ : Environment) (s : Values) (t : Trace) (X W : EventSet) → Extends (λ c d. u c d || v c d) X W → Together m n Γ s t (refusing X) → Together m n Γ s t (refusing W)
 together_more u v m n hm hn Γ s t X W ext (together t1 t2 o1 o2 woven c d1 d2) = combine_more u v m n hm hn Γ s X W ext t1 t2 t woven o1 o2 d1 d2 c
@@ -206,7 +209,7 @@ channel_more u b w m hm = record { more = channel_does_more u b w m hm }
 abbrev every_end : ℕ → Dir → Bool
 every_end c d = true
 
-abbrev Shrinks : Meaning → Type 0
+abbrev pub Shrinks : Meaning → Type 0
 Shrinks m = RefusesMore every_end m
 
 shrinks : (u : ℕ → Dir → Bool) (m : Meaning) → RefusesMore u m → Shrinks m
@@ -215,8 +218,10 @@ shrinks u m hm = more_weaker u every_end m (λ c d h. true_not_false h) hm
 guard_shrinks : (b : Exp) (w : Waiting) (m : Meaning) (g : Guards) → Shrinks m → RefuseMore every_end g → RefuseMore every_end (and_guard b w m g)
 guard_shrinks b w m g hm hg =
     let k = and_guard_more every_end every_end b w m g hm hg in
-    record { first = λ Γ s X W ext d. k.first Γ s X W (λ e h. elim (ext e h) [ inl j ↦ inl j | inr j ↦ true_not_false j ]) d;
-             later = λ Γ s t X W ext d. k.later Γ s t X W (λ e h. elim (ext e h) [ inl j ↦ inl j | inr j ↦ true_not_false j ]) d }
+    record {
+      first = λ Γ s X W ext d. k.first Γ s X W (λ e h. elim (ext e h) [ inl j ↦ inl j | inr j ↦ true_not_false j ]) d;
+      later = λ Γ s t X W ext d. k.later Γ s t X W (λ e h. elim (ext e h) [ inl j ↦ inl j | inr j ↦ true_not_false j ]) d;
+    }
 
 alone_shrinks : (w : Waiting) → Shrinks (alternatives (and_guard (truth true) w (at_once (λ Γ s. s)) no_guard))
 alone_shrinks w = alternatives_more every_end (and_guard (truth true) w (at_once (λ Γ s. s)) no_guard) (guard_shrinks (truth true) w (at_once (λ Γ s. s)) no_guard (once_more every_end (λ Γ s. s)) (no_guard_more every_end))
@@ -262,8 +267,8 @@ alone_more w =
     let u : ℕ → Dir → Bool = λ c d. false in
     let g = and_guard (truth true) w (at_once (λ Γ s. s)) no_guard in
     more_weaker (λ c d. (end_in_waiting w c d || false) || false) (end_in_waiting w) (alternatives g)
-      (λ c d h. or_from (end_in_waiting w c d || false) false (or_from (end_in_waiting w c d) false h refl) refl)
-      (alternatives_more (λ c d. (end_in_waiting w c d || false) || false) g (and_guard_more u u (truth true) w (at_once (λ Γ s. s)) no_guard (once_more u (λ Γ s. s)) (no_guard_more u)))
+    (λ c d h. or_from (end_in_waiting w c d || false) false (or_from (end_in_waiting w c d) false h refl) refl)
+    (alternatives_more (λ c d. (end_in_waiting w c d || false) || false) g (and_guard_more u u (truth true) w (at_once (λ Γ s. s)) no_guard (once_more u (λ Γ s. s)) (no_guard_more u)))
 
 beside_all_more : (ps : Trees) (m n : Meaning) (u : ℕ → Dir → Bool) → RefusesMore u m → RefusesMore (end_in_some ps) n → RefusesMore (λ c d. u c d || end_in_some ps c d) (beside_all ps m n)
 beside_all_more no_tree m n u hm hn = more_weaker u (λ c d. u c d || false) m (λ c d h. (or_parts (u c d) false h).0) hm
@@ -283,7 +288,7 @@ mutual
   part_more (declare x w p) Θ h =
       let k = (and_parts (can_declare Θ x w) (types_kept p (with_name Θ x (Var w))) h).1 in
       more_weaker (uses_end p) (λ c d. not (c == x) && uses_end p c d) (over_variable x w (meaning p)) (unused_below p Θ x w k)
-        (variable_more (uses_end p) x w (meaning p) (part_more p (with_name Θ x (Var w)) k))
+      (variable_more (uses_end p) x w (meaning p) (part_more p (with_name Θ x (Var w)) k))
   part_more (connect c w p) Θ h = channel_more (uses_end p) c w (meaning p) (part_more p (with_name Θ c (Chan w None)) (and_parts (can_declare Θ c w) (types_kept p (with_name Θ c (Chan w None))) h).1)
 
   pub turn_more : (ps : Trees) (Θ : Environment) → all_types_kept ps Θ ≡ true → RefusesMore (end_in_some ps) (in_turn ps)

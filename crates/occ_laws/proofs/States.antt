@@ -5,7 +5,7 @@ use Rattle.occ_base.specs.declared.width.Width.{Width}
 use Rattle.occ_laws.proofs.Facts.{agreed, and_four, and_three, either, false_not_true, if_below, if_false, if_true, none_not_some, some_is}
 use Rattle.occ_laws.proofs.Typing.{eval_below, input_types}
 use Rattle.occ_syntax.specs.Eval.{eval, is_true}
-use Rattle.occ_syntax.specs.Meaning.{After, Alternates, Combines, Followed, Guards, Meaning, Outcome, Stopped, Taken, Together, WithChannel, WithVariable, alternatives, and_guard, assigned, at_end, at_event, at_once, at_ready, at_the_same_time, beside, beside_all, both_ended, chosen, ended, first_choice, followed, guards, in_second, in_turn, join, meaning, never, no_guard, over_channel, over_variable, taken, together}
+use Rattle.occ_syntax.specs.Meaning.{After, Alternates, Combines, Followed, Guards, Meaning, Outcome, Stopped, Taken, Together, WithChannel, WithVariable, alternatives, and_guard, assigned, at_event, at_once, at_ready, at_the_same_time, beside, beside_all, both_ended, chosen, ended, first_choice, followed, guards, in_second, in_turn, join, meaning, never, no_guard, over_channel, over_variable, taken, together}
 use Rattle.occ_syntax.specs.Names.{is_in}
 use Rattle.occ_syntax.specs.Scopes.{Environment, IsState, Trace, Values, channel_width, has_width, variable_kind, variable_width, with_name, with_value}
 use Rattle.occ_syntax.specs.Tree.{Branches, Cases, Exp, Tree, Trees, Waiting, alt, and_branch, and_case, and_tree, assign, connect, declare, input, no_branch, no_case, no_tree, output, par, ready, receive, select, send, seq, skip, stop, truth}
@@ -19,38 +19,43 @@ use Rattle.std.proofs.lemmas.Bool.Decides.{eqb_tells}
 pub value_state : (Γ : Environment) (s : Values) (x v : ℕ) → IsState Γ s → ((w : Width) → variable_width Γ x ≡ Some w → v < 2 ^ bits_of w) → IsState Γ (with_value s x v)
 value_state Γ s x v state fits y w h =
     let P : ℕ → Type 0 = λ n. n < 2 ^ bits_of w in
-    elim (eqb_tells y x)
-      [ inl k ↦ subst P (sym (if_true (y == x) v (s y) k.0)) (fits w (ap (variable_width Γ) (sym k.1) ∙ h))
-      | inr k ↦ subst P (sym (if_false (y == x) v (s y) k.0)) (state y w h) ]
+    elim (eqb_tells y x) [
+      | inl k ↦ subst P (sym (if_true (y == x) v (s y) k.0)) (fits w (ap (variable_width Γ) (sym k.1) ∙ h))
+      | inr k ↦ subst P (sym (if_false (y == x) v (s y) k.0)) (state y w h)
+    ]
 
 -- the state of a variable's scope
 pub declared_state : (Γ : Environment) (s : Values) (x : ℕ) (w : Width) (v : ℕ) → v < 2 ^ bits_of w → IsState Γ s → IsState (with_name Γ x (Var w)) (with_value s x v)
 declared_state Γ s x w v lt state y u h =
     let P : ℕ → Type 0 = λ n. n < 2 ^ bits_of u in
-    elim (eqb_tells y x)
-      [ inl k ↦ (let e : w ≡ u = some_is (sym (ap variable_kind (if_true (y == x) (Some (Var w)) (Γ y) k.0)) ∙ h) in
+    elim (eqb_tells y x) [
+      | inl k ↦ (let e : w ≡ u = some_is (sym (ap variable_kind (if_true (y == x) (Some (Var w)) (Γ y) k.0)) ∙ h) in
           subst P (sym (if_true (y == x) v (s y) k.0)) (let Q : Width → Type 0 = λ z. v < 2 ^ bits_of z in subst Q e lt))
-      | inr k ↦ subst P (sym (if_false (y == x) v (s y) k.0)) (state y u (ap variable_kind (sym (if_false (y == x) (Some (Var w)) (Γ y) k.0)) ∙ h)) ]
+      | inr k ↦ subst P (sym (if_false (y == x) v (s y) k.0)) (state y u (ap variable_kind (sym (if_false (y == x) (Some (Var w)) (Γ y) k.0)) ∙ h))
+    ]
 
 -- and back: the value that is put back is that of a state
 pub undeclared_state : (Γ : Environment) (s s1 : Values) (x : ℕ) (w : Width) → IsState Γ s → IsState (with_name Γ x (Var w)) s1 → IsState Γ (with_value s1 x (s x))
 undeclared_state Γ s s1 x w outer inner y u h =
     let P : ℕ → Type 0 = λ n. n < 2 ^ bits_of u in
-    elim (eqb_tells y x)
-      [ inl k ↦ subst P (ap s k.1 ∙ sym (if_true (y == x) (s x) (s1 y) k.0)) (outer y u h)
-      | inr k ↦ subst P (sym (if_false (y == x) (s x) (s1 y) k.0)) (inner y u (ap variable_kind (if_false (y == x) (Some (Var w)) (Γ y) k.0) ∙ h)) ]
+    elim (eqb_tells y x) [
+      | inl k ↦ subst P (ap s k.1 ∙ sym (if_true (y == x) (s x) (s1 y) k.0)) (outer y u h)
+      | inr k ↦ subst P (sym (if_false (y == x) (s x) (s1 y) k.0)) (inner y u (ap variable_kind (if_false (y == x) (Some (Var w)) (Γ y) k.0) ∙ h))
+    ]
 
 pub connected_state : (Γ : Environment) (s : Values) (c : ℕ) (w : Width) → IsState Γ s → IsState (with_name Γ c (Chan w None)) s
 connected_state Γ s c w state y u h =
-    elim (eqb_tells y c)
-      [ inl k ↦ none_not_some (sym (ap variable_kind (if_true (y == c) (Some (Chan w None)) (Γ y) k.0)) ∙ h)
-      | inr k ↦ state y u (ap variable_kind (sym (if_false (y == c) (Some (Chan w None)) (Γ y) k.0)) ∙ h) ]
+    elim (eqb_tells y c) [
+      | inl k ↦ none_not_some (sym (ap variable_kind (if_true (y == c) (Some (Chan w None)) (Γ y) k.0)) ∙ h)
+      | inr k ↦ state y u (ap variable_kind (sym (if_false (y == c) (Some (Chan w None)) (Γ y) k.0)) ∙ h)
+    ]
 
 pub unconnected_state : (Γ : Environment) (s : Values) (c : ℕ) (w : Width) → Γ c ≡ None → IsState (with_name Γ c (Chan w None)) s → IsState Γ s
 unconnected_state Γ s c w fresh state y u h =
-    elim (eqb_tells y c)
-      [ inl k ↦ none_not_some (sym (ap variable_kind (ap Γ k.1 ∙ fresh)) ∙ h)
-      | inr k ↦ state y u (ap variable_kind (if_false (y == c) (Some (Chan w None)) (Γ y) k.0) ∙ h) ]
+    elim (eqb_tells y c) [
+      | inl k ↦ none_not_some (sym (ap variable_kind (ap Γ k.1 ∙ fresh)) ∙ h)
+      | inr k ↦ state y u (ap variable_kind (if_false (y == c) (Some (Chan w None)) (Γ y) k.0) ∙ h)
+    ]
 
 pub joined_state : (Γ : Environment) (s s1 s2 : Values) → IsState Γ s1 → IsState Γ s2 → IsState Γ (join s s1 s2)
 joined_state Γ s s1 s2 first second x w h = if_below (s1 x == s x) (s2 x) (s1 x) (2 ^ bits_of w) (second x w h) (first x w h)
@@ -92,7 +97,7 @@ assigned_state Γ s start (x ∷ xs) (e ∷ es) h =
     let k = and_three (agree (variable_width Γ x) (type_of Γ e)) (not (is_in xs x)) (pairs_kept Γ xs es) h in
     let a = agreed (variable_width Γ x) (type_of Γ e) k.0 in
     value_state Γ (assigned xs es Γ s) x (eval Γ e s) (assigned_state Γ s start xs es k.2)
-      (λ w v. eval_below Γ s start e w (a.2 ∙ sym a.1 ∙ v))
+    (λ w v. eval_below Γ s start e w (a.2 ∙ sym a.1 ∙ v))
 
 assign_states : (Γ : Environment) (xs : List ℕ) (es : List Exp) → pairs_kept Γ xs es ≡ true → KeepsStates Γ (at_once (assigned xs es))
 assign_states Γ xs es h = record { state = λ s t s' start d. state_at Γ (assigned xs es Γ s) s' (end_is d.1) (assigned_state Γ s start xs es h) }
@@ -125,8 +130,10 @@ no_guard_states : (Γ : Environment) → KeepStates Γ no_guard
 no_guard_states Γ = record { state = λ s t s' start d. absurd d }
 
 and_guard_states : (Γ : Environment) (e : Exp) (w : Waiting) (m : Meaning) (g : Guards) → waiting_kept Γ w ≡ true → KeepsStates Γ m → KeepStates Γ g → KeepStates Γ (and_guard e w m g)
-and_guard_states Γ e w m g h hm hg = record { state = λ s t s' start d.
-    elim d [ inl k ↦ hm.state k.1.0 k.1.1 s' (taken_state Γ s w t k.1.0 k.1.1 h start k.1.2) k.1.3 | inr k ↦ hg.state s t s' start k ] }
+and_guard_states Γ e w m g h hm hg = record {
+  state = λ s t s' start d.
+      elim d [ inl k ↦ hm.state k.1.0 k.1.1 s' (taken_state Γ s w t k.1.0 k.1.1 h start k.1.2) k.1.3 | inr k ↦ hg.state s t s' start k ];
+}
 
 alternates_end : (Γ : Environment) (g : Guards) → KeepStates Γ g → (s : Values) (t : Trace) (s' : Values) → IsState Γ s → Alternates g Γ s t (ended s') → IsState Γ s'
 alternates_end Γ g hg s t s' start (taken d) = hg.state s t s' start d
@@ -140,8 +147,8 @@ combined_state Γ s o1 o2 s' first second (both_ended {s1 = a} {s2 = b} {s' = r}
 together_end : (Γ : Environment) (m n : Meaning) → KeepsStates Γ m → KeepsStates Γ n → (s : Values) (t : Trace) (s' : Values) → IsState Γ s → Together m n Γ s t (ended s') → IsState Γ s'
 together_end Γ m n hm hn s t s' start (together t1 t2 o1 o2 woven c d1 d2) =
     combined_state Γ s o1 o2 s'
-      (λ s1 e. hm.state s t1 s1 start (let P : Outcome → Type 0 = λ o. m.does Γ s t1 o in subst P e d1))
-      (λ s2 e. hn.state s t2 s2 start (let P : Outcome → Type 0 = λ o. n.does Γ s t2 o in subst P e d2)) c
+    (λ s1 e. hm.state s t1 s1 start (let P : Outcome → Type 0 = λ o. m.does Γ s t1 o in subst P e d1))
+    (λ s2 e. hn.state s t2 s2 start (let P : Outcome → Type 0 = λ o. n.does Γ s t2 o in subst P e d2)) c
 
 pub beside_states : (Γ : Environment) (m n : Meaning) → KeepsStates Γ m → KeepsStates Γ n → KeepsStates Γ (beside m n)
 beside_states Γ m n hm hn = record { state = together_end Γ m n hm hn }

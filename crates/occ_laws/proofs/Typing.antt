@@ -118,7 +118,7 @@ eval_below Γ s state (operation op left right) w h =
     let k = two_types op (type_of Γ left) (type_of Γ right) w h in
     let P : ℕ → Type 0 = λ n. applied op n (eval Γ left s) (eval Γ right s) < 2 ^ bits_of w in
     subst P (sym (bits_of_type Γ left k.0 k.1))
-      (applied_below op k.0 w (eval Γ left s) (eval Γ right s) k.3 (eval_below Γ s state left k.0 k.1) (eval_below Γ s state right k.0 k.2))
+    (applied_below op k.0 w (eval Γ left s) (eval Γ right s) k.3 (eval_below Γ s state left k.0 k.1) (eval_below Γ s state right k.0 k.2))
 
 -- ---- names in scope
 

@@ -2,10 +2,9 @@
 use Rattle.occ_base.specs.declared.event.Dir.{Dir}
 use Rattle.occ_syntax.specs.Meaning.{Outcome, ended, refusing}
 use Rattle.occ_syntax.specs.Names.{free}
-use Rattle.occ_syntax.specs.Scopes.{Environment, Trace, variable_width, with_value}
+use Rattle.occ_syntax.specs.Scopes.{Environment, EventSet, Trace, variable_width, with_value}
 use Rattle.occ_syntax.specs.Tree.{Tree}
 use Rattle.std.specs.Prelude.{Bool, None, [], false, true, ℕ, ◌==◌, ◌∷◌, ◌≡◌, ◌⊎◌}
-
 
 -- every event of the trace is on one of these channel ends
 abbrev pub AreOnEnds : (ℕ → Dir → Bool) → Trace → Type 0
@@ -24,3 +23,8 @@ AgreeOff x Γ Δ = (y : ℕ) → (y == x) ≡ false → Γ y ≡ Δ y
 -- the name isn't a variable of the part: it isn't free there, or isn't a variable in scope
 abbrev pub IsNoVariable : Environment → Tree → ℕ → Type 0
 IsNoVariable Γ p x = (free p x ≡ false) ⊎ (variable_width Γ x ≡ None)
+
+-- every event of the trace is in the set
+abbrev pub AreWithin : EventSet → Trace → Type 0
+AreWithin X [] = Unit {0}
+AreWithin X (e ∷ t) = (X e ≡ true) × AreWithin X t

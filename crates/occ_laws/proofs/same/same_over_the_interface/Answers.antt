@@ -1,0 +1,5 @@
+use Rattle.occ_laws.proofs.Interface.{same_over_interface}
+use Rattle.occ_laws.proofs.same.same_over_the_interface.Goals as goal
+
+pub returns : goal.returns
+returns c = same_over_interface
