@@ -58,6 +58,11 @@ module _ {T : Type 0} where
       (λ (e : ns ≡ ms). subst (Keeps ms) (sym e) (keeps_refl ms))
       (λ (w : (ns ≡ ms ++ n ∷ []) × ((i : ℕ) → slice_get ms i ≡ Some n → ⊥)). subst (Keeps ms) (sym w.0) (keeps_push ms n))
 
+  pub growth_interned : (ms ns : List (Node T)) (n : Node T) → Interns ms ns n → length ns ≤ length ms + 1
+  growth_interned ms ns n = ⊎_elim
+      (λ (e : ns ≡ ms). omega (arith, ap length e))
+      (λ (w : (ns ≡ ms ++ n ∷ []) × ((i : ℕ) → slice_get ms i ≡ Some n → ⊥)). omega (arith, ap length w.0, length-append ms (n ∷ [])))
+
 -- ---- what a longer table keeps
 module _ {T : Type 0} (ms ns : List (Node T)) (k : Keeps ms ns) where
   pub known-keeps : (i : ℕ) → i < length ms → i < length ns

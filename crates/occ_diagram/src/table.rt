@@ -45,6 +45,7 @@ impl<T: Label> Table<T> {
     /// The constant function of a label.
     pub fn leaf(&mut self, label: T) -> Result<usize, Memory>
         ensures keeps { Keeps (nodes_of self.old) (nodes_of self.new) }
+        ensures growth { length (nodes_of self.new) ≤ length (nodes_of self.old) + 1 }
         ensures leaf { IfOk result (λ r. slice_get (nodes_of self.new) r ≡ Some (Leaf label)) }
     {
         intern(&mut self.nodes, Node::Leaf(label))

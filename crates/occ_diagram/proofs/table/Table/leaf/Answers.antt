@@ -1,5 +1,5 @@
 use Rattle.occ_diagram.specs.declared.node.Node.TheVariants.{Leaf}
-use Rattle.occ_diagram.proofs.Growth.{diagram_interned, turned_interned, keeps_interned, fit_leaf}
+use Rattle.occ_diagram.proofs.Growth.{diagram_interned, turned_interned, keeps_interned, growth_interned, fit_leaf}
 use Rattle.occ_diagram.proofs.table.Table.leaf.Goals as goal
 
 pub invariant_of-self : goal.invariant_of-self
@@ -10,3 +10,6 @@ invariant_of-self g c = record {
 
 pub returns-clause-keeps : goal.returns-clause-keeps
 returns-clause-keeps g c = keeps_interned c.args.self.now.nodes.keys c.intern.new.nodes.keys _ c.intern.ensures.nodes
+
+pub returns-clause-growth : goal.returns-clause-growth
+returns-clause-growth g c = growth_interned c.args.self.now.nodes.keys c.intern.new.nodes.keys _ c.intern.ensures.nodes
