@@ -1,0 +1,4 @@
+pub mod Bits
+pub mod DiagramLemmas
+pub mod Growth
+pub mod MemoLemmas

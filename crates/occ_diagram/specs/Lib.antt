@@ -1,0 +1,5 @@
+pub mod Assignment
+pub mod Diagram
+pub mod Label
+pub mod Memo
+pub mod Table

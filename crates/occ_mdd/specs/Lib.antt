@@ -1,0 +1,3 @@
+pub mod Combined
+pub mod Maps
+pub mod Value

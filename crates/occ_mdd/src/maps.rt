@@ -1,0 +1,77 @@
+ghost use Rattle.std.specs.Prelude.{◌≡◌, ℕ, ◌<◌, ◌^◌, IfOk, if◌then◌else◌};
+ghost use Rattle.occ_diagram.specs.Assignment.{turned};
+
+use crate::combine::combine;
+use crate::{Both, MapId};
+use occ_base::Memory;
+use occ_diagram::{Label, Memo, Table};
+use std::alloc::Global;
+use std::hash::Hash;
+
+/// Functions from assignments of 64 bits to optional labels, known by their numbers. An assignment is
+/// a u64 whose k-th binary digit is bit k. One function has one number, and a number keeps its
+/// function whatever is made later, also after want of memory. The functions are ordered reduced
+/// decision diagrams with shared nodes (Bryant 1986).
+#[derive(Drop)]
+pub struct Maps<L>
+where
+    Option<L>: Eq + Hash,
+{
+    table: Table<Option<L>>,
+    alloc: Global,
+}
+
+impl<L: Label> Maps<L> {
+    ghost use Rattle.occ_mdd.specs.Maps.{value, IsKnown, IsMap, IsRelated, HasLabels, Keeps, maps_of};
+
+    /// A table without maps. It takes no memory.
+    pub fn new(alloc: Global) -> Maps<L>
+        ensures { maps_of result ≡ 0 }
+    {
+        Maps {
+            table: Table::new(alloc),
+            alloc,
+        }
+    }
+
+    /// The function that has one value at every assignment.
+    pub fn constant(&mut self, leaf: Option<L>) -> Result<MapId, Memory>
+        ensures keeps { Keeps self.old self.new }
+        ensures map { IfOk result (λ r. IsMap self.new r (λ x. leaf)) }
+    {
+        Ok(MapId(self.table.leaf(leaf)?))
+    }
+
+    /// The function's value at an assignment. It takes no memory.
+    pub fn get(&self, a: MapId, bits: u64) -> Option<L>
+        requires { IsKnown self.now a }
+        ensures { result ≡ value self.now a bits }
+    {
+        self.table.label(a.0, bits)
+    }
+
+    /// The function whose value at each assignment is this one's where one bit of it is turned.
+    pub fn flip(&mut self, a: MapId, bit: u32) -> Result<MapId, Memory>
+        requires bit { bit < 64 }
+        requires a { IsKnown self.old a }
+        ensures keeps { Keeps self.old self.new }
+        ensures map { IfOk result (λ r. IsMap self.new r (λ x. value self.old a (turned x bit))) }
+    {
+        Ok(MapId(self.table.flip(a.0, bit)?))
+    }
+
+    /// The function whose value at each assignment is what `f` gives for the values of the two.
+    /// After want of memory too, `f` is at a later state.
+    pub fn apply2<F: Both<L>>(&mut self, a: MapId, b: MapId, f: &mut F) -> Result<MapId, Memory>
+        requires a { IsKnown self.old a }
+        requires b { IsKnown self.old b }
+        requires a_labels { HasLabels self.old a (F.accepts f.old) }
+        requires b_labels { HasLabels self.old b (F.accepts f.old) }
+        ensures keeps { Keeps self.old self.new }
+        ensures leads { F.leads f.old f.new }
+        ensures map { IfOk result (λ r. IsRelated self.old self.new a b r (F.relates f.new)) }
+    {
+        let mut memo = Memo::new(self.alloc);
+        Ok(MapId(combine(&mut self.table, a.0, b.0, f, &mut memo)?))
+    }
+}
