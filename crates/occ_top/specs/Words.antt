@@ -2,14 +2,15 @@
 use Rattle.std.specs.Prelude.{ℕ, ◌==◌, Bool, false, not, ◌&&◌, List, [], ◌∷◌, Option, Some, None, codes, if◌then◌else◌}
 use Rattle.std.specs.Str.{bytes_eq}
 use Rattle.occ_top.specs.declared.words.Command.{Command}
-use Rattle.occ_top.specs.declared.words.Command.TheVariants.{Same}
+use Rattle.occ_top.specs.declared.words.Command.TheVariants.{Usage, Same}
 
 -- a command with its words
 pub data Job : Type 0 where
   same : List ℕ → List ℕ → Job
 
-abbrev pub job : Command → Job
-job (Same first second) = same first.now second.now
+abbrev pub job : Command → Option Job
+job Usage = None
+job (Same first second) = Some (same first.now second.now)
 
 -- the word isn't empty and doesn't begin with a hyphen
 abbrev pub is_plain : List ℕ → Bool

@@ -1,6 +1,12 @@
 //! The top call: the words of a command line, the files that they name, and the answer.
 #![tactic(auto)]
 
+mod answer;
+mod judge;
+mod load;
+#[cfg(test)]
+mod tests;
+mod top;
 mod words;
 
-pub use words::{Command, command_in};
+pub use top::run;

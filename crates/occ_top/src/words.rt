@@ -14,16 +14,18 @@ use std::alloc::{AllocError, Global};
 /// What a command line asks for.
 #[derive(Clone, Copy, Debug)]
 pub enum Command<'a> {
+    /// Nothing: the words don't fit.
+    Usage,
     /// To compare the programs in two files.
     Same { first: &'a str, second: &'a str },
 }
 
-/// What the words of a command line ask for, the program's own name first, or None where they don't fit.
-pub fn command_in<'a>(alloc: Global, words: &'a [String]) -> Result<Option<Command<'a>>, Memory>
-    ensures { IfOk result (λ command. option_map job command ≡ job_of (map string_bytes words.entry.now)) }
+/// What the words of a command line ask for, the program's own name first.
+pub fn command_in<'a>(alloc: Global, words: &'a [String]) -> Result<Command<'a>, Memory>
+    ensures { IfOk result (λ command. job command ≡ job_of (map string_bytes words.entry.now)) }
 {
     if !are_plain(words) {
-        return Ok(None);
+        return Ok(Command::Usage);
     }
     match command_line(alloc)?.try_get_matches_from(words) {
         Ok(matches) => Ok(command_found(&matches)),
@@ -31,7 +33,7 @@ pub fn command_in<'a>(alloc: Global, words: &'a [String]) -> Result<Option<Comma
             if is_memory(&error) {
                 Err(Memory)
             } else {
-                Ok(None)
+                Ok(Command::Usage)
             }
         }
     }
@@ -86,22 +88,27 @@ fn same_command<'a>(alloc: Global) -> Result<clap::Command<'a>, AllocError>
 }
 
 /// What the parse found.
-fn command_found<'a>(matches: &ArgMatches<'a>) -> Option<Command<'a>>
-    ensures { option_map job result ≡ option_and_then job_found (subcommand_rows_of matches.now) }
+fn command_found<'a>(matches: &ArgMatches<'a>) -> Command<'a>
+    ensures { job result ≡ option_and_then job_found (subcommand_rows_of matches.now) }
 {
-    let (name, found) = matches.subcommand()?;
+    let Some((name, found)) = matches.subcommand() else {
+        return Command::Usage;
+    };
     if name == "same" {
         same_with(found.get_str("first"), found.get_str("second"))
     } else {
-        None
+        Command::Usage
     }
 }
 
-fn same_with<'a>(first: Option<&'a str>, second: Option<&'a str>) -> Option<Command<'a>>
-    ensures { option_map job result ≡ both_words (option_copied first.entry) (option_copied second.entry) }
+fn same_with<'a>(first: Option<&'a str>, second: Option<&'a str>) -> Command<'a>
+    ensures { job result ≡ both_words (option_copied first.entry) (option_copied second.entry) }
 {
-    Some(Command::Same {
-        first: first?,
-        second: second?,
-    })
+    let Some(first) = first else {
+        return Command::Usage;
+    };
+    let Some(second) = second else {
+        return Command::Usage;
+    };
+    Command::Same { first, second }
 }

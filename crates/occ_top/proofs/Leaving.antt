@@ -1,0 +1,144 @@
+-- What is left behind: the names that were asked for, and what was written.
+use Rattle.std.proofs.Common.{◌≡◌, ◌≢◌, ◌≤◌, ◌<◌, ◌+◌, ◌⊎◌, ℕ, List, [], ◌∷◌, ◌++◌, length, take, Option, Some, None, Result, Ok, Err, IfSome, IfOk, refl, sym, ◌∙◌, ap, ap₂, subst, arith, option_map, append_assoc, append-nil, zero, suc, pred, String, Global, map, string_bytes}
+use Rattle.std.specs.Prelude.{IsErrAnd}
+use Rattle.occ_desk.specs.Desk.{with_more, IsCutShort}
+use Rattle.occ_top.specs.declared.words.Command.{Command}
+use Rattle.occ_top.specs.declared.words.Command.TheVariants.{Same}
+use Rattle.occ_top.specs.declared.load.Loaded.{Loaded}
+use Rattle.occ_top.specs.declared.load.Stop.{Stop}
+use Rattle.occ_top.specs.declared.load.Stop.TheVariants.{Read, Memory}
+use Rattle.occ_top.specs.declared.answer.Answer.{Answer}
+use Rattle.occ_top.specs.declared.answer.Answer.TheVariants.{Usage}
+use Rattle.occ_top.specs.Words.{Job, same, job, job_of, files_of, file_words, file_words_of}
+use Rattle.occ_top.specs.Files.{Files, AsksFront, AsksFor, IsLoaded}
+use Rattle.occ_top.specs.Texts.{status_of, text_of}
+use Rattle.occ_top.specs.Answers.{IsAnswer, usage, comparison, Answers, Settles}
+use Rattle.occ_top.specs.Ran.{Ran, answered, cut_short}
+
+abbrev Asks : Type 0
+Asks = Option (List (List ℕ))
+
+with_nothing : (old : Asks) → old ≡ with_more old []
+with_nothing None = refl
+with_nothing (Some xs) = ap Some (sym (append-nil xs))
+
+with_two : (old : Asks) (a b : List ℕ) → with_more (with_more old (a ∷ [])) (b ∷ []) ≡ with_more old (a ∷ b ∷ [])
+with_two None a b = refl
+with_two (Some xs) a b = ap Some (append_assoc xs (a ∷ []) (b ∷ []))
+
+whole : (names : List (List ℕ)) → take (length names) names ≡ names
+whole [] = refl
+whole (n ∷ ns) = ap (λ ms. n ∷ ms) (whole ns)
+
+-- an error that is passed on
+pub err_is : {T : Type 0} (r : Result T Stop) (e : Stop) → IsErrAnd r (λ y. y ≡ e) → r ≡ Err e
+err_is (Ok t) e h = absurd h
+err_is (Err y) e h = ap Err h
+
+-- all the names are a front of them
+pub all_asked : (old new : Asks) (names : List (List ℕ)) → new ≡ with_more old names → AsksFront old new names 0
+all_asked old new names e = record {
+  count = length names;
+  least = omega arith;
+  most = omega arith;
+  asked = e ∙ ap (with_more old) (sym (whole names));
+}
+
+pub memory_asked : {T : Type 0} (old new : Asks) (names : List (List ℕ)) (r : Result T Stop) → r ≡ Err Memory → new ≡ with_more old names → AsksFor old new names r
+memory_asked {T} old new names r is e = let P : Result T Stop → Type 0 = λ s. AsksFor old new names s in subst P (sym is) (all_asked old new names e)
+
+front_of_one : (old new : Asks) (a b : List ℕ) (from : ℕ) → AsksFront old new (a ∷ []) from → AsksFront old new (a ∷ b ∷ []) from
+front_of_one old new a b from f = record {
+  count = f.count;
+  least = f.least;
+  most = omega (arith, f.most);
+  asked = f.asked ∙ ap (with_more old) (take_of_one f.count f.most);
+}
+  where
+    take_of_one : (n : ℕ) → n ≤ length (a ∷ []) → take n (a ∷ []) ≡ take n (a ∷ b ∷ [])
+    take_of_one zero le = refl
+    take_of_one (suc zero) le = refl
+    take_of_one (suc (suc n)) le = absurd (omega (arith, le))
+
+pub first_stops : {T U : Type 0} (old new : Asks) (a b : List ℕ) (r : Result T Stop) (s : Result U Stop) (e : Stop) → r ≡ Err e → s ≡ Err e
+    → AsksFor old new (a ∷ []) r → AsksFor old new (a ∷ b ∷ []) s
+first_stops {T} {U} old new a b r s e is at f =
+  let P : Result T Stop → Type 0 = λ x. AsksFor old new (a ∷ []) x in
+  let Q : Result U Stop → Type 0 = λ x. AsksFor old new (a ∷ b ∷ []) x in
+  subst Q (sym at) (go e (subst P is f))
+  where
+    go : (e : Stop) → AsksFor {T = T} old new (a ∷ []) (Err e) → AsksFor {T = U} old new (a ∷ b ∷ []) (Err e)
+    go Read f = front_of_one old new a b 1 f
+    go Memory f = front_of_one old new a b 0 f
+
+front_of_two : (old middle new : Asks) (a b : List ℕ) (from : ℕ) → middle ≡ with_more old (a ∷ []) → AsksFront middle new (b ∷ []) from → AsksFront old new (a ∷ b ∷ []) from
+front_of_two old middle new a b from m f = record {
+  count = f.count + 1;
+  least = omega (arith, f.least);
+  most = omega (arith, f.most);
+  asked = f.asked ∙ ap (λ o. with_more o (take f.count (b ∷ []))) m ∙ one_more f.count f.most;
+}
+  where
+    one_more : (n : ℕ) → n ≤ length (b ∷ []) → with_more (with_more old (a ∷ [])) (take n (b ∷ [])) ≡ with_more old (take (n + 1) (a ∷ b ∷ []))
+    one_more zero le = sym (with_nothing (with_more old (a ∷ [])))
+    one_more (suc zero) le = with_two old a b
+    one_more (suc (suc n)) le = absurd (omega (arith, le))
+
+pub second_stops : {T U : Type 0} (old middle new : Asks) (a b : List ℕ) (r : Result T Stop) (s : Result U Stop) (e : Stop) → r ≡ Err e → s ≡ Err e
+    → middle ≡ with_more old (a ∷ []) → AsksFor middle new (b ∷ []) r → AsksFor old new (a ∷ b ∷ []) s
+second_stops {T} {U} old middle new a b r s e is at m f =
+  let P : Result T Stop → Type 0 = λ x. AsksFor middle new (b ∷ []) x in
+  let Q : Result U Stop → Type 0 = λ x. AsksFor old new (a ∷ b ∷ []) x in
+  subst Q (sym at) (go e (subst P is f))
+  where
+    go : (e : Stop) → AsksFor {T = T} middle new (b ∷ []) (Err e) → AsksFor {T = U} old new (a ∷ b ∷ []) (Err e)
+    go Read f = front_of_two old middle new a b 1 m f
+    go Memory f = front_of_two old middle new a b 0 m f
+
+-- the names that a comparison asks for are the command's words
+pub names_are : (words : List (List ℕ)) (a b : List ℕ) (old new : Asks) → job_of words ≡ Some (same a b) → new ≡ with_more old (a ∷ b ∷ []) → new ≡ with_more old (file_words words)
+names_are words a b old new is e = e ∙ ap (λ j. with_more old (file_words_of j)) (sym is)
+
+-- ---- answers
+
+-- two files that were read have an answer
+pub compared : (told : Option Files) (a b : List ℕ) (one two : Loaded) (answer : Answer)
+    → IfSome told (λ files. IsLoaded (files a) one) → IfSome told (λ files. IsLoaded (files b) two)
+    → ((x y : Option (List ℕ)) → IsLoaded x one → IsLoaded y two → Settles x y answer)
+    → IfSome told (λ files. Settles (files a) (files b) answer)
+compared None a b one two answer l k s = tt
+compared (Some files) a b one two answer l k s = s (files a) (files b) l k
+
+-- the words ask for a comparison, which is settled
+pub asked_same : {E : Type 0} (told : Option Files) (words : List (List ℕ)) (a b : List ℕ) (r : Result Answer E) → Some (same a b) ≡ job_of words
+    → IfOk r (λ answer. IfSome told (λ files. Settles (files a) (files b) answer)) → IfOk r (λ answer. IfSome told (λ files. IsAnswer files words answer))
+asked_same None words a b (Ok answer) is s = tt
+asked_same (Some files) words a b (Ok answer) is s = comparison a b (sym is) s
+asked_same told words a b (Err e) is s = tt
+
+pub asked_for_same : {T : Type 0} (old new : Asks) (words : List (List ℕ)) (a b : List ℕ) (r : Result T Stop) → Some (same a b) ≡ job_of words
+    → AsksFor old new (a ∷ b ∷ []) r → AsksFor old new (file_words words) r
+asked_for_same {T} old new words a b r is f = let P : Option Job → Type 0 = λ j. AsksFor old new (file_words_of j) r in subst P is f
+
+pub answers_with : (told : Option Files) (words : List (List ℕ)) (answer : Answer) (status : ℕ) (text : List ℕ)
+    → IfSome told (λ files. IsAnswer files words answer) → status ≡ status_of answer → text ≡ text_of answer → IfSome told (λ files. Answers files words status text)
+answers_with None words answer status text a s t = tt
+answers_with (Some files) words answer status text a s t = record { answer = answer; is = a; status_is = s; text_is = t }
+
+pub wrote_all : (told : Option Files) (words : List (List ℕ)) (status : ℕ) (text : List ℕ) (old between new : Option (List ℕ))
+    → IfSome told (λ files. Answers files words status text) → between ≡ old → new ≡ with_more between text → IfSome told (λ files. Ran files words status old new)
+wrote_all None words status text old between new a b n = tt
+wrote_all (Some files) words status text old between new a b n = answered text a (n ∙ ap (λ o. with_more o text) b)
+
+pub wrote_front : (told : Option Files) (words : List (List ℕ)) (status : ℕ) (text : List ℕ) (old between new : Option (List ℕ))
+    → IfSome told (λ files. Answers files words status text) → between ≡ old → IsCutShort between new text → IfSome told (λ files. Ran files words 5 old new)
+wrote_front None words status text old between new a b n = tt
+wrote_front (Some files) words status text old between new a b n =
+  let P : Option (List ℕ) → Type 0 = λ o. IsCutShort o new text in
+  cut_short refl status text a (subst P b n)
+
+pub sent_all : (old new : Option (List ℕ)) (bytes text : List ℕ) → bytes ≡ text → new ≡ with_more old bytes → new ≡ with_more old text
+sent_all old new bytes text e n = n ∙ ap (with_more old) e
+
+pub sent_front : (old new : Option (List ℕ)) (bytes text : List ℕ) → bytes ≡ text → IsCutShort old new bytes → IsCutShort old new text
+sent_front old new bytes text e n = let P : List ℕ → Type 0 = λ t. IsCutShort old new t in subst P e n
