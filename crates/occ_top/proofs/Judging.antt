@@ -39,15 +39,15 @@ pub refuse_first : (r : Result Answer Memory) (fault : ParseFault) (first second
     → (fault ≢ NoMemory → IsRefusedFrom first fault) → IfOk r (SettlesAll first second)
 refuse_first (Err m) fault first second is real why = tt
 refuse_first (Ok a) fault first second is real why = λ one two l k.
-  let seen = there second two k in
-  subst (Settles one two) (sym is) (record { refused = refused_file first fault one (why real) l; bytes = seen.0; there = seen.1 })
+    let seen = there second two k in
+    subst (Settles one two) (sym is) (record { refused = refused_file first fault one (why real) l; bytes = seen.0; there = seen.1 })
 
 pub refuse_second : (r : Result Answer Memory) (fault : ParseFault) (first second : Loaded) (names : List (List ℕ)) (p : Program)
     → IsReadFrom first [] names p → IfOk r (λ a. a ≡ Refused Second fault) → IfOk r (λ _. fault ≢ NoMemory)
     → (fault ≢ NoMemory → IsRefusedFrom second fault) → IfOk r (SettlesAll first second)
 refuse_second (Err m) fault first second names p read is real why = tt
 refuse_second (Ok a) fault first second names p read is real why = λ one two l k.
-  subst (Settles one two) (sym is) (record { names = names; program = p; accepted = accepted_file first one [] names p read l; refused = refused_file second fault two (why real) k })
+    subst (Settles one two) (sym is) (record { names = names; program = p; accepted = accepted_file first one [] names p read l; refused = refused_file second fault two (why real) k })
 
 settled : (a : Answer) (first second : Loaded) (between names : List (List ℕ)) (p q : Program) → IsReadFrom first [] between p → IsReadFrom second between names q
     → IsComparison names p q a → SettlesAll first second a
@@ -55,19 +55,22 @@ settled Usage first second between names p q r s c one two l k = c
 settled (Refused First fault) first second between names p q r s c one two l k = absurd c
 settled (Refused Second fault) first second between names p q r s c one two l k = absurd c
 settled InterfacesDiffer first second between names p q r s c one two l k = record {
-  names = names; p = p; q = q;
+  names = names;
+  p = p;
+  q = q;
   accepted = record { between = between; first = accepted_file first one [] between p r l; second = accepted_file second two between names q s k };
   differ = c;
 }
 settled (Compared table verdict) first second between names p q r s c one two l k =
-  let P : List (List ℕ) → Type 0 = λ t. AreCompared one two t verdict in
-  subst P (sym c.0) (record {
-    p = p; q = q;
-    accepted = record { between = between; first = accepted_file first one [] between p r l; second = accepted_file second two between names q s k };
-    one_interface = c.1.one_interface;
-    right = c.1.right;
-    least = c.1.least;
-  })
+    let P : List (List ℕ) → Type 0 = λ t. AreCompared one two t verdict in
+    subst P (sym c.0) (record {
+      p = p;
+      q = q;
+      accepted = record { between = between; first = accepted_file first one [] between p r l; second = accepted_file second two between names q s k };
+      one_interface = c.1.one_interface;
+      right = c.1.right;
+      least = c.1.least;
+    })
 
 pub settle : (r : Result Answer Memory) (first second : Loaded) (between names : List (List ℕ)) (p q : Program) → IsReadFrom first [] between p
     → IsReadFrom second between names q → IfOk r (IsComparison names p q) → IfOk r (SettlesAll first second)

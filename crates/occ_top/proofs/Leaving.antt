@@ -63,9 +63,9 @@ front_of_one old new a b from f = record {
 pub first_stops : {T U : Type 0} (old new : Asks) (a b : List ℕ) (r : Result T Stop) (s : Result U Stop) (e : Stop) → r ≡ Err e → s ≡ Err e
     → AsksFor old new (a ∷ []) r → AsksFor old new (a ∷ b ∷ []) s
 first_stops {T} {U} old new a b r s e is at f =
-  let P : Result T Stop → Type 0 = λ x. AsksFor old new (a ∷ []) x in
-  let Q : Result U Stop → Type 0 = λ x. AsksFor old new (a ∷ b ∷ []) x in
-  subst Q (sym at) (go e (subst P is f))
+    let P : Result T Stop → Type 0 = λ x. AsksFor old new (a ∷ []) x in
+    let Q : Result U Stop → Type 0 = λ x. AsksFor old new (a ∷ b ∷ []) x in
+    subst Q (sym at) (go e (subst P is f))
   where
     go : (e : Stop) → AsksFor {T = T} old new (a ∷ []) (Err e) → AsksFor {T = U} old new (a ∷ b ∷ []) (Err e)
     go Read f = front_of_one old new a b 1 f
@@ -87,9 +87,9 @@ front_of_two old middle new a b from m f = record {
 pub second_stops : {T U : Type 0} (old middle new : Asks) (a b : List ℕ) (r : Result T Stop) (s : Result U Stop) (e : Stop) → r ≡ Err e → s ≡ Err e
     → middle ≡ with_more old (a ∷ []) → AsksFor middle new (b ∷ []) r → AsksFor old new (a ∷ b ∷ []) s
 second_stops {T} {U} old middle new a b r s e is at m f =
-  let P : Result T Stop → Type 0 = λ x. AsksFor middle new (b ∷ []) x in
-  let Q : Result U Stop → Type 0 = λ x. AsksFor old new (a ∷ b ∷ []) x in
-  subst Q (sym at) (go e (subst P is f))
+    let P : Result T Stop → Type 0 = λ x. AsksFor middle new (b ∷ []) x in
+    let Q : Result U Stop → Type 0 = λ x. AsksFor old new (a ∷ b ∷ []) x in
+    subst Q (sym at) (go e (subst P is f))
   where
     go : (e : Stop) → AsksFor {T = T} middle new (b ∷ []) (Err e) → AsksFor {T = U} old new (a ∷ b ∷ []) (Err e)
     go Read f = front_of_two old middle new a b 1 m f
@@ -134,8 +134,8 @@ pub wrote_front : (told : Option Files) (words : List (List ℕ)) (status : ℕ)
     → IfSome told (λ files. Answers files words status text) → between ≡ old → IsCutShort between new text → IfSome told (λ files. Ran files words 5 old new)
 wrote_front None words status text old between new a b n = tt
 wrote_front (Some files) words status text old between new a b n =
-  let P : Option (List ℕ) → Type 0 = λ o. IsCutShort o new text in
-  cut_short refl status text a (subst P b n)
+    let P : Option (List ℕ) → Type 0 = λ o. IsCutShort o new text in
+    cut_short refl status text a (subst P b n)
 
 pub sent_all : (old new : Option (List ℕ)) (bytes text : List ℕ) → bytes ≡ text → new ≡ with_more old bytes → new ≡ with_more old text
 sent_all old new bytes text e n = n ∙ ap (with_more old) e

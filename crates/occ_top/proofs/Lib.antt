@@ -1,3 +1,5 @@
 pub mod Parsing
 pub mod Judging
 pub mod Leaving
+pub mod OneReading
+pub mod OneAnswer

@@ -5,8 +5,8 @@ use itoa::Buffer;
 use occ_base::{Memory, Names};
 use occ_behaviour::{Side, Verdict, verdict_text};
 use occ_lex::LineFault;
-use stub_parse::{ParseFault, Which};
 use std::alloc::Global;
+use stub_parse::{ParseFault, Which};
 
 /// What a command line is answered with, where all files could be read and memory was found.
 #[derive(Drop)]
@@ -42,7 +42,10 @@ pub fn text(alloc: Global, answer: &Answer) -> Result<Vec<u8>, Memory>
     ensures { IfOk result (λ text. text.items ≡ text_of answer.now) }
 {
     match answer {
-        Answer::Usage => Ok(Vec::from_slice(alloc, b"USAGE same A B, normalise A, normal T, belongs A T, transform A T, expand A PATH, replay T, stress KIND N, refine A B, deadlock A, run A T, derive A\n")?),
+        Answer::Usage => Ok(Vec::from_slice(
+            alloc,
+            b"USAGE same A B, normalise A, normal T, belongs A T, transform A T, expand A PATH, replay T, stress KIND N, refine A B, deadlock A, run A T, derive A\n",
+        )?),
         Answer::Refused { place, fault } => refusal(alloc, *place, *fault),
         Answer::InterfacesDiffer => Ok(Vec::from_slice(alloc, b"INTERFACES DIFFER\n")?),
         Answer::Compared { names, verdict } => verdict_text(alloc, names, verdict),

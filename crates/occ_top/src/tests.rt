@@ -1,4 +1,4 @@
-ghost use Rattle.std.specs.Prelude.{◌≡◌, ◌≤◌, ◌×◌, IfOk};
+ghost use Rattle.std.specs.Prelude.{◌≡◌, ◌≤◌, IfOk};
 
 use crate::run;
 use occ_base::Memory;
@@ -7,17 +7,29 @@ use std::alloc::Global;
 use std::test::Fail;
 
 const SKIP: &str = "PROC main ()\n  SKIP\n:\n";
+
 const EMPTY_SEQ: &str = "PROC main ()\n  SEQ\n:\n";
+
 const TWICE_ONE: &str = "PROC p (WORD8 x)\n  SEQ\n    x := x PLUS 1\n    x := x PLUS 1\n:\n";
+
 const ONCE_TWO: &str = "PROC p (WORD8 x)\n  x := x PLUS 2\n:\n";
+
 const EXCHANGE: &str = "PROC p (WORD1 x, WORD1 y)\n  x, y := y, x\n:\n";
+
 const SEQUENCE: &str = "PROC p (WORD1 x, WORD1 y)\n  SEQ\n    x := y\n    y := x\n:\n";
+
 const STOP_BOOL: &str = "PROC p (BOOL x)\n  STOP\n:\n";
+
 const SKIP_BOOL: &str = "PROC p (BOOL x)\n  SKIP\n:\n";
+
 const TWO_BOOL: &str = "PROC p (BOOL x, BOOL y)\n  SKIP\n:\n";
+
 const TWO_BOOL_TURNED: &str = "PROC p (BOOL y, BOOL x)\n  SKIP\n:\n";
+
 const EXCHANGE_DIFFERS: &str = "DIFFER\nSTATE [0 1]\nTRACE\nENDS [1 0]\nONLY FIRST\n";
-const USAGE: &str = "USAGE same A B, normalise A, normal T, belongs A T, transform A T, expand A PATH, replay T, stress KIND N, refine A B, deadlock A, run A T, derive A\n";
+
+const USAGE: &str =
+    "USAGE same A B, normalise A, normal T, belongs A T, transform A T, expand A PATH, replay T, stress KIND N, refine A B, deadlock A, run A T, derive A\n";
 
 // A desk with the files A and B, of which the calls with these numbers fail.
 fn desk_with(
@@ -93,7 +105,10 @@ fn a_text_that_is_too_long_is_refused(rt: HostRuntime) -> Result<(), Fail> {
     assert_eq!(rt; desk.written(), b"REFUSED FIRST 1 Limit Bytes\n".as_slice());
     let (second, desk) = compare(rt.alloc(), &[], 1000, SKIP.as_bytes(), long.as_slice())?;
     assert_eq!(rt; second, 3);
-    assert_eq!(rt; desk.written(), b"REFUSED SECOND 1 Limit Bytes\n".as_slice());
+    assert_eq!(rt;
+        desk.written(),
+        b"REFUSED SECOND 1 Limit Bytes\n".as_slice()
+    );
     Ok(())
 }
 

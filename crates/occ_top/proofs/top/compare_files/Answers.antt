@@ -6,4 +6,4 @@ returns-in_err-judge-clause-asked g c = memory_asked _ _ _ c.from_residual-in_er
 
 pub returns-clause-settles : goal.returns-clause-settles
 returns-clause-settles g c = compared _ c.args.first.now c.args.second.now c.in_ok-one.one c.in_ok-one.two c.in_ok-judge.field-0 c.in_ok-one.ensures.first c.in_ok-one.ensures.second
-  c.in_ok-judge.ensures.settles
+    c.in_ok-judge.ensures.settles
