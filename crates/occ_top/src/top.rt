@@ -1,4 +1,4 @@
-ghost use Rattle.std.specs.Prelude.{◌≡◌, ◌≢◌, ◌∷◌, [], ◌≤◌, ◌<◌, ◌↔◌, ◌⊎◌, map, string_bytes, IfOk, IfSome, None};
+ghost use Rattle.std.specs.Prelude.{◌≡◌, ◌≢◌, ◌∷◌, [], ◌≤◌, ◌<◌, ◌↔◌, ◌⊎◌, map, string_bytes, IfOk, IfSome, None, Err};
 ghost use Rattle.occ_top.specs.Words.{job_of, file_words};
 ghost use Rattle.occ_top.specs.Files.{AsksFor, CountsStop};
 ghost use Rattle.occ_top.specs.Texts.{IsPrintable};
@@ -40,6 +40,7 @@ pub fn run<D: Desk>(alloc: Global, words: &[String], desk: &mut D) -> u8
 
     ensures status { result ≤ 7 }
     ensures usage { result ≡ 2 → job_of (map string_bytes words.now) ≡ None }
+    ensures unfit { job_of (map string_bytes words.now) ≡ None → (result ≡ 2) ⊎ ((result ≡ 5) ⊎ (result ≡ 6)) }
     ensures nothing { (result ≡ 4) ⊎ (result ≡ 6) → D.written desk.new ≡ D.written desk.old }
     ensures files { D.files desk.new ≡ D.files desk.old }
 {
@@ -68,6 +69,8 @@ fn make_reply<D: Desk>(alloc: Global, words: &[String], desk: &mut D) -> Result<
         Answers files (map string_bytes words.now) reply.status reply.text.items)) }
     ensures status { IfOk result (λ reply. (reply.status ≤ 3) ⊎ (reply.status ≡ 7)) }
     ensures usage { IfOk result (λ reply. reply.status ≡ 2 → job_of (map string_bytes words.now) ≡ None) }
+    ensures unfit { job_of (map string_bytes words.now) ≡ None → IfOk result (λ reply. reply.status ≡ 2) }
+    ensures readable { job_of (map string_bytes words.now) ≡ None → result ≢ Err Stop.Read }
     ensures asked { AsksFor (D.asked desk.old) (D.asked desk.new) (file_words (map string_bytes words.now)) result }
     ensures read_faults { CountsStop (D.read_faults desk.old) (D.read_faults desk.new) result }
     ensures files { D.files desk.new ≡ D.files desk.old }
@@ -89,6 +92,8 @@ fn find_answer<D: Desk>(alloc: Global, words: &[String], desk: &mut D) -> Result
         IsAnswer files (map string_bytes words.now) answer)) }
     ensures printable { IfOk result IsPrintable }
     ensures usage { IfOk result (λ answer. answer ≡ Answer.Usage → job_of (map string_bytes words.now) ≡ None) }
+    ensures unfit { job_of (map string_bytes words.now) ≡ None → IfOk result (λ answer. answer ≡ Answer.Usage) }
+    ensures readable { job_of (map string_bytes words.now) ≡ None → result ≢ Err Stop.Read }
     ensures asked { AsksFor (D.asked desk.old) (D.asked desk.new) (file_words (map string_bytes words.now)) result }
     ensures read_faults { CountsStop (D.read_faults desk.old) (D.read_faults desk.new) result }
     ensures files { D.files desk.new ≡ D.files desk.old }
