@@ -22,14 +22,17 @@ pub fn typed_parts_take_states_to_states()
     ensures { (Γ : Environment) (p : Tree) → types_kept p Γ ≡ true → (s : Values) (t : Trace) (s' : Values) → IsState Γ s → ends Γ p s t s' → IsState Γ s' }
 {}
 
-/// A variable that a part doesn't write has its old value at each end. The part is well typed in some environment; the law holds in each.
+/// A variable that a part doesn't write has its old value at each end. The part is well typed in some environment;
+/// the law holds in each.
 pub fn unwritten_variables_keep_their_values()
-    ensures { (Θ : Environment) (p : Tree) → types_kept p Θ ≡ true → (x : ℕ) → written p x ≡ false → (Γ : Environment) (s : Values) (t : Trace) (s' : Values) → ends Γ p s t s' → s' x ≡ s x }
+    ensures { (Θ : Environment) (p : Tree) → types_kept p Θ ≡ true → (x : ℕ) → written p x ≡ false →
+        (Γ : Environment) (s : Values) (t : Trace) (s' : Values) → ends Γ p s t s' → s' x ≡ s x }
 {}
 
 /// The part at a path of a well-typed part is well typed in the environment there.
 pub fn parts_of_typed_parts_are_typed()
-    ensures { (path : List ℕ) (Γ : Environment) (p q : Tree) → types_kept p Γ ≡ true → part_at path p ≡ Some q → types_kept q (environment_at path Γ p) ≡ true }
+    ensures { (path : List ℕ) (Γ : Environment) (p q : Tree) → types_kept p Γ ≡ true → part_at path p ≡ Some q →
+        types_kept q (environment_at path Γ p) ≡ true }
 {}
 
 /// The part at a path of a part that keeps types and usage keeps them in the environment there.
