@@ -12,6 +12,7 @@ pub mod InScope
 pub mod Interface
 pub mod Members
 pub mod Moved
+pub mod Named
 pub mod OffNames
 pub mod OffValues
 pub mod OtherScopes
@@ -21,6 +22,7 @@ pub mod Redeclared
 pub mod Refusals
 pub mod RenamedTrees
 pub mod Renaming
+pub mod Sequence
 pub mod Settled
 pub mod States
 pub mod Substituting

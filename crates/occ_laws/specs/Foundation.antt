@@ -2,9 +2,9 @@
 use Rattle.occ_base.specs.declared.event.Dir.{Dir}
 use Rattle.occ_base.specs.declared.event.Event.{Event}
 use Rattle.occ_syntax.specs.Meaning.{Outcome, ended, ends, fails, meaning, refusing}
-use Rattle.occ_syntax.specs.Names.{free, is_in}
+use Rattle.occ_syntax.specs.Names.{free, is_in, names}
 use Rattle.occ_syntax.specs.Scopes.{Environment, EventSet, IsState, Trace, Values, in_interface, variable_width, with_value}
-use Rattle.occ_syntax.specs.Tree.{Tree}
+use Rattle.occ_syntax.specs.Tree.{Exp, Tree}
 use Rattle.std.specs.Prelude.{Bool, List, None, [], false, true, ℕ, ◌==◌, ◌↔◌, ◌∷◌, ◌≡◌, ◌⊎◌}
 
 -- every event of the trace is on one of these channel ends
@@ -50,3 +50,10 @@ pub record SameOverInterface (Γ : Environment) (p q : Tree) : Type 0 where
 -- the part names none of these
 abbrev pub IsFreeOf : Tree → List ℕ → Type 0
 IsFreeOf p xs = (x : ℕ) → is_in xs x ≡ true → free p x ≡ false
+
+-- two environments that say the same of the names of an expression, and two such values
+abbrev pub AgreeOn : Exp → Environment → Environment → Type 0
+AgreeOn e Γ Δ = (x : ℕ) → names e x ≡ true → variable_width Γ x ≡ variable_width Δ x
+
+abbrev pub ValuesAgreeOn : Exp → Values → Values → Type 0
+ValuesAgreeOn e s r = (x : ℕ) → names e x ≡ true → s x ≡ r x

@@ -15,7 +15,9 @@ pub use behaviour::{
     refusals_shrink, traces_are_bounded, traces_are_closed_under_fronts, unused_ends_are_refused,
 };
 pub use foundation::{
-    evaluation_stays_below, parts_of_parts_that_keep_the_rules_keep_them,
+    conditions_are_joined_by_and, conditions_are_joined_by_or, conditions_are_negated,
+    conditions_are_zero_or_one, evaluation_stays_below, every_environment_has_a_state,
+    expressions_depend_on_their_names_alone, parts_of_parts_that_keep_the_rules_keep_them,
     parts_of_typed_parts_are_typed, typed_parts_take_states_to_states,
     unwritten_variables_keep_their_values,
 };
@@ -27,6 +29,7 @@ pub use parallel::{
 };
 pub use rename::{
     channels_may_be_renamed, exchanged_names_keep_behaviour, exchanged_names_keep_types,
+    replaced_names_keep_behaviour, replaced_names_keep_types,
     replacing_by_a_new_name_is_exchanging, replacing_by_itself_changes_nothing,
     variables_may_be_renamed,
 };

@@ -28,6 +28,20 @@ pub fn replacing_by_a_new_name_is_exchanging()
     ensures { (old new : ℕ) (p : Tree) → stands p new ≡ false → renamed p (replacing old new) ≡ renamed p (exchanging old new) }
 {}
 
+/// Where a name is replaced by one that stands nowhere in a part, it does under the new name what it did before.
+/// What the environment and the values said of either name, they then say of the other.
+pub fn replaced_names_keep_behaviour()
+    ensures { (p : Tree) (old new : ℕ) → stands p new ≡ false → (Γ : Environment) (s : Values) (t : Trace) (o : Outcome) →
+        let f = exchanging old new in Does Γ p s t o ↔ Does (under f Γ) (renamed p (replacing old new)) (under f s) (renamed_trace f t) (renamed_outcome f o) }
+{}
+
+/// A part in which a name is replaced by one that stands nowhere in it is well typed exactly where it was, under
+/// the new name.
+pub fn replaced_names_keep_types()
+    ensures { (p : Tree) (old new : ℕ) → stands p new ≡ false → (Γ : Environment) →
+        types_kept (renamed p (replacing old new)) (under (exchanging old new) Γ) ≡ types_kept p Γ }
+{}
+
 /// To replace a name by itself changes nothing.
 pub fn replacing_by_itself_changes_nothing()
     ensures { (x : ℕ) (p : Tree) → renamed p (replacing x x) ≡ p }
