@@ -3,6 +3,9 @@ pub mod AssignedFirst
 pub mod Beside
 pub mod Bounded
 pub mod Contexts
+pub mod Declared
+pub mod DeclaredBeside
+pub mod DeclaredInTurn
 pub mod Ends
 pub mod Exchanged
 pub mod Facts

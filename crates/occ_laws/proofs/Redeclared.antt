@@ -46,7 +46,7 @@ unchanged_trace x y u ux uy [] h = refl
 unchanged_trace x y u ux uy (e ∷ t) h =
     ap (λ z. z ∷ renamed_trace (exchanging x y) t) (unchanged_event x y e (unused_channel u x e ux h.0) (unused_channel u y e uy h.0)) ∙ ap (λ r. e ∷ r) (unchanged_trace x y u ux uy t h.1)
 
-silent_unused : (y : ℕ) (u : ℕ → Dir → Bool) → ((d : Dir) → u y d ≡ false) → (t : Trace) → AreOnEnds u t → is_silent y t ≡ true
+pub silent_unused : (y : ℕ) (u : ℕ → Dir → Bool) → ((d : Dir) → u y d ≡ false) → (t : Trace) → AreOnEnds u t → is_silent y t ≡ true
 silent_unused y u uy [] h = refl
 silent_unused y u uy (e ∷ t) h = and_from (not (e.chan.0 == y)) (is_silent y t) (not_from_false (e.chan.0 == y) (unused_channel u y e uy h.0)) (silent_unused y u uy t h.1)
 

@@ -3,6 +3,7 @@
 #![tactic(auto)]
 
 mod behaviour;
+mod declare;
 mod foundation;
 mod parallel;
 mod rename;
@@ -13,6 +14,13 @@ mod substitution;
 pub use behaviour::{
     events_are_of_the_interface, events_are_on_used_ends, every_part_has_the_empty_trace,
     refusals_shrink, traces_are_bounded, traces_are_closed_under_fronts, unused_ends_are_refused,
+};
+pub use declare::{
+    a_variable_and_a_channel_may_change_places, channels_may_be_declared_for_each_part,
+    channels_may_be_declared_for_one_part_of_a_par, two_channels_may_change_places,
+    two_variables_may_change_places, unused_channels_may_be_left_out,
+    unused_variables_may_be_left_out, variables_may_be_declared_behind_a_part,
+    variables_may_be_declared_for_one_part_of_a_par, variables_may_end_before_a_part,
 };
 pub use foundation::{
     conditions_are_joined_by_and, conditions_are_joined_by_or, conditions_are_negated,
