@@ -75,7 +75,7 @@ module _ {L : Type 0} {e : _} {h : _} (m : Maps L e h) where
   canonical_maps = record {
     one = λ a b ha hb same.
         let e = one_function (nodes_of m.table) m.table.diagram a.0 b.0 (known_size a ha) (known_size b hb) (λ x h. sym (value_is a x) ∙ same x h ∙ value_is b x) in
-        λ i. record { 0 = e i };
+        λ i. record { 0 = e i; };
   }
 
   pub pass_at : (a : MapId) (P : L → Type 0) → HasLabels m a P → PassAt (nodes_of m.table) a.0 P
@@ -90,26 +90,26 @@ module _ {L : Type 0} {e : _} {h : _} (old new : Maps L e h) (k : KeepsNodes (no
 
   pub keeps_maps : Keeps old new
   unfolding maps_of
-  keeps_maps = record { more = k.more; same = λ a x h. value_is new a x ∙ old_value a x h }
+  keeps_maps = record { more = k.more; same = λ a x h. value_is new a x ∙ old_value a x h; }
 
-  pub turned_map : (a : MapId) (bit r : ℕ) → IsKnown old a → IsTurned (nodes_of new.table) a.0 bit r → IsMap new (record { 0 = r }) (λ x. value old a (turned x bit))
+  pub turned_map : (a : MapId) (bit r : ℕ) → IsKnown old a → IsTurned (nodes_of new.table) a.0 bit r → IsMap new (record { 0 = r; }) (λ x. value old a (turned x bit))
   turned_map a bit r ha is = record {
-    known = size_known new (record { 0 = r }) is.known;
-    values = λ x. value_is new (record { 0 = r }) x ∙ value-ends (nodes_of new.table) r a.0 x (turned x bit) (is.ends x) ∙ old_value a (turned x bit) ha;
+    known = size_known new (record { 0 = r; }) is.known;
+    values = λ x. value_is new (record { 0 = r; }) x ∙ value-ends (nodes_of new.table) r a.0 x (turned x bit) (is.ends x) ∙ old_value a (turned x bit) ha;
   }
 
-  pub related_map : (a b : MapId) (r : ℕ) (R : Option L → Option L → Option L → Type 0) → IsKnown old a → IsKnown old b → IsCombined (nodes_of new.table) R a.0 b.0 r → IsRelated old new a b (record { 0 = r }) R
+  pub related_map : (a b : MapId) (r : ℕ) (R : Option L → Option L → Option L → Type 0) → IsKnown old a → IsKnown old b → IsCombined (nodes_of new.table) R a.0 b.0 r → IsRelated old new a b (record { 0 = r; }) R
   related_map a b r R ha hb is = record {
-    known = size_known new (record { 0 = r }) is.known;
-    related = λ x. subst (λ v. R v (value old b x) (value new (record { 0 = r }) x)) (old_value a x ha)
-        (subst (λ v. R (value_at (nodes_of new.table) a.0 x) v (value new (record { 0 = r }) x)) (old_value b x hb)
-        (subst (λ v. R (value_at (nodes_of new.table) a.0 x) (value_at (nodes_of new.table) b.0 x) v) (sym (value_is new (record { 0 = r }) x)) (is.related x)));
+    known = size_known new (record { 0 = r; }) is.known;
+    related = λ x. subst (λ v. R v (value old b x) (value new (record { 0 = r; }) x)) (old_value a x ha)
+        (subst (λ v. R (value_at (nodes_of new.table) a.0 x) v (value new (record { 0 = r; }) x)) (old_value b x hb)
+        (subst (λ v. R (value_at (nodes_of new.table) a.0 x) (value_at (nodes_of new.table) b.0 x) v) (sym (value_is new (record { 0 = r; }) x)) (is.related x)));
   }
 
-pub constant_map : {L : Type 0} {e : _} {h : _} (m : Maps L e h) (r : ℕ) (v : Option L) → slice_get (nodes_of m.table) r ≡ Some (Leaf v) → IsMap m (record { 0 = r }) (λ x. v)
+pub constant_map : {L : Type 0} {e : _} {h : _} (m : Maps L e h) (r : ℕ) (v : Option L) → slice_get (nodes_of m.table) r ≡ Some (Leaf v) → IsMap m (record { 0 = r; }) (λ x. v)
 constant_map m r v e = record {
-  known = size_known m (record { 0 = r }) (slice_get_within (nodes_of m.table) r _ e);
-  values = λ x. value_is m (record { 0 = r }) x ∙ value-leaf (nodes_of m.table) m.table.diagram r x v e;
+  known = size_known m (record { 0 = r; }) (slice_get_within (nodes_of m.table) r _ e);
+  values = λ x. value_is m (record { 0 = r; }) x ∙ value-leaf (nodes_of m.table) m.table.diagram r x v e;
 }
 
 pub no_maps : {L : Type 0} {e : _} {h : _} (m : Maps L e h) → length (nodes_of m.table) ≡ 0 → maps_of m ≡ 0
