@@ -1,4 +1,4 @@
-ghost use Rattle.std.specs.Prelude.{◌≡◌, ⊤};
+ghost use Rattle.std.specs.Prelude.{◌≡◌, ⊤, IfOk};
 
 use crate::{Both, Maps};
 use occ_base::Memory;
@@ -23,7 +23,10 @@ impl Both<bool> for First {
 
     ghost relates_later = { λ f g x y z p q. q };
 
-    fn both(&mut self, a: Option<bool>, _b: Option<bool>) -> Result<Option<bool>, Memory> {
+    fn both(&mut self, a: Option<bool>, _b: Option<bool>) -> Result<Option<bool>, Memory>
+        ensures leads { ⊤ }
+        ensures relates { IfOk result (λ r. r ≡ a) }
+    {
         Ok(a)
     }
 }
