@@ -1,8 +1,7 @@
-use Rattle.std.proofs.Common.{◌≡◌, ◌⊎◌, ℕ, ◌+◌, ◌<◌, ◌≤◌, ◌==◌, Bool, true, false, List, length, max, Option, Some, None, slice_get, cond, refl, sym, ap, ◌∙◌, subst, ⊎_elim, arith}
+use Rattle.std.proofs.Common.{◌≡◌, ℕ, ◌+◌, ◌<◌, ◌≤◌, Bool, true, false, List, length, max, Some, None, cond, refl, sym, ap, ◌∙◌, subst, ⊎_elim, arith}
 use Rattle.std.specs.Int.{bit_at}
 use Rattle.occ_diagram.proofs.Bits.{bit_cases, is_one, is_zero, with_bit_same}
 use Rattle.occ_diagram.proofs.Growth.{known-keeps, depth-keeps, end-keeps}
-use Rattle.occ_diagram.specs.Assignment.{with_bit}
 use Rattle.occ_diagram.specs.Memo.{recalled, Learns}
 use Rattle.occ_diagram.specs.Diagram.{depth_of, end_of, IsDiagram, IsSplit, IsPart}
 use Rattle.occ_diagram.specs.Diagram.{Keeps as KeepsNodes}
@@ -11,11 +10,10 @@ use Rattle.occ_diagram.specs.declared.memo.Memo.{Memo}
 use Rattle.occ_diagram.specs.declared.node.Node.{Node}
 use Rattle.occ_dd.proofs.Callers.{known-keeps as set_known-keeps}
 use Rattle.occ_dd.proofs.Sets.{one_number}
-use Rattle.occ_dd.specs.Store.{sets_of, IsKnown, has, depth, IsFull, IsEmpty, IsConstant, Splits, Keeps, IsSet}
+use Rattle.occ_dd.specs.Store.{IsKnown, has, depth, IsFull, IsEmpty, IsConstant, Splits, Keeps, IsSet}
 use Rattle.occ_dd.specs.declared.set.SetId.{SetId}
 use Rattle.occ_dd.specs.declared.store.Store.{Store}
 use Rattle.occ_mdd.specs.Chosen.{id_of, greatest_depth, IsChosen, AreChosen, IsSetPart, IsTop}
-use Rattle.occ_mdd.proofs.Combining.{part-keeps}
 
 -- ---- what a longer table and a store that grew keep
 module _ {T : Type 0} (ms ns : List (Node T)) (k : KeepsNodes ms ns) (g : IsDiagram ms) (s t : Store) (l : Keeps s t) where

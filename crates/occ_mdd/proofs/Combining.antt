@@ -1,4 +1,4 @@
-use Rattle.std.proofs.Common.{◌≡◌, ◌⊎◌, ℕ, ◌+◌, ◌-◌, ◌<◌, ◌≤◌, ◌==◌, List, length, max, Option, Some, None, slice_get, cond, refl, sym, ap, ◌∙◌, subst, ⊎_elim, arith, IfSome}
+use Rattle.std.proofs.Common.{◌≡◌, ℕ, ◌<◌, ◌≤◌, List, length, max, Option, Some, None, slice_get, cond, sym, ap, ◌∙◌, subst, ⊎_elim, arith, IfSome}
 use Rattle.std.specs.Int.{bit_at}
 use Rattle.std.proofs.lemmas.Option.{IfSome_then, slice_get_within}
 use Rattle.occ_diagram.proofs.Bits.{bit_cases, is_one, is_zero}

@@ -1,10 +1,10 @@
-use Rattle.std.proofs.Common.{◌≡◌, ◌⊎◌, ℕ, ◌+◌, ◌<◌, ◌≤◌, ◌%◌, ◌^◌, Bool, true, false, cond, List, length, Option, Some, None, slice_get, unwrap_or, refl, sym, ap, ◌∙◌, subst, arith, IfSome}
+use Rattle.std.proofs.Common.{◌≡◌, ℕ, ◌<◌, ◌≤◌, ◌%◌, ◌^◌, Bool, true, false, cond, List, length, Option, Some, None, slice_get, unwrap_or, refl, sym, ap, ◌∙◌, subst, arith, IfSome}
 use Rattle.std.specs.Int.{bit_at}
 use Rattle.std.proofs.lemmas.Nat.{div-add-mod'}
 use Rattle.std.proofs.lemmas.Nat.Bits.{bit_at_cat_low}
-use Rattle.std.proofs.lemmas.Option.{same_Some, slice_get_within}
+use Rattle.std.proofs.lemmas.Option.{slice_get_within}
 use Rattle.occ_diagram.proofs.DiagramLemmas.{depth-le, end-in, end-leaf, end_terminal, one_terminal, label-leaf, end_agree, canonical}
-use Rattle.occ_diagram.proofs.Growth.{end-keeps, label-keeps, known-keeps}
+use Rattle.occ_diagram.proofs.Growth.{end-keeps, label-keeps}
 use Rattle.occ_diagram.specs.Assignment.{turned}
 use Rattle.occ_diagram.specs.Diagram.{depth_of, end_of, label_of, IsDiagram, IsTurned}
 use Rattle.occ_diagram.specs.Diagram.{Keeps as KeepsNodes}

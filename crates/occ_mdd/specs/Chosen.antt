@@ -1,4 +1,4 @@
-use Rattle.std.specs.Prelude.{ℕ, ◌+◌, ◌<◌, ◌≤◌, ◌≡◌, List, Option, Some, length, max, if◌then◌else◌}
+use Rattle.std.specs.Prelude.{ℕ, ◌+◌, ◌<◌, ◌≤◌, ◌≡◌, List, Some, length, max, if◌then◌else◌}
 use Rattle.std.specs.Int.{bit_at}
 use Rattle.occ_diagram.specs.Memo.{recalled}
 use Rattle.occ_diagram.specs.Diagram.{depth_of, end_of}

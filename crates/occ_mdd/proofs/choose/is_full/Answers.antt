@@ -1,4 +1,4 @@
-use Rattle.std.proofs.Common.{◌∙◌, sym, ap, eqb-true, eq-eqb}
+use Rattle.std.proofs.Common.{◌∙◌, sym, eqb-true, eq-eqb}
 use Rattle.std.proofs.lemmas.Bool.{OnTrue_from, OnFalse_from, both_ways}
 use Rattle.occ_mdd.proofs.Choosing.{full_from, full_is}
 use Rattle.occ_mdd.proofs.choose.is_full.Goals as goal

@@ -1,4 +1,4 @@
-use Rattle.std.proofs.Common.{◌≡◌, ◌∙◌, ◌-◌, ◌<◌, max, sym, subst, arith}
+use Rattle.std.proofs.Common.{◌∙◌, ◌-◌, ◌<◌, max, sym, subst, arith}
 use Rattle.occ_diagram.specs.Diagram.{depth_of}
 use Rattle.occ_diagram.specs.Table.{nodes_of}
 use Rattle.occ_diagram.proofs.Growth.{known-keeps, keeps_refl, keeps_trans}
