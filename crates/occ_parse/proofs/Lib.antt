@@ -1,0 +1,6 @@
+pub mod Exits
+pub mod Kept
+pub mod Sound
+pub mod Spelled
+pub mod Splitting
+pub mod Words

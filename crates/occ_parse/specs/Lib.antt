@@ -1,0 +1,7 @@
+pub mod Gives
+pub mod Lines
+pub mod Parts
+pub mod Source
+pub mod Step
+pub mod Trees
+pub mod Typed

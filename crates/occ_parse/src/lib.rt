@@ -1,0 +1,10 @@
+//! Texts read as programs. So far these are the straight programs: SKIP, STOP, assignments and SEQ.
+#![tactic(auto)]
+
+mod fault;
+mod header;
+mod line;
+mod parts;
+mod phrase;
+mod step;
+mod typed;
