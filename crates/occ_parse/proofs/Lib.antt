@@ -1,4 +1,6 @@
+pub mod Closing
 pub mod Exits
+pub mod Headers
 pub mod Kept
 pub mod Sound
 pub mod Spelled

@@ -35,7 +35,7 @@ split_free : (test : Symbol → Bool) (front g rest : List Symbol) → Free test
 split_free test front [] rest h = ap (λ f. split test f rest) (sym (append-nil front))
 split_free test front (s ∷ g) rest h = split_more test front s (g ++ rest) h.0 ∙ split_free test (front ++ s ∷ []) g rest h.1 ∙ ap (λ f. split test f rest) (append_assoc front (s ∷ []) g)
 
-split_joined : (test : Symbol → Bool) (sep : Symbol) (front g : List Symbol) (gs : List (List Symbol)) → test sep ≡ true → Free test g → AllFree test gs → split test front (joined sep g gs) ≡ (front ++ g) ∷ gs
+pub split_joined : (test : Symbol → Bool) (sep : Symbol) (front g : List Symbol) (gs : List (List Symbol)) → test sep ≡ true → Free test g → AllFree test gs → split test front (joined sep g gs) ≡ (front ++ g) ∷ gs
 split_joined test sep front g [] s h k = ap (split test front) (sym (append-nil g)) ∙ split_free test front g [] h ∙ split_end test (front ++ g)
 split_joined test sep front g (next ∷ gs) s h k =
     split_free test front g (sep ∷ joined sep next gs) h ∙ split_sep test (front ++ g) sep (joined sep next gs) s

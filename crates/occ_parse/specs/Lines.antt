@@ -1,5 +1,5 @@
 -- What one line's symbols are read as. Each of these readings is the inverse of a spelling.
-use Rattle.std.specs.Prelude.{Bool, true, false, if◌then◌else◌, List, [], ◌∷◌, ◌++◌, Option, Some, None}
+use Rattle.std.specs.Prelude.{Bool, true, false, if◌then◌else◌, List, [], ◌∷◌, ◌++◌, Option, Some, None, option_map}
 use Rattle.occ_base.specs.declared.names.Name.{Name}
 use Rattle.occ_base.specs.declared.event.Dir.{Dir}
 use Rattle.occ_base.specs.declared.event.Dir.TheVariants as dir
@@ -176,3 +176,50 @@ parameter_of (a ∷ b ∷ c ∷ d ∷ e ∷ f ∷ rest) = None
 abbrev pub parameters_of : List Symbol → Option (List (Name × Kind))
 parameters_of [] = Some []
 parameters_of (s ∷ symbols) = each parameter_of (groups_of between.Comma (s ∷ symbols))
+
+-- ---- the header
+
+abbrev pub is_proc_word : Keyword → Bool
+is_proc_word word.Proc = true
+is_proc_word other = false
+
+abbrev pub is_proc : Symbol → Bool
+is_proc (symbol.Keyword word) = is_proc_word word
+is_proc (symbol.Name name) = false
+is_proc (symbol.Numeral value) = false
+is_proc (symbol.Sign sign) = false
+
+abbrev pub is_open_sign : Sign → Bool
+is_open_sign sign.Open = true
+is_open_sign other = false
+
+abbrev pub is_close_sign : Sign → Bool
+is_close_sign sign.Close = true
+is_close_sign other = false
+
+abbrev pub is_open : Symbol → Bool
+is_open (symbol.Sign sign) = is_open_sign sign
+is_open (symbol.Name name) = false
+is_open (symbol.Numeral value) = false
+is_open (symbol.Keyword word) = false
+
+abbrev pub is_close : Symbol → Bool
+is_close (symbol.Sign sign) = is_close_sign sign
+is_close (symbol.Name name) = false
+is_close (symbol.Numeral value) = false
+is_close (symbol.Keyword word) = false
+
+-- the symbols in front of a closing bracket, which is the last
+abbrev pub before_close : List Symbol → Option (List Symbol)
+before_close [] = None
+before_close (s ∷ []) = if is_close s then Some [] else None
+before_close (s ∷ t ∷ rest) = option_map (λ front. s ∷ front) (before_close (t ∷ rest))
+
+abbrev pub named_header : Symbol → List Symbol → Option (Name × List (Name × Kind))
+named_header n rest = then_read (name_at n) (λ name. then_read (before_close rest) (λ middle. then_read (parameters_of middle) (λ params. Some (name, params))))
+
+abbrev pub header_of : List Symbol → Option (Name × List (Name × Kind))
+header_of [] = None
+header_of (p ∷ []) = None
+header_of (p ∷ n ∷ []) = None
+header_of (p ∷ n ∷ o ∷ rest) = if is_proc p then (if is_open o then named_header n rest else None) else None

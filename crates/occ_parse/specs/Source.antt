@@ -104,3 +104,13 @@ header_words name params = symbol.Keyword word.Proc ∷ symbol.Name name ∷ sym
 abbrev pub program_shapes : Name → List (Name × Kind) → Source → List Shape
 program_shapes name params body =
     record { level = 0; symbols = header_words name params } ∷ (spell 1 body ++ record { level = 0; symbols = symbol.Sign sign.Colon ∷ [] } ∷ [])
+
+-- a channel that is a parameter has a mark
+abbrev pub IsMarked : Kind → Type 0
+IsMarked (kind.Var width) = Unit {0}
+IsMarked (kind.Chan width None) = ⊥
+IsMarked (kind.Chan width (Some mark)) = Unit {0}
+
+abbrev pub AreMarked : List (Name × Kind) → Type 0
+AreMarked [] = Unit {0}
+AreMarked (param ∷ params) = IsMarked param.1 × AreMarked params

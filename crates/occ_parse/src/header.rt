@@ -1,6 +1,6 @@
-ghost use Rattle.std.specs.Prelude.{◌≡◌};
+ghost use Rattle.std.specs.Prelude.{◌≡◌, MatchOption, None, Some};
 ghost use Rattle.occ_parse.specs.Gives.{Gives};
-ghost use Rattle.occ_parse.specs.Lines.{is_chan, is_of, mark_at, name_at, parameter_of, parameters_of, width_at};
+ghost use Rattle.occ_parse.specs.Lines.{before_close, header_of, is_chan, is_close, is_open, is_proc, is_of, mark_at, name_at, parameter_of, parameters_of, width_at};
 
 use crate::fault::Fault;
 use crate::line::groups;
@@ -102,4 +102,76 @@ pub fn parameters(alloc: Global, symbols: &[Symbol]) -> Result<Scope, Fault>
         }
     }
     Ok(params)
+}
+
+fn is_proc(symbol: Symbol) -> bool
+    ensures { result ≡ is_proc symbol }
+{
+    match symbol {
+        Symbol::Keyword(keyword) => match keyword {
+            Keyword::Proc => true,
+            _ => false,
+        },
+        _ => false,
+    }
+}
+
+fn is_open(symbol: Symbol) -> bool
+    ensures { result ≡ is_open symbol }
+{
+    match symbol {
+        Symbol::Sign(sign) => match sign {
+            Sign::Open => true,
+            _ => false,
+        },
+        _ => false,
+    }
+}
+
+fn is_close(symbol: Symbol) -> bool
+    ensures { result ≡ is_close symbol }
+{
+    match symbol {
+        Symbol::Sign(sign) => match sign {
+            Sign::Close => true,
+            _ => false,
+        },
+        _ => false,
+    }
+}
+
+/// The symbols in front of a closing bracket at the end.
+fn before_close(symbols: &[Symbol]) -> Option<&[Symbol]>
+    ensures { MatchOption result (before_close symbols.now ≡ None) (λ middle. before_close symbols.now ≡ Some middle.now) }
+{
+    if symbols.is_empty() {
+        return None;
+    }
+    let end = symbols.len() - 1;
+    if is_close(symbols[end]) {
+        Some(&symbols[..end])
+    } else {
+        None
+    }
+}
+
+/// The name and the parameters of a header.
+pub fn header(alloc: Global, symbols: &[Symbol]) -> Result<(Name, Scope), Fault>
+    ensures { Gives (λ header. (header.0, header.1)) result (header_of symbols.now) }
+{
+    match symbols {
+        [first, second, third, rest @ ..] => {
+            if !is_proc(*first) || !is_open(*third) {
+                return Err(Fault::Form);
+            }
+            let Some(name) = named(*second) else {
+                return Err(Fault::Form);
+            };
+            let Some(middle) = before_close(rest) else {
+                return Err(Fault::Form);
+            };
+            Ok((name, parameters(alloc, middle)?))
+        }
+        _ => Err(Fault::Form),
+    }
 }
