@@ -73,3 +73,4 @@ pub header_back : (name : Name) (params : List (Name × Kind)) → AreMarked par
 header_back name params h =
     ap (λ m. then_read m (λ middle. then_read (parameters_of middle) (λ params. Some (name, params)))) (closed (parameters_words params))
     ∙ ap (λ p. then_read p (λ params. Some (name, params))) (parameters_back params h)
+

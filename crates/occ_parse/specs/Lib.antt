@@ -1,4 +1,5 @@
 pub mod Gives
+pub mod Limits
 pub mod Lines
 pub mod Parts
 pub mod Source

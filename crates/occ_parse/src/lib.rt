@@ -3,6 +3,7 @@
 
 mod fault;
 mod header;
+mod limits;
 mod line;
 mod parts;
 mod phrase;
