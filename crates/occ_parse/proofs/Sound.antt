@@ -17,23 +17,23 @@ use Rattle.occ_parse.specs.Lines.{split, separates, groups_of, each, in_front, t
 use Rattle.occ_parse.specs.Source.{assignment, words, joined, comma, becomes, name_words, phrase_words, operand_word}
 use Rattle.occ_parse.proofs.Splitting.{split_sep, split_more, split_end}
 
-joined_all : Symbol → List (List Symbol) → List Symbol
+unfoldable pub joined_all : Symbol → List (List Symbol) → List Symbol
 joined_all sep [] = []
 joined_all sep (group ∷ groups) = joined sep group groups
 
-record HasFirst (groups : List (List Symbol)) : Type 0 where
-  first : List Symbol
-  others : List (List Symbol)
-  are : groups ≡ first ∷ others
+pub record HasFirst (groups : List (List Symbol)) : Type 0 where
+  pub first : List Symbol
+  pub others : List (List Symbol)
+  pub are : groups ≡ first ∷ others
 
-split_first : (test : Symbol → Bool) (front symbols : List Symbol) → HasFirst (split test front symbols)
+pub split_first : (test : Symbol → Bool) (front symbols : List Symbol) → HasFirst (split test front symbols)
 split_first test front [] = record { first = front; others = []; are = split_end test front }
 split_first test front (s ∷ symbols) = ⊎_elim
     (λ (h : test s ≡ true). record { first = front; others = split test [] symbols; are = split_sep test front s symbols h })
     (λ (h : test s ≡ false). let r = split_first test (front ++ s ∷ []) symbols in record { first = r.first; others = r.others; are = split_more test front s symbols h ∙ r.are })
     (cases_Bool (test s))
 
-joined_split : (test : Symbol → Bool) (sep : Symbol) → ((s : Symbol) → test s ≡ true → s ≡ sep) → (front symbols : List Symbol) → joined_all sep (split test front symbols) ≡ front ++ symbols
+pub joined_split : (test : Symbol → Bool) (sep : Symbol) → ((s : Symbol) → test s ≡ true → s ≡ sep) → (front symbols : List Symbol) → joined_all sep (split test front symbols) ≡ front ++ symbols
 unfolding joined_all
 joined_split test sep only front [] = ap (joined_all sep) (split_end test front) ∙ sym (append-nil front)
 joined_split test sep only front (s ∷ symbols) = ⊎_elim
@@ -46,7 +46,7 @@ joined_split test sep only front (s ∷ symbols) = ⊎_elim
     ap (joined_all sep) (split_more test front s symbols h) ∙ joined_split test sep only (front ++ s ∷ []) symbols ∙ append_assoc front (s ∷ []) symbols)
     (cases_Bool (test s))
 
-comma_only : (s : Symbol) → separates between.Comma s ≡ true → s ≡ comma
+pub comma_only : (s : Symbol) → separates between.Comma s ≡ true → s ≡ comma
 comma_only (symbol.Sign sign.Comma) h = refl
 comma_only (symbol.Sign other) h = absurd (both_ways false refl h)
 comma_only (symbol.Name name) h = absurd (both_ways false refl h)
@@ -60,11 +60,11 @@ becomes_only (symbol.Name name) h = absurd (both_ways false refl h)
 becomes_only (symbol.Numeral value) h = absurd (both_ways false refl h)
 becomes_only (symbol.Keyword k) h = absurd (both_ways false refl h)
 
-read_ok : {A B : Type 0} (o : Option A) (f : A → Option B) (y : B) → then_read o f ≡ Some y → (x : A) × (o ≡ Some x) × (f x ≡ Some y)
+pub read_ok : {A B : Type 0} (o : Option A) (f : A → Option B) (y : B) → then_read o f ≡ Some y → (x : A) × (o ≡ Some x) × (f x ≡ Some y)
 read_ok None f y h = absurd cc
 read_ok (Some x) f y h = (x, refl, h)
 
-front_ok : {A : Type 0} (x : A) (o : Option (List A)) (ys : List A) → in_front (x ∷ []) o ≡ Some ys → (xs : List A) × (o ≡ Some xs) × (ys ≡ x ∷ xs)
+pub front_ok : {A : Type 0} (x : A) (o : Option (List A)) (ys : List A) → in_front (x ∷ []) o ≡ Some ys → (xs : List A) × (o ≡ Some xs) × (ys ≡ x ∷ xs)
 front_ok x None ys h = absurd cc
 front_ok x (Some xs) ys h = (xs, refl, cc)
 

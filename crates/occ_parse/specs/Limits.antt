@@ -1,5 +1,5 @@
 -- How large a text may be.
-use Rattle.std.specs.Prelude.{ℕ, ◌&&◌, Bool, nat_le, List, length}
+use Rattle.std.specs.Prelude.{◌&&◌, Bool, nat_le, List, length}
 use Rattle.std.specs.List.{list_all}
 use Rattle.occ_symbol.specs.declared.symbol.Row.{Row}
 
