@@ -237,7 +237,7 @@ pub record IsHeader (symbols : List Symbol) (name : Name) (params : List (Name �
   pub spelled : symbols ≡ header_words name params
   pub marked : AreMarked params
 
-abbrev some_header : Name × List (Name × Kind) → Option (Name × List (Name × Kind))
+abbrev pub some_header : Name × List (Name × Kind) → Option (Name × List (Name × Kind))
 some_header h = Some h
 
 name_in : Option (Name × List (Name × Kind)) → Name → Name
@@ -248,7 +248,7 @@ params_in : Option (Name × List (Name × Kind)) → List (Name × Kind)
 params_in None = []
 params_in (Some h) = h.1
 
-header_is : (n m : Name) (ps qs : List (Name × Kind)) → some_header (n, ps) ≡ some_header (m, qs) → (n ≡ m) × (ps ≡ qs)
+pub header_is : (n m : Name) (ps qs : List (Name × Kind)) → some_header (n, ps) ≡ some_header (m, qs) → (n ≡ m) × (ps ≡ qs)
 unfolding name_in params_in
 header_is n m ps qs h = (ap (λ o. name_in o n) h, ap params_in h)
 

@@ -2,6 +2,7 @@ pub mod Gives
 pub mod Limits
 pub mod Lines
 pub mod Parts
+pub mod Reading
 pub mod Source
 pub mod Step
 pub mod Trees

@@ -3,9 +3,12 @@
 
 mod fault;
 mod header;
+mod laws;
 mod limits;
 mod line;
 mod parts;
 mod phrase;
 mod step;
 mod typed;
+
+pub use laws::one_reading;
