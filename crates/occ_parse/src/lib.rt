@@ -1,0 +1,14 @@
+//! Texts read as programs. So far these are the straight programs: SKIP, STOP, assignments and SEQ.
+#![tactic(auto)]
+
+mod fault;
+mod header;
+mod laws;
+mod limits;
+mod line;
+mod parts;
+mod phrase;
+mod step;
+mod typed;
+
+pub use laws::one_reading;
