@@ -172,7 +172,7 @@ none_parts Γ level lines rest line fault.Form is seq_line none = no
         absurd cc
     no (sequence ps) r e kept b = none ps r (line_is line (record { level = level; symbols = seq_words }) rest (spell_all (level + 1) ps ++ r) (sym is ∙ e)).2 kept b
 
-shape_is : (a : Shape) (level : ℕ) (symbols : List Symbol) → a.level ≡ level → a.symbols ≡ symbols → a ≡ record { level = level; symbols = symbols }
+pub shape_is : (a : Shape) (level : ℕ) (symbols : List Symbol) → a.level ≡ level → a.symbols ≡ symbols → a ≡ record { level = level; symbols = symbols }
 shape_is a level symbols e f = λ i. record { level = e i; symbols = f i }
 
 pub part_whole : (Γ : Environment) (level : ℕ) (lines rest : List Shape) (line : Shape) (t : Tree) → lines ≡ line ∷ rest → line.level ≡ level → line_of Γ line.symbols ≡ Some (whole t) → begins_deeper level rest ≡ false → IsPart Γ level lines t rest

@@ -1,5 +1,6 @@
 pub mod Closing
 pub mod Exits
+pub mod Framing
 pub mod Headers
 pub mod Kept
 pub mod Once

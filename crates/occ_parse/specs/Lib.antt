@@ -1,3 +1,4 @@
+pub mod Framed
 pub mod Gives
 pub mod Limits
 pub mod Lines

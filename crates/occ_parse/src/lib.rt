@@ -8,7 +8,13 @@ mod limits;
 mod line;
 mod parts;
 mod phrase;
+mod program;
+mod reading;
 mod step;
 mod typed;
 
+pub use fault::Fault;
 pub use laws::one_reading;
+pub use limits::LineNumbers;
+pub use program::Text;
+pub use reading::parse;
