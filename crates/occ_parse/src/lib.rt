@@ -13,7 +13,7 @@ mod reading;
 mod step;
 mod typed;
 
-pub use fault::Fault;
+pub use fault::{ParseFault, Which};
 pub use laws::one_reading;
 pub use limits::LineNumbers;
 pub use program::Text;

@@ -7,7 +7,7 @@ use Rattle.occ_parse.specs.Parts.{OnForm}
 use Rattle.occ_parse.specs.Reading.{NoProgram}
 use Rattle.occ_symbol.proofs.Placed.{lines_placed}
 use Rattle.occ_parse.proofs.Framing.{reads_straight, on_fault}
-use Rattle.occ_parse.proofs.reading.parse.Goals as goal
+use Rattle.occ_parse.proofs.reading.read.Goals as goal
 
 pub rows-requires : goal.rows-requires
 rows-requires c = subst (AllByRecursion (IsLineOf c.args.text.now)) (sym c.as_slice.ensures.value) (lines_placed _ _ c.in-Ok.ensures)
