@@ -1,5 +1,5 @@
 -- How states, events, behaviours and verdicts are written.
-use Rattle.std.specs.Prelude.{ℕ, List, [], ◌∷◌, ◌++◌, map, codes, decimal, slice_get, unwrap_or}
+use Rattle.std.specs.Prelude.{ℕ, List, [], ◌∷◌, ◌++◌, codes, decimal, slice_get, unwrap_or}
 use Rattle.std.specs.List.{flat_map}
 use Rattle.occ_base.specs.declared.names.Name.{Name}
 use Rattle.occ_base.specs.declared.event.Dir.{Dir}
@@ -41,7 +41,7 @@ last_text names (Ends state) = codes "ENDS " ++ state_text state ++ codes "\n"
 -- a behaviour: its state, its trace and how it stands then, a line each
 abbrev pub text_of_behaviour : List (List ℕ) → Behaviour → List ℕ
 text_of_behaviour names b = codes "STATE " ++ state_text b.state ++ codes "\n"
-  ++ codes "TRACE" ++ flat_map (λ e. 32 ∷ event_text names e) b.trace ++ codes "\n" ++ last_text names b.last
+    ++ codes "TRACE" ++ flat_map (λ e. 32 ∷ event_text names e) b.trace ++ codes "\n" ++ last_text names b.last
 
 abbrev pub side_text : Side → List ℕ
 side_text First = codes "ONLY FIRST\n"

@@ -2,6 +2,8 @@
 #![tactic(auto)]
 
 mod behaviour;
+#[cfg(test)]
+mod tests;
 mod text;
 
 pub use behaviour::{Behaviour, Last, Side, Verdict};

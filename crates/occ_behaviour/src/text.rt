@@ -29,7 +29,11 @@ pub fn verdict_text(alloc: Global, names: &Names, verdict: &Verdict) -> Result<V
 }
 
 /// The three lines of a behaviour: `STATE`, `TRACE`, and `REFUSES` or `ENDS`.
-pub fn behaviour_text(alloc: Global, names: &Names, behaviour: &Behaviour) -> Result<Vec<u8>, Memory>
+pub fn behaviour_text(
+    alloc: Global,
+    names: &Names,
+    behaviour: &Behaviour,
+) -> Result<Vec<u8>, Memory>
     requires { IsNamed names.now behaviour.now }
     ensures { IfOk result (λ text. text.items ≡ text_of_behaviour names.now behaviour.now) }
 {
@@ -94,7 +98,7 @@ fn push_spaced_values(text: &mut Vec<u8>, state: &[(Name, u8)]) -> Result<(), Me
     ensures { OnOk result (text.new.items ≡ text.old.items ++ flat_map (λ v. 32 ∷ decimal v.1) state.now) }
 {
     for (_, value) in state {
-        text.extend_from_slice(b" ")?;
+        text.push(b' ')?;
         push_number(text, *value)?;
     }
     Ok(())

@@ -8,8 +8,8 @@ use Rattle.occ_diagram.specs.declared.node.Node.TheVariants.{Branch}
 use Rattle.occ_dd.specs.Choices.{greatest_depth, IsChoice, IsUnion, IsTop}
 use Rattle.occ_dd.specs.Grows.{Grows}
 use Rattle.occ_dd.specs.declared.store.Store.{Store}
-use Rattle.occ_dd.proofs.Choosing.{part-keeps, choice-keeps, greatest-keeps, union-keeps, choice_joined, choice_same, union_below, union_here, greatest_second, greatest_third}
-use Rattle.occ_dd.proofs.Sets.{grows_trans, depth-full, end-full, end-empty, apart}
+use Rattle.occ_dd.proofs.Choosing.{part-keeps, choice-keeps, greatest-keeps, union-keeps, choice_joined, choice_same, union_below, union_here, greatest_first, greatest_second, greatest_third}
+use Rattle.occ_dd.proofs.Sets.{grows_trans, depth-full, end-full, end-empty, end_cases, apart}
 
 greatest_le : (a b c m : ℕ) → a ≤ m → b ≤ m → c ≤ m → max a (max b c) ≤ m
 greatest_le a b c m e f h = omega arith
@@ -86,6 +86,21 @@ module _ (s : Store) (a b c : ℕ) (ha : a < length (nodes_of s.table)) (hb : b 
     known = hc;
     depth = greatest_third (depth_of (nodes_of s.table) a) (depth_of (nodes_of s.table) b) (depth_of (nodes_of s.table) c);
     ends = λ x. sym (ap (λ t. cond t (end_of (nodes_of s.table) b x) (end_of (nodes_of s.table) c x)) (ne_eqb _ _ (λ f. apart s (sym (ap (λ n. end_of (nodes_of s.table) n x) e ∙ end-empty s x) ∙ f))));
+  }
+
+  pub choice_itself : b ≡ s.full → c ≡ s.empty → IsChoice (nodes_of s.table) s.full a b c a
+  choice_itself e f = record {
+    first = ha;
+    second = hb;
+    third = hc;
+    known = ha;
+    depth = greatest_first (depth_of (nodes_of s.table) a) (depth_of (nodes_of s.table) b) (depth_of (nodes_of s.table) c);
+    ends = λ x. ⊎_elim
+        (λ (h : end_of (nodes_of s.table) a x ≡ s.full).
+        h ∙ sym (ap (λ t. cond t (end_of (nodes_of s.table) b x) (end_of (nodes_of s.table) c x)) (eq-eqb _ _ h) ∙ ap (λ n. end_of (nodes_of s.table) n x) e ∙ end-full s x))
+        (λ (h : end_of (nodes_of s.table) a x ≡ s.empty).
+        h ∙ sym (ap (λ t. cond t (end_of (nodes_of s.table) b x) (end_of (nodes_of s.table) c x)) (ne_eqb _ _ (λ g. apart s (sym h ∙ g))) ∙ ap (λ n. end_of (nodes_of s.table) n x) f ∙ end-empty s x))
+        (end_cases s a x ha);
   }
 
   pub choice_either : (a ≡ s.full) ⊎ ((a ≡ s.full → ⊥) × (b ≡ c)) → IsChoice (nodes_of s.table) s.full a b c b

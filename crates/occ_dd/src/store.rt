@@ -174,6 +174,9 @@ impl Store {
         if test == self.empty {
             return Ok(no);
         }
+        if yes == self.full && no == self.empty {
+            return Ok(test);
+        }
         let call = Call {
             first: test,
             second: yes,

@@ -12,7 +12,8 @@ use Rattle.occ_syntax.specs.Tree.{Exp, Tree, Trees, and_tree, assign, no_tree, p
 use Rattle.occ_syntax.specs.Types.{types_kept}
 use Rattle.std.proofs.Common.{List, [], ap, append-nil, false, inl, refl, subst, sym, true, ℕ, ◌++◌, ◌∙◌, ◌≡◌}
 
-pub assign_out : (xs : List ℕ) (es : List Exp) (n : Meaning) (Γ : Environment) (s : Values) (t : Trace) (o : Outcome) → (followed (at_once (assigned xs es)) n).does Γ s t o → n.does Γ (assigned xs es Γ s) t o
+pub assign_out : (xs : List ℕ) (es : List Exp) (n : Meaning) (Γ : Environment) (s : Values) (t : Trace) (o : Outcome)
+    → (followed (at_once (assigned xs es)) n).does Γ s t o → n.does Γ (assigned xs es Γ s) t o
 assign_out xs es n Γ s t o (in_first d) = refusing_ends d.1
   where
     refusing_ends : {A : Type 0} {r : Values} {X : EventSet} → refusing X ≡ ended r → A
@@ -24,7 +25,8 @@ assign_out xs es n Γ s t o (in_second t1 t2 s1 e d1 d2) =
     let Q : Trace → Type 0 = λ r. n.does Γ s1 r o in
     subst P at_end_of (subst Q whole d2)
 
-pub assign_in : (xs : List ℕ) (es : List Exp) (n : Meaning) (Γ : Environment) (s : Values) (t : Trace) (o : Outcome) → n.does Γ (assigned xs es Γ s) t o → (followed (at_once (assigned xs es)) n).does Γ s t o
+pub assign_in : (xs : List ℕ) (es : List Exp) (n : Meaning) (Γ : Environment) (s : Values) (t : Trace) (o : Outcome)
+    → n.does Γ (assigned xs es Γ s) t o → (followed (at_once (assigned xs es)) n).does Γ s t o
 assign_in xs es n Γ s t o d = in_second [] t (assigned xs es Γ s) refl (refl, refl) d
 
 pub then_skip_out : (m : Meaning) (Γ : Environment) (s : Values) (t : Trace) (o : Outcome) → (followed m done).does Γ s t o → m.does Γ s t o
@@ -39,25 +41,33 @@ pub then_skip_in : (m : Meaning) (Γ : Environment) (s : Values) (t : Trace) (o 
 then_skip_in m Γ s t (ended r) d = in_second t [] r (sym (append-nil t)) d (refl, refl)
 then_skip_in m Γ s t (refusing X) d = in_first d
 
-assign_leaves : (xs : List ℕ) (es : List Exp) (m n : Meaning) → IgnoresAll n xs → (Γ : Environment) (s : Values) (t : Trace) (o : Outcome) → Together (followed (at_once (assigned xs es)) m) n Γ s t o → (followed (at_once (assigned xs es)) (followed (beside m n) done)).does Γ s t o
+assign_leaves : (xs : List ℕ) (es : List Exp) (m n : Meaning) → IgnoresAll n xs → (Γ : Environment) (s : Values) (t : Trace) (o : Outcome)
+    → Together (followed (at_once (assigned xs es)) m) n Γ s t o
+    → (followed (at_once (assigned xs es)) (followed (beside m n) done)).does Γ s t o
 assign_leaves xs es m n h Γ s t o (together t1 t2 o1 o2 w c d1 d2) =
     let k = second_past n Γ s t2 xs es h o1 o2 o c d2 in
     assign_in xs es (followed (beside m n) done) Γ s t o
-      (then_skip_in (beside m n) Γ (assigned xs es Γ s) t o (together t1 t2 o1 k.other w k.combines (assign_out xs es m Γ s t1 o1 d1) k.does))
+    (then_skip_in (beside m n) Γ (assigned xs es Γ s) t o (together t1 t2 o1 k.other w k.combines (assign_out xs es m Γ s t1 o1 d1) k.does))
 
-assign_enters_at : (xs : List ℕ) (es : List Exp) (m n : Meaning) → IgnoresAll n xs → (Γ : Environment) (s : Values) (t : Trace) (o : Outcome) → Together m n Γ (assigned xs es Γ s) t o → Together (followed (at_once (assigned xs es)) m) n Γ s t o
+assign_enters_at : (xs : List ℕ) (es : List Exp) (m n : Meaning) → IgnoresAll n xs
+    → (Γ : Environment) (s : Values) (t : Trace) (o : Outcome) → Together m n Γ (assigned xs es Γ s) t o
+    → Together (followed (at_once (assigned xs es)) m) n Γ s t o
 assign_enters_at xs es m n h Γ s t o (together t1 t2 o1 o2 w c d1 d2) =
     let k = second_past_back n Γ s t2 xs es h o1 o2 o c d2 in
     together t1 t2 o1 k.other w k.combines (assign_in xs es m Γ s t1 o1 d1) k.does
 
-ignores_all : (q : Tree) (Θ : Environment) → types_kept q Θ ≡ true → (xs : List ℕ) → ((x : ℕ) → is_in xs x ≡ true → free q x ≡ false) → IgnoresAll (meaning q) xs
+ignores_all : (q : Tree) (Θ : Environment) → types_kept q Θ ≡ true → (xs : List ℕ) → ((x : ℕ) → is_in xs x ≡ true → free q x ≡ false)
+    → IgnoresAll (meaning q) xs
 ignores_all q Θ t xs h x k = (part_ignores q Θ t x (inl (h x k)), part_value q Θ t x (not_written q x (h x k)))
 
-pub par_assign : (Γ : Environment) (xs : List ℕ) (es : List Exp) (ps : Trees) (q : Tree) → types_kept q Γ ≡ true → ((x : ℕ) → is_in xs x ≡ true → free q x ≡ false)
+pub par_assign : (Γ : Environment) (xs : List ℕ) (es : List Exp) (ps : Trees) (q : Tree) → types_kept q Γ ≡ true
+    → ((x : ℕ) → is_in xs x ≡ true → free q x ≡ false)
     → SAME Γ (par (and_tree (seq (and_tree (assign xs es) ps)) (and_tree q no_tree))) (seq (and_tree (assign xs es) (and_tree (par (and_tree (seq ps) (and_tree q no_tree))) no_tree)))
 par_assign Γ xs es ps q t h =
     let apart = ignores_all q Γ t xs h in
     same_by Γ (par (and_tree (seq (and_tree (assign xs es) ps)) (and_tree q no_tree))) (seq (and_tree (assign xs es) (and_tree (par (and_tree (seq ps) (and_tree q no_tree))) no_tree)))
-      (record { gives = λ s r o d. assign_leaves xs es (in_turn ps) (meaning q) apart Γ s r o d })
-      (record { gives = λ s r o d. assign_enters_at xs es (in_turn ps) (meaning q) apart Γ s r o
-          (then_skip_out (beside (in_turn ps) (meaning q)) Γ (assigned xs es Γ s) r o (assign_out xs es (followed (beside (in_turn ps) (meaning q)) done) Γ s r o d)) })
+    (record { gives = λ s r o d. assign_leaves xs es (in_turn ps) (meaning q) apart Γ s r o d })
+    (record {
+      gives = λ s r o d. assign_enters_at xs es (in_turn ps) (meaning q) apart Γ s r o
+          (then_skip_out (beside (in_turn ps) (meaning q)) Γ (assigned xs es Γ s) r o (assign_out xs es (followed (beside (in_turn ps) (meaning q)) done) Γ s r o d));
+    })

@@ -31,13 +31,15 @@ gives_itself Γ m = record { gives = λ s t o d. d }
 pub gives_through : (Γ : Environment) (m n l : Meaning) → Gives Γ m n → Gives Γ n l → Gives Γ m l
 gives_through Γ m n l h k = record { gives = λ s t o d. k.gives s t o (h.gives s t o d) }
 
-together_gives : (Γ : Environment) (m m' n n' : Meaning) → Gives Γ m m' → Gives Γ n n' → (s : Values) (t : Trace) (o : Outcome) → Together m n Γ s t o → Together m' n' Γ s t o
+together_gives : (Γ : Environment) (m m' n n' : Meaning) → Gives Γ m m' → Gives Γ n n' → (s : Values) (t : Trace) (o : Outcome)
+    → Together m n Γ s t o → Together m' n' Γ s t o
 together_gives Γ m m' n n' hm hn s t o (together t1 t2 o1 o2 w c d1 d2) = together t1 t2 o1 o2 w c (hm.gives s t1 o1 d1) (hn.gives s t2 o2 d2)
 
 pub beside_gives : (Γ : Environment) (m m' n n' : Meaning) → Gives Γ m m' → Gives Γ n n' → Gives Γ (beside m n) (beside m' n')
 beside_gives Γ m m' n n' hm hn = record { gives = together_gives Γ m m' n n' hm hn }
 
-pub shrink : (m : Meaning) → Shrinks m → (Γ : Environment) (s : Values) (t : Trace) (X W : EventSet) → ((e : Event) → W e ≡ true → X e ≡ true) → m.does Γ s t (refusing X) → m.does Γ s t (refusing W)
+pub shrink : (m : Meaning) → Shrinks m → (Γ : Environment) (s : Values) (t : Trace) (X W : EventSet)
+    → ((e : Event) → W e ≡ true → X e ≡ true) → m.does Γ s t (refusing X) → m.does Γ s t (refusing W)
 shrink m h Γ s t X W sub d = h.more Γ s t X W (λ e k. inl (sub e k)) d
 
 -- ---- the other way round
@@ -79,7 +81,8 @@ join_turned s s1 s2 apart = fun_ext (λ x. at_one (s x) (s1 x) (s2 x) (apart x))
       | inr k ↦ ap (λ n. if b == a then n else b) k ∙ (sym (one_kept a b (b == a) refl) ∙ sym (if_true (c == a) b c (eq-eqb c a k)))
     ]
 
-combine_turned : (m n : Meaning) → ChangeApart m n → (Γ : Environment) (s : Values) (t1 t2 t : Trace) → Weave t1 t2 t → (o1 o2 o : Outcome) → m.does Γ s t1 o1 → n.does Γ s t2 o2 → Combines Γ s o1 o2 o → Together n m Γ s t o
+combine_turned : (m n : Meaning) → ChangeApart m n → (Γ : Environment) (s : Values) (t1 t2 t : Trace) → Weave t1 t2 t → (o1 o2 o : Outcome)
+    → m.does Γ s t1 o1 → n.does Γ s t2 o2 → Combines Γ s o1 o2 o → Together n m Γ s t o
 combine_turned m n apart Γ s t1 t2 t w o1 o2 o d1 d2 (both_ended {s1 = a} {s2 = b} {s' = r} e) =
     together t2 t1 (ended b) (ended a) (weave_turned t1 t2 t w)
     (both_ended (e ∙ join_turned s a b (λ x. elim (apart.one_keeps x) [ inl k ↦ inl (k.value Γ s t1 a d1) | inr k ↦ inr (k.value Γ s t2 b d2) ]))) d2 d1
@@ -89,7 +92,8 @@ combine_turned m n apart Γ s t1 t2 t w o1 o2 o d1 d2 (neither_ended X Y) =
     let P : EventSet → Type 0 = λ Z. m.does Γ s t1 (refusing (refused_with Γ X Z)) in
     together t2 t1 (refusing (refused_with Γ X (answered Y))) (refusing (refused_with Γ X (answered (answered Y)))) (weave_turned t1 t2 t w) (neither_ended X (answered Y)) d2 (subst P (sym (answered_twice Y)) d1)
 
-together_turned : (m n : Meaning) → ChangeApart m n → (Γ : Environment) (s : Values) (t : Trace) (o : Outcome) → Together m n Γ s t o → Together n m Γ s t o
+together_turned : (m n : Meaning) → ChangeApart m n → (Γ : Environment) (s : Values) (t : Trace) (o : Outcome) → Together m n Γ s t o
+    → Together n m Γ s t o
 together_turned m n apart Γ s t o (together t1 t2 o1 o2 w c d1 d2) = combine_turned m n apart Γ s t1 t2 t w o1 o2 o d1 d2 c
 
 pub beside_turned : (Γ : Environment) (m n : Meaning) → ChangeApart m n → Gives Γ (beside m n) (beside n m)
@@ -109,12 +113,14 @@ alone : (c : Trace) → Weave [] c c
 alone [] = both_done
 alone (e ∷ c) = of_second (alone c)
 
-past_first : (e : Event) (a b x : Trace) → ((c t : Trace) → Weave x c t → Regrouped a b c t) → (c t : Trace) → Weave (e ∷ x) c t → Regrouped (e ∷ a) b c t
+past_first : (e : Event) (a b x : Trace) → ((c t : Trace) → Weave x c t → Regrouped a b c t) → (c t : Trace) → Weave (e ∷ x) c t
+    → Regrouped (e ∷ a) b c t
 past_first e a b x ih c t (of_first {b = y} {c = z} w) = let k = ih y z w in record { middle = k.middle; inner = k.inner; outer = of_first k.outer }
 past_first e a b x ih c t (of_second {e = g} {b = y} {c = z} w) = let k = past_first e a b x ih y z w in record { middle = g ∷ k.middle; inner = of_second k.inner; outer = of_second k.outer }
 past_first e a b x ih c t (unseen {f = g} {b = y} {c = z} i w) = let k = ih y z w in record { middle = g ∷ k.middle; inner = of_second k.inner; outer = unseen i k.outer }
 
-past_second : (e : Event) (a b x : Trace) → ((c t : Trace) → Weave x c t → Regrouped a b c t) → (c t : Trace) → Weave (e ∷ x) c t → Regrouped a (e ∷ b) c t
+past_second : (e : Event) (a b x : Trace) → ((c t : Trace) → Weave x c t → Regrouped a b c t) → (c t : Trace) → Weave (e ∷ x) c t
+    → Regrouped a (e ∷ b) c t
 past_second e a b x ih c t (of_first {b = y} {c = z} w) = let k = ih y z w in record { middle = e ∷ k.middle; inner = of_first k.inner; outer = of_second k.outer }
 past_second e a b x ih c t (of_second {e = g} {b = y} {c = z} w) = let k = past_second e a b x ih y z w in record { middle = g ∷ k.middle; inner = of_second k.inner; outer = of_second k.outer }
 past_second e a b x ih c t (unseen {f = g} {b = y} {c = z} i w) = let k = ih y z w in record { middle = k.middle; inner = unseen i k.inner; outer = k.outer }
@@ -129,7 +135,8 @@ weave_grouped a b x (unseen {e = e} {f = f} {a = y} {b = z} {c = r} i w) c t v =
 pub join_grouped : (s a b c : Values) → join s (join s a b) c ≡ join s a (join s b c)
 join_grouped s a b c = fun_ext (λ x. at_one (s x) (a x) (b x) (c x) (a x == s x) refl)
   where
-    at_one : (n u v w : ℕ) (t : Bool) → (u == n) ≡ t → (if (if t then v else u) == n then w else (if t then v else u)) ≡ (if t then (if v == n then w else v) else u)
+    at_one : (n u v w : ℕ) (t : Bool) → (u == n) ≡ t
+        → (if (if t then v else u) == n then w else (if t then v else u)) ≡ (if t then (if v == n then w else v) else u)
     at_one n u v w true h = refl
     at_one n u v w false h = if_false (u == n) w u h
 
@@ -176,7 +183,9 @@ out_last_group false true false w' h = refl
 
 module _ (p q r : Meaning) (hp : Shrinks p) (hq : Shrinks q) (hr : Shrinks r) (Γ : Environment) (s : Values) where
   -- three stable parts
-  grouped_stable : (t1 t2 t3 m t : Trace) → Weave t2 t3 m → Weave t1 m t → (X Y W : EventSet) → p.does Γ s t1 (refusing (refused_with Γ (refused_with Γ X Y) W)) → q.does Γ s t2 (refusing (refused_with Γ (refused_with Γ X Y) (answered W)))
+  grouped_stable : (t1 t2 t3 m t : Trace) → Weave t2 t3 m → Weave t1 m t → (X Y W : EventSet)
+      → p.does Γ s t1 (refusing (refused_with Γ (refused_with Γ X Y) W))
+      → q.does Γ s t2 (refusing (refused_with Γ (refused_with Γ X Y) (answered W)))
       → r.does Γ s t3 (refusing (refused_with Γ X (answered Y))) → Together p (beside q r) Γ s t (refusing X)
   grouped_stable t1 t2 t3 m t v w X Y W d1 d2 d3 =
       let U : EventSet = λ e. Y e || W e in
@@ -187,7 +196,8 @@ module _ (p q r : Meaning) (hp : Shrinks p) (hq : Shrinks q) (hr : Shrinks r) (�
       (shrink q hq Γ s t2 (refused_with Γ (refused_with Γ X Y) (answered W)) (refused_with Γ Z Y) (λ e h. in_middle_group (X e) (in_scope Γ e) (Y e) (Y (counterpart e)) (W (counterpart e)) h) d2)
       (shrink r hr Γ s t3 (refused_with Γ X (answered Y)) (refused_with Γ Z (answered Y)) (λ e h. in_last_group (X e) (in_scope Γ e) (Y (counterpart e)) (W (counterpart e)) h) d3))
 
-  ungrouped_stable : (t1 t2 t3 m t : Trace) → Weave t1 t2 m → Weave m t3 t → (X Y W : EventSet) → p.does Γ s t1 (refusing (refused_with Γ X Y)) → q.does Γ s t2 (refusing (refused_with Γ (refused_with Γ X (answered Y)) W))
+  ungrouped_stable : (t1 t2 t3 m t : Trace) → Weave t1 t2 m → Weave m t3 t → (X Y W : EventSet)
+      → p.does Γ s t1 (refusing (refused_with Γ X Y)) → q.does Γ s t2 (refusing (refused_with Γ (refused_with Γ X (answered Y)) W))
       → r.does Γ s t3 (refusing (refused_with Γ (refused_with Γ X (answered Y)) (answered W))) → Together (beside p q) r Γ s t (refusing X)
   ungrouped_stable t1 t2 t3 m t v w X Y W d1 d2 d3 =
       let U : EventSet = λ e. Y e && W e in
@@ -198,7 +208,9 @@ module _ (p q r : Meaning) (hp : Shrinks p) (hq : Shrinks q) (hr : Shrinks r) (�
       (shrink q hq Γ s t2 (refused_with Γ (refused_with Γ X (answered Y)) W) (refused_with Γ Z (answered Y)) (λ e h. out_middle_group (X e) (in_scope Γ e) (Y e) (W e) (Y (counterpart e)) h) d2))
       (shrink r hr Γ s t3 (refused_with Γ (refused_with Γ X (answered Y)) (answered W)) (refused_with Γ X (answered U)) (λ e h. out_last_group (X e) (in_scope Γ e) (Y (counterpart e)) (W (counterpart e)) h) d3)
 
-  grouped_neither : (t1 t2 t3 m t : Trace) → Weave t2 t3 m → Weave t1 m t → (X Y V : EventSet) → V ≡ refused_with Γ X Y → (o1 o2 : Outcome) → p.does Γ s t1 o1 → q.does Γ s t2 o2 → r.does Γ s t3 (refusing (refused_with Γ X (answered Y))) → Combines Γ s o1 o2 (refusing V) → Together p (beside q r) Γ s t (refusing X)
+  grouped_neither : (t1 t2 t3 m t : Trace) → Weave t2 t3 m → Weave t1 m t → (X Y V : EventSet) → V ≡ refused_with Γ X Y → (o1 o2 : Outcome)
+      → p.does Γ s t1 o1 → q.does Γ s t2 o2 → r.does Γ s t3 (refusing (refused_with Γ X (answered Y))) → Combines Γ s o1 o2 (refusing V)
+      → Together p (beside q r) Γ s t (refusing X)
   grouped_neither t1 t2 t3 m t v w X Y V is o1 o2 d1 d2 d3 (first_ended {s1 = a}) =
       let P : EventSet → Type 0 = λ k. q.does Γ s t2 (refusing k) in
       together t1 m (ended a) (refusing X) w first_ended d1 (together t2 t3 (refusing (refused_with Γ X Y)) (refusing (refused_with Γ X (answered Y))) v (neither_ended X Y) (subst P is d2) d3)
@@ -210,7 +222,8 @@ module _ (p q r : Meaning) (hp : Shrinks p) (hq : Shrinks q) (hr : Shrinks r) (�
       let Q : EventSet → Type 0 = λ k. q.does Γ s t2 (refusing (refused_with Γ k (answered W))) in
       grouped_stable t1 t2 t3 m t v w X Y W (subst P is d1) (subst Q is d2) d3
 
-  grouped_case : (t1 t2 t3 m t : Trace) → Weave t2 t3 m → Weave t1 m t → (o1 o2 o3 o12 o : Outcome) → p.does Γ s t1 o1 → q.does Γ s t2 o2 → r.does Γ s t3 o3 → Combines Γ s o12 o3 o → Combines Γ s o1 o2 o12 → Together p (beside q r) Γ s t o
+  grouped_case : (t1 t2 t3 m t : Trace) → Weave t2 t3 m → Weave t1 m t → (o1 o2 o3 o12 o : Outcome) → p.does Γ s t1 o1 → q.does Γ s t2 o2
+      → r.does Γ s t3 o3 → Combines Γ s o12 o3 o → Combines Γ s o1 o2 o12 → Together p (beside q r) Γ s t o
   grouped_case t1 t2 t3 m t v w o1 o2 o3 o12 o d1 d2 d3 (both_ended {s1 = ab} {s2 = c} {s' = u} e) (both_ended {s1 = a} {s2 = b} i) =
       together t1 m (ended a) (ended (join s b c)) w (both_ended (e ∙ (ap (λ k. join s k c) i ∙ join_grouped s a b c))) d1 (together t2 t3 (ended b) (ended c) v (both_ended refl) d2 d3)
   grouped_case t1 t2 t3 m t v w o1 o2 o3 o12 o d1 d2 d3 (first_ended {X = X}) (both_ended {s1 = a} {s2 = b} i) =
@@ -223,7 +236,9 @@ module _ (p q r : Meaning) (hp : Shrinks p) (hq : Shrinks q) (hr : Shrinks r) (�
       together t1 m (refusing (refused_with Γ X Y)) (refusing (refused_with Γ X (answered Y))) w (neither_ended X Y) d1 (together t2 t3 (refusing (refused_with Γ X (answered Y))) (ended c) v second_ended d2 d3)
   grouped_case t1 t2 t3 m t v w o1 o2 o3 o12 o d1 d2 d3 (neither_ended X Y) c = grouped_neither t1 t2 t3 m t v w X Y (refused_with Γ X Y) refl o1 o2 d1 d2 d3 c
 
-  ungrouped_neither : (t1 t2 t3 m t : Trace) → Weave t1 t2 m → Weave m t3 t → (X Y V : EventSet) → V ≡ refused_with Γ X (answered Y) → (o2 o3 : Outcome) → p.does Γ s t1 (refusing (refused_with Γ X Y)) → q.does Γ s t2 o2 → r.does Γ s t3 o3 → Combines Γ s o2 o3 (refusing V) → Together (beside p q) r Γ s t (refusing X)
+  ungrouped_neither : (t1 t2 t3 m t : Trace) → Weave t1 t2 m → Weave m t3 t → (X Y V : EventSet) → V ≡ refused_with Γ X (answered Y)
+      → (o2 o3 : Outcome) → p.does Γ s t1 (refusing (refused_with Γ X Y)) → q.does Γ s t2 o2 → r.does Γ s t3 o3
+      → Combines Γ s o2 o3 (refusing V) → Together (beside p q) r Γ s t (refusing X)
   ungrouped_neither t1 t2 t3 m t v w X Y V is o2 o3 d1 d2 d3 (first_ended {s1 = b}) =
       let P : EventSet → Type 0 = λ k. r.does Γ s t3 (refusing k) in
       together m t3 (refusing (refused_with Γ X Y)) (refusing (refused_with Γ X (answered Y))) w (neither_ended X Y) (together t1 t2 (refusing (refused_with Γ X Y)) (ended b) v second_ended d1 d2) (subst P is d3)
@@ -235,7 +250,8 @@ module _ (p q r : Meaning) (hp : Shrinks p) (hq : Shrinks q) (hr : Shrinks r) (�
       let Q : EventSet → Type 0 = λ k. r.does Γ s t3 (refusing (refused_with Γ k (answered W))) in
       ungrouped_stable t1 t2 t3 m t v w X Y W d1 (subst P is d2) (subst Q is d3)
 
-  ungrouped_case : (t1 t2 t3 m t : Trace) → Weave t1 t2 m → Weave m t3 t → (o1 o2 o3 o23 o : Outcome) → p.does Γ s t1 o1 → q.does Γ s t2 o2 → r.does Γ s t3 o3 → Combines Γ s o1 o23 o → Combines Γ s o2 o3 o23 → Together (beside p q) r Γ s t o
+  ungrouped_case : (t1 t2 t3 m t : Trace) → Weave t1 t2 m → Weave m t3 t → (o1 o2 o3 o23 o : Outcome) → p.does Γ s t1 o1 → q.does Γ s t2 o2
+      → r.does Γ s t3 o3 → Combines Γ s o1 o23 o → Combines Γ s o2 o3 o23 → Together (beside p q) r Γ s t o
   ungrouped_case t1 t2 t3 m t v w o1 o2 o3 o23 o d1 d2 d3 (both_ended {s1 = a} {s2 = bc} {s' = u} e) (both_ended {s1 = b} {s2 = c} i) =
       together m t3 (ended (join s a b)) (ended c) w (both_ended (e ∙ (ap (λ k. join s a k) i ∙ sym (join_grouped s a b c)))) (together t1 t2 (ended a) (ended b) v (both_ended refl) d1 d2) d3
   ungrouped_case t1 t2 t3 m t v w o1 o2 o3 o23 o d1 d2 d3 (second_ended {X = X}) (both_ended {s1 = b} {s2 = c} i) =
@@ -248,13 +264,15 @@ module _ (p q r : Meaning) (hp : Shrinks p) (hq : Shrinks q) (hr : Shrinks r) (�
       together m t3 (refusing (refused_with Γ X Y)) (refusing (refused_with Γ X (answered Y))) w (neither_ended X Y) (together t1 t2 (ended a) (refusing (refused_with Γ X Y)) v first_ended d1 d2) d3
   ungrouped_case t1 t2 t3 m t v w o1 o2 o3 o23 o d1 d2 d3 (neither_ended X Y) c = ungrouped_neither t1 t2 t3 m t v w X Y (refused_with Γ X (answered Y)) refl o2 o3 d1 d2 d3 c
 
-  grouped_inner : (t1 t3 t : Trace) (o1 o3 o : Outcome) → Weave t1 t3 t → Combines Γ s o1 o3 o → Together p q Γ s t1 o1 → r.does Γ s t3 o3 → Together p (beside q r) Γ s t o
+  grouped_inner : (t1 t3 t : Trace) (o1 o3 o : Outcome) → Weave t1 t3 t → Combines Γ s o1 o3 o → Together p q Γ s t1 o1 → r.does Γ s t3 o3
+      → Together p (beside q r) Γ s t o
   grouped_inner x t3 t o12 o3 o v c (together t1 t2 o1 o2 w c' d1 d2) d3 = let k = weave_grouped t1 t2 x w t3 t v in grouped_case t1 t2 t3 k.middle t k.inner k.outer o1 o2 o3 o12 o d1 d2 d3 c c'
 
   grouped : (t : Trace) (o : Outcome) → Together (beside p q) r Γ s t o → Together p (beside q r) Γ s t o
   grouped t o (together t1 t3 o1 o3 w c d1 d3) = grouped_inner t1 t3 t o1 o3 o w c d1 d3
 
-  ungrouped_inner : (t1 x t : Trace) (o1 o23 o : Outcome) → Weave t1 x t → Combines Γ s o1 o23 o → p.does Γ s t1 o1 → Together q r Γ s x o23 → Together (beside p q) r Γ s t o
+  ungrouped_inner : (t1 x t : Trace) (o1 o23 o : Outcome) → Weave t1 x t → Combines Γ s o1 o23 o → p.does Γ s t1 o1 → Together q r Γ s x o23
+      → Together (beside p q) r Γ s t o
   ungrouped_inner t1 x t o1 o23 o v c d1 (together t2 t3 o2 o3 w c' d2 d3) =
       let k = weave_grouped t3 t2 x (weave_turned t2 t3 x w) t1 t (weave_turned t1 x t v) in
       ungrouped_case t1 t2 t3 k.middle t (weave_turned t2 t1 k.middle k.inner) (weave_turned t3 k.middle t k.outer) o1 o2 o3 o23 o d1 d2 d3 c c'
@@ -262,10 +280,12 @@ module _ (p q r : Meaning) (hp : Shrinks p) (hq : Shrinks q) (hr : Shrinks r) (�
   ungrouped : (t : Trace) (o : Outcome) → Together p (beside q r) Γ s t o → Together (beside p q) r Γ s t o
   ungrouped t o (together t1 x o1 o23 w c d1 d) = ungrouped_inner t1 x t o1 o23 o w c d1 d
 
-pub beside_grouped : (p q r : Meaning) → Shrinks p → Shrinks q → Shrinks r → (Γ : Environment) → Gives Γ (beside (beside p q) r) (beside p (beside q r))
+pub beside_grouped : (p q r : Meaning) → Shrinks p → Shrinks q → Shrinks r → (Γ : Environment)
+    → Gives Γ (beside (beside p q) r) (beside p (beside q r))
 beside_grouped p q r hp hq hr Γ = record { gives = λ s t o d. grouped p q r hp hq hr Γ s t o d }
 
-pub beside_ungrouped : (p q r : Meaning) → Shrinks p → Shrinks q → Shrinks r → (Γ : Environment) → Gives Γ (beside p (beside q r)) (beside (beside p q) r)
+pub beside_ungrouped : (p q r : Meaning) → Shrinks p → Shrinks q → Shrinks r → (Γ : Environment)
+    → Gives Γ (beside p (beside q r)) (beside (beside p q) r)
 beside_ungrouped p q r hp hq hr Γ = record { gives = λ s t o d. ungrouped p q r hp hq hr Γ s t o d }
 
 -- ---- SKIP
@@ -287,7 +307,8 @@ join_none s a = fun_ext (λ x. at_one (s x) (a x) (a x == s x) refl)
 pub none_join : (s a : Values) → join s s a ≡ a
 none_join s a = fun_ext (λ x. if_true (s x == s x) (a x) (s x) (at_itself (s x)))
 
-skip_combined : (m : Meaning) (Γ : Environment) (s : Values) (t : Trace) (o1 o : Outcome) → m.does Γ s t o1 → Combines Γ s o1 (ended s) o → m.does Γ s t o
+skip_combined : (m : Meaning) (Γ : Environment) (s : Values) (t : Trace) (o1 o : Outcome) → m.does Γ s t o1 → Combines Γ s o1 (ended s) o
+    → m.does Γ s t o
 skip_combined m Γ s t o1 o d (both_ended {s1 = a} {s' = r} e) = let P : Values → Type 0 = λ k. m.does Γ s t (ended k) in subst P (sym (e ∙ join_none s a)) d
 skip_combined m Γ s t o1 o d second_ended = d
 
@@ -329,14 +350,17 @@ skip_before Γ m = gives_through Γ m (beside m done) (beside done m) (skip_adde
 abbrev pub then_stop : Meaning → Meaning
 then_stop m = followed m (followed never done)
 
-stop_combined : (m : Meaning) → Shrinks m → (Γ : Environment) (s : Values) (t : Trace) (o1 : Outcome) (X : EventSet) (o : Outcome) → m.does Γ s t o1 → Combines Γ s o1 (refusing X) o → Followed m (followed never done) Γ s t o
+stop_combined : (m : Meaning) → Shrinks m → (Γ : Environment) (s : Values) (t : Trace) (o1 : Outcome) (X : EventSet) (o : Outcome)
+    → m.does Γ s t o1 → Combines Γ s o1 (refusing X) o → Followed m (followed never done) Γ s t o
 stop_combined m h Γ s t o1 X o d (first_ended {s1 = a}) = in_second t [] a (sym (append-nil t)) d (in_first stopped)
 stop_combined m h Γ s t o1 X o d (neither_ended Z Y) = in_first (shrink m h Γ s t (refused_with Γ Z Y) Z (λ e k. or_left (Z e) (in_scope Γ e && Y e) k) d)
 
-stopped_beside : (m : Meaning) → Shrinks m → (Γ : Environment) (s : Values) (t1 t2 t : Trace) (o1 o2 o : Outcome) → Weave t1 t2 t → Combines Γ s o1 o2 o → m.does Γ s t1 o1 → Stopped t2 o2 → Followed m (followed never done) Γ s t o
+stopped_beside : (m : Meaning) → Shrinks m → (Γ : Environment) (s : Values) (t1 t2 t : Trace) (o1 o2 o : Outcome) → Weave t1 t2 t
+    → Combines Γ s o1 o2 o → m.does Γ s t1 o1 → Stopped t2 o2 → Followed m (followed never done) Γ s t o
 stopped_beside m h Γ s t1 t2 t o1 o2 o w c d1 (stopped {X = X}) = let R : Trace → Type 0 = λ k. m.does Γ s k o1 in stop_combined m h Γ s t o1 X o (subst R (weave_none t1 t w) d1) c
 
-beside_stop_at : (m : Meaning) → Shrinks m → (Γ : Environment) (s : Values) (t : Trace) (o : Outcome) → Together m never Γ s t o → Followed m (followed never done) Γ s t o
+beside_stop_at : (m : Meaning) → Shrinks m → (Γ : Environment) (s : Values) (t : Trace) (o : Outcome) → Together m never Γ s t o
+    → Followed m (followed never done) Γ s t o
 beside_stop_at m h Γ s t o (together t1 t2 o1 o2 w c d1 d2) = stopped_beside m h Γ s t1 t2 t o1 o2 o w c d1 d2
 
 pub beside_stop : (Γ : Environment) (m : Meaning) → Shrinks m → Gives Γ (beside m never) (then_stop m)
@@ -357,12 +381,14 @@ only_stopped : (Γ : Environment) (s : Values) (t : Trace) (o : Outcome) → Fol
 only_stopped Γ s t o (in_first d) = d
 only_stopped Γ s t o (in_second t1 t2 s1 e d1 d2) = no_end_of_stop t1 s1 d1
 
-stop_after : (m : Meaning) (Γ : Environment) (s s1 : Values) (t t1 t2 : Trace) (o : Outcome) → t ≡ t1 ++ t2 → m.does Γ s t1 (ended s1) → Stopped t2 o → Together m never Γ s t o
+stop_after : (m : Meaning) (Γ : Environment) (s s1 : Values) (t t1 t2 : Trace) (o : Outcome) → t ≡ t1 ++ t2 → m.does Γ s t1 (ended s1)
+    → Stopped t2 o → Together m never Γ s t o
 stop_after m Γ s s1 t t1 t2 o e d (stopped {X = X}) =
     let P : Trace → Type 0 = λ k. Weave t1 [] k in
     together t1 [] (ended s1) (refusing X) (subst P (sym (append-nil t1) ∙ sym e) (with_none t1)) first_ended d stopped
 
-stop_beside_at : (m : Meaning) → Shrinks m → (Γ : Environment) (s : Values) (t : Trace) (o : Outcome) → Followed m (followed never done) Γ s t o → Together m never Γ s t o
+stop_beside_at : (m : Meaning) → Shrinks m → (Γ : Environment) (s : Values) (t : Trace) (o : Outcome)
+    → Followed m (followed never done) Γ s t o → Together m never Γ s t o
 stop_beside_at m h Γ s t o (in_first {X = X} d) =
     let Y : EventSet = λ e. false in
     together t [] (refusing (refused_with Γ X Y)) (refusing (refused_with Γ X (answered Y))) (with_none t) (neither_ended X Y)

@@ -32,7 +32,8 @@ stopped_bound t o stopped = omega arith
 never_bounded : Bounded 0 never
 never_bounded = record { bound = λ Γ s t o d. stopped_bound t o d }
 
-followed_bound : (n k : ℕ) (m l : Meaning) → Bounded n m → Bounded k l → (Γ : Environment) (s : Values) (t : Trace) (o : Outcome) → Followed m l Γ s t o → length t ≤ n + k
+followed_bound : (n k : ℕ) (m l : Meaning) → Bounded n m → Bounded k l → (Γ : Environment) (s : Values) (t : Trace) (o : Outcome)
+    → Followed m l Γ s t o → length t ≤ n + k
 followed_bound n k m l hm hl Γ s t o (in_first {X = X} d) = let b : length t ≤ n = hm.bound Γ s t (refusing X) d in omega arith
 followed_bound n k m l hm hl Γ s t o (in_second t1 t2 s1 e d1 d2) =
     let b : length t1 ≤ n = hm.bound Γ s t1 (ended s1) d1 in
@@ -51,7 +52,8 @@ in_most_right a n k h = omega arith
 chosen_bounded : (n k : ℕ) (e : Exp) (m l : Meaning) → Bounded n m → Bounded k l → Bounded (max n k) (chosen e m l)
 chosen_bounded n k e m l hm hl = record { bound = λ Γ s t o d. either (is_true Γ e s) (λ h. in_most_left (length t) n k (hm.bound Γ s t o h)) (λ h. in_most_right (length t) n k (hl.bound Γ s t o h)) d }
 
-taken_bound : (Γ : Environment) (s : Values) (w : Waiting) (t : Trace) (u : Values) (a : Trace) (n : ℕ) → length a ≤ n → Taken Γ s w t u a → length t ≤ guard_events w + n
+taken_bound : (Γ : Environment) (s : Values) (w : Waiting) (t : Trace) (u : Values) (a : Trace) (n : ℕ) → length a ≤ n → Taken Γ s w t u a
+    → length t ≤ guard_events w + n
 taken_bound Γ s w t u a n h at_ready = let k : length a ≤ n = h in omega arith
 taken_bound Γ s w t u a n h (at_event {w = ready} {e = e} after) = absurd after
 taken_bound Γ s w t u a n h (at_event {w = input c x} {e = e} after) = omega arith
@@ -60,7 +62,8 @@ taken_bound Γ s w t u a n h (at_event {w = output c z} {e = e} after) = omega a
 no_guard_bounded : GuardsBounded 0 no_guard
 no_guard_bounded = record { bound = λ Γ s t o d. absurd d }
 
-and_guard_bounded : (n k : ℕ) (e : Exp) (w : Waiting) (m : Meaning) (g : Guards) → Bounded n m → GuardsBounded k g → GuardsBounded (max (guard_events w + n) k) (and_guard e w m g)
+and_guard_bounded : (n k : ℕ) (e : Exp) (w : Waiting) (m : Meaning) (g : Guards) → Bounded n m → GuardsBounded k g
+    → GuardsBounded (max (guard_events w + n) k) (and_guard e w m g)
 and_guard_bounded n k e w m g hm hg = record {
   bound = λ Γ s t o d. elim d [
     | inl i ↦ in_most_left (length t) (guard_events w + n) k (taken_bound Γ s w t i.1.0 i.1.1 n (hm.bound Γ i.1.0 i.1.1 o i.1.3) i.1.2)
@@ -68,7 +71,8 @@ and_guard_bounded n k e w m g hm hg = record {
   ];
 }
 
-alternates_bound : (n : ℕ) (g : Guards) → GuardsBounded n g → (Γ : Environment) (s : Values) (t : Trace) (o : Outcome) → Alternates g Γ s t o → length t ≤ n
+alternates_bound : (n : ℕ) (g : Guards) → GuardsBounded n g → (Γ : Environment) (s : Values) (t : Trace) (o : Outcome)
+    → Alternates g Γ s t o → length t ≤ n
 alternates_bound n g hg Γ s t o (stable d) = omega arith
 alternates_bound n g hg Γ s t o (taken d) = hg.bound Γ s t o d
 
@@ -81,7 +85,8 @@ woven_length a b c (of_first {e = e} {a = x} {b = y} {c = z} w) = let h : length
 woven_length a b c (of_second {e = e} {a = x} {b = y} {c = z} w) = let h : length z ≤ length x + length y = woven_length x y z w in omega arith
 woven_length a b c (unseen {e = e} {f = f} {a = x} {b = y} {c = z} i w) = let h : length z ≤ length x + length y = woven_length x y z w in omega arith
 
-together_bound : (n k : ℕ) (m l : Meaning) → Bounded n m → Bounded k l → (Γ : Environment) (s : Values) (t : Trace) (o : Outcome) → Together m l Γ s t o → length t ≤ n + k
+together_bound : (n k : ℕ) (m l : Meaning) → Bounded n m → Bounded k l → (Γ : Environment) (s : Values) (t : Trace) (o : Outcome)
+    → Together m l Γ s t o → length t ≤ n + k
 together_bound n k m l hm hl Γ s t o (together t1 t2 o1 o2 w c d1 d2) =
     let b : length t1 ≤ n = hm.bound Γ s t1 o1 d1 in
     let i : length t2 ≤ k = hl.bound Γ s t2 o2 d2 in
@@ -91,11 +96,13 @@ beside_all_bounded : (n k : ℕ) (ps : Trees) (m l : Meaning) → Bounded n m �
 beside_all_bounded n k no_tree m l hm hl = wider n (n + k) m (omega arith) hm
 beside_all_bounded n k (and_tree p ps) m l hm hl = record { bound = together_bound n k m l hm hl }
 
-variable_bound : (n x : ℕ) (w : Width) (m : Meaning) → Bounded n m → (Γ : Environment) (s : Values) (t : Trace) (o : Outcome) → WithVariable x w m Γ s t o → length t ≤ n
+variable_bound : (n x : ℕ) (w : Width) (m : Meaning) → Bounded n m → (Γ : Environment) (s : Values) (t : Trace) (o : Outcome)
+    → WithVariable x w m Γ s t o → length t ≤ n
 variable_bound n x w m hm Γ s t o (WithVariable.at_end v s1 lt e d) = hm.bound (with_name Γ x (Var w)) (with_value s x v) t (ended s1) d
 variable_bound n x w m hm Γ s t o (WithVariable.at_rest {X = X} v lt d) = hm.bound (with_name Γ x (Var w)) (with_value s x v) t (refusing X) d
 
-channel_bound : (n c : ℕ) (w : Width) (m : Meaning) → Bounded n m → (Γ : Environment) (s : Values) (t : Trace) (o : Outcome) → WithChannel c w m Γ s t o → length t ≤ n
+channel_bound : (n c : ℕ) (w : Width) (m : Meaning) → Bounded n m → (Γ : Environment) (s : Values) (t : Trace) (o : Outcome)
+    → WithChannel c w m Γ s t o → length t ≤ n
 channel_bound n c w m hm Γ s t o (WithChannel.at_end {s1 = r} silent d) = hm.bound (with_name Γ c (Chan w None)) s t (ended r) d
 channel_bound n c w m hm Γ s t o (WithChannel.at_rest {X = X} silent d) = hm.bound (with_name Γ c (Chan w None)) s t (refusing (off_channel c X)) d
 

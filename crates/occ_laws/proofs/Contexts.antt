@@ -15,7 +15,8 @@ use Rattle.std.proofs.Common.{List, None, Option, Some, [], refl, subst, suc, sy
 use Rattle.std.proofs.lemmas.Bool.{and_parts}
 use Rattle.std.specs.Option.{option_and_then, option_map, unwrap_or}
 
-turn_into : (Γ : Environment) (ps qs : Trees) → all_types_kept ps Γ ≡ true → EachSame Γ ps qs → Into Γ (in_turn ps) (in_turn qs) × Into Γ (in_turn qs) (in_turn ps)
+turn_into : (Γ : Environment) (ps qs : Trees) → all_types_kept ps Γ ≡ true → EachSame Γ ps qs
+    → Into Γ (in_turn ps) (in_turn qs) × Into Γ (in_turn qs) (in_turn ps)
 turn_into Γ ps qs h no_parts = (into_itself Γ (in_turn no_tree), into_itself Γ (in_turn no_tree))
 turn_into Γ ps qs h (and_part {p} {q} {ps = us} {qs = bs} same rest) =
     let k = and_parts (types_kept p Γ) (all_types_kept us Γ) h in
@@ -28,7 +29,8 @@ turn_into Γ ps qs h (and_part {p} {q} {ps = us} {qs = bs} same rest) =
 pub seq_same : (Γ : Environment) (ps qs : Trees) → all_types_kept ps Γ ≡ true → EachSame Γ ps qs → SAME Γ (seq ps) (seq qs)
 seq_same Γ ps qs h k = let r = turn_into Γ ps qs h k in same_from Γ (seq ps) (seq qs) r.0 r.1
 
-beside_all_into : (Γ : Environment) (ps qs : Trees) (m m' n n' : Meaning) → EachSame Γ ps qs → Into Γ m m' → Into Γ n n' → Into Γ (beside_all ps m n) (beside_all qs m' n')
+beside_all_into : (Γ : Environment) (ps qs : Trees) (m m' n n' : Meaning) → EachSame Γ ps qs → Into Γ m m' → Into Γ n n'
+    → Into Γ (beside_all ps m n) (beside_all qs m' n')
 beside_all_into Γ ps qs m m' n n' no_parts hm hn = hm
 beside_all_into Γ ps qs m m' n n' (and_part same rest) hm hn = beside_into Γ m m' n n' hm hn
 
@@ -44,7 +46,8 @@ parallel_into Γ ps qs (and_part {p} {q} {ps = us} {qs = bs} same rest) =
 pub par_same : (Γ : Environment) (ps qs : Trees) → EachSame Γ ps qs → SAME Γ (par ps) (par qs)
 par_same Γ ps qs h = same_from Γ (par ps) (par qs) (parallel_into Γ ps qs h) (parallel_into Γ qs ps (each_back Γ ps qs h))
 
-cases_into : (Γ : Environment) (cs ds : Cases) → EachChoiceSame Γ cs ds → Into Γ (first_choice cs) (first_choice ds) × Into Γ (first_choice ds) (first_choice cs)
+cases_into : (Γ : Environment) (cs ds : Cases) → EachChoiceSame Γ cs ds
+    → Into Γ (first_choice cs) (first_choice ds) × Into Γ (first_choice ds) (first_choice cs)
 cases_into Γ cs ds no_choices = (into_itself Γ (first_choice no_case), into_itself Γ (first_choice no_case))
 cases_into Γ cs ds (and_choice {e} {p} {q} {cs = us} {ds = bs} same rest) =
     let r = cases_into Γ us bs rest in (
@@ -55,7 +58,8 @@ cases_into Γ cs ds (and_choice {e} {p} {q} {cs = us} {ds = bs} same rest) =
 pub select_same : (Γ : Environment) (cs ds : Cases) → EachChoiceSame Γ cs ds → SAME Γ (select cs) (select ds)
 select_same Γ cs ds h = let r = cases_into Γ cs ds h in same_from Γ (select cs) (select ds) r.0 r.1
 
-branches_into : (Γ : Environment) (bs ds : Branches) → branches_kept bs Γ ≡ true → EachBranchSame Γ bs ds → GuardsInto Γ (guards bs) (guards ds) × GuardsInto Γ (guards ds) (guards bs)
+branches_into : (Γ : Environment) (bs ds : Branches) → branches_kept bs Γ ≡ true → EachBranchSame Γ bs ds
+    → GuardsInto Γ (guards bs) (guards ds) × GuardsInto Γ (guards ds) (guards bs)
 branches_into Γ bs ds h no_alternatives = (no_guard_into Γ, no_guard_into Γ)
 branches_into Γ bs ds h (and_alternative {e} {w} {p} {q} {bs = us} {ds = cs} same rest) =
     let k = and_four (is_condition Γ e) (waiting_kept Γ w) (types_kept p Γ) (branches_kept us Γ) h in
@@ -69,13 +73,15 @@ alt_same Γ bs ds h k =
     let r = branches_into Γ bs ds h k in
     same_from Γ (alt bs) (alt ds) (alternatives_into Γ (guards bs) (guards ds) r.0) (alternatives_into Γ (guards ds) (guards bs) r.1)
 
-pub declare_same : (Γ : Environment) (x : ℕ) (w : Width) (p q : Tree) → Γ x ≡ None → SAME (with_name Γ x (Var w)) p q → SAME Γ (declare x w p) (declare x w q)
+pub declare_same : (Γ : Environment) (x : ℕ) (w : Width) (p q : Tree) → Γ x ≡ None → SAME (with_name Γ x (Var w)) p q
+    → SAME Γ (declare x w p) (declare x w q)
 declare_same Γ x w p q fresh h =
     same_from Γ (declare x w p) (declare x w q)
     (variable_into Γ x w (meaning p) (meaning q) fresh (forth (with_name Γ x (Var w)) p q h))
     (variable_into Γ x w (meaning q) (meaning p) fresh (back (with_name Γ x (Var w)) p q h))
 
-pub connect_same : (Γ : Environment) (c : ℕ) (w : Width) (p q : Tree) → SAME (with_name Γ c (Chan w None)) p q → SAME Γ (connect c w p) (connect c w q)
+pub connect_same : (Γ : Environment) (c : ℕ) (w : Width) (p q : Tree) → SAME (with_name Γ c (Chan w None)) p q
+    → SAME Γ (connect c w p) (connect c w q)
 connect_same Γ c w p q h =
     same_from Γ (connect c w p) (connect c w q)
     (channel_into Γ c w (meaning p) (meaning q) (forth (with_name Γ c (Chan w None)) p q h))
@@ -108,7 +114,8 @@ with_case_same Γ no_case i q r e h = no_choices
 with_case_same Γ (and_case b p cs) zero q r e h = and_choice (same_at Γ p q r e h) (each_choice_itself Γ cs)
 with_case_same Γ (and_case b p cs) (suc i) q r e h = and_choice (same_itself Γ p) (with_case_same Γ cs i q r e h)
 
-with_branch_same : (Γ : Environment) (bs : Branches) (i : ℕ) (q r : Tree) → branch_at bs i ≡ Some q → SAME Γ q r → EachBranchSame Γ bs (with_branch bs i r)
+with_branch_same : (Γ : Environment) (bs : Branches) (i : ℕ) (q r : Tree) → branch_at bs i ≡ Some q → SAME Γ q r
+    → EachBranchSame Γ bs (with_branch bs i r)
 with_branch_same Γ no_branch i q r e h = no_alternatives
 with_branch_same Γ (and_branch b w p bs) zero q r e h = and_alternative (same_at Γ p q r e h) (each_branch_itself Γ bs)
 with_branch_same Γ (and_branch b w p bs) (suc i) q r e h = and_alternative (same_itself Γ p) (with_branch_same Γ bs i q r e h)
@@ -117,7 +124,8 @@ with_only_same : (Γ : Environment) (p : Tree) (i : ℕ) (q r : Tree) → only_a
 with_only_same Γ p zero q r e h = same_at Γ p q r e h
 with_only_same Γ p (suc i) q r e h = same_itself Γ p
 
-pub child_same : (Γ : Environment) (p : Tree) → types_kept p Γ ≡ true → (i : ℕ) (q r : Tree) → child p i ≡ Some q → SAME (environment_below Γ p) q r → SAME Γ p (with_child p i r)
+pub child_same : (Γ : Environment) (p : Tree) → types_kept p Γ ≡ true → (i : ℕ) (q r : Tree) → child p i ≡ Some q
+    → SAME (environment_below Γ p) q r → SAME Γ p (with_child p i r)
 child_same Γ skip t i q r e h = none_not_some e
 child_same Γ stop t i q r e h = none_not_some e
 child_same Γ (assign xs es) t i q r e h = none_not_some e
@@ -152,7 +160,8 @@ only_types : (Γ : Environment) (p : Tree) → types_kept p Γ ≡ true → (i :
 only_types Γ p t zero q e = let P : Tree → Type 0 = λ z. types_kept z Γ ≡ true in subst P (some_is e) t
 only_types Γ p t (suc i) q e = none_not_some e
 
-pub child_types : (Γ : Environment) (p : Tree) → types_kept p Γ ≡ true → (i : ℕ) (q : Tree) → child p i ≡ Some q → types_kept q (environment_below Γ p) ≡ true
+pub child_types : (Γ : Environment) (p : Tree) → types_kept p Γ ≡ true → (i : ℕ) (q : Tree) → child p i ≡ Some q
+    → types_kept q (environment_below Γ p) ≡ true
 child_types Γ skip t i q e = none_not_some e
 child_types Γ stop t i q e = none_not_some e
 child_types Γ (assign xs es) t i q e = none_not_some e
@@ -167,19 +176,25 @@ child_types Γ (connect c w p) t i q e = only_types (with_name Γ c (Chan w None
 
 -- ---- at a path
 
-pub part_types : (path : List ℕ) (Γ : Environment) (p q : Tree) → types_kept p Γ ≡ true → part_at path p ≡ Some q → types_kept q (environment_at path Γ p) ≡ true
+pub part_types : (path : List ℕ) (Γ : Environment) (p q : Tree) → types_kept p Γ ≡ true → part_at path p ≡ Some q
+    → types_kept q (environment_at path Γ p) ≡ true
 part_types [] Γ p q t e = let P : Tree → Type 0 = λ z. types_kept z Γ ≡ true in subst P (some_is e) t
 part_types (i ∷ path) Γ p q t e = below (λ c u h. part_types path (environment_below Γ p) c q u h) (child p i) refl e
   where
-    below : ((c : Tree) → types_kept c (environment_below Γ p) ≡ true → part_at path c ≡ Some q → types_kept q (environment_at path (environment_below Γ p) c) ≡ true) → (o : Option Tree) → child p i ≡ o → option_and_then (part_at path) o ≡ Some q → types_kept q (unwrap_or (option_map (environment_at path (environment_below Γ p)) o) Γ) ≡ true
+    below : ((c : Tree) → types_kept c (environment_below Γ p) ≡ true → part_at path c ≡ Some q → types_kept q (environment_at path (environment_below Γ p) c) ≡ true)
+        → (o : Option Tree) → child p i ≡ o → option_and_then (part_at path) o ≡ Some q
+        → types_kept q (unwrap_or (option_map (environment_at path (environment_below Γ p)) o) Γ) ≡ true
     below ih None is h = none_not_some h
     below ih (Some c) is h = ih c (child_types Γ p t i c is) h
 
-pub put_same : (path : List ℕ) (Γ : Environment) (p q r : Tree) → types_kept p Γ ≡ true → part_at path p ≡ Some q → SAME (environment_at path Γ p) q r → SAME Γ p (put path p r)
+pub put_same : (path : List ℕ) (Γ : Environment) (p q r : Tree) → types_kept p Γ ≡ true → part_at path p ≡ Some q
+    → SAME (environment_at path Γ p) q r → SAME Γ p (put path p r)
 put_same [] Γ p q r t e h = same_at Γ p q r e h
 put_same (i ∷ path) Γ p q r t e h = below (λ c u k same. put_same path (environment_below Γ p) c q r u k same) (child p i) refl e h
   where
-    below : ((c : Tree) → types_kept c (environment_below Γ p) ≡ true → part_at path c ≡ Some q → SAME (environment_at path (environment_below Γ p) c) q r → SAME (environment_below Γ p) c (put path c r)) → (o : Option Tree) → child p i ≡ o → option_and_then (part_at path) o ≡ Some q → SAME (unwrap_or (option_map (environment_at path (environment_below Γ p)) o) Γ) q r
+    below : ((c : Tree) → types_kept c (environment_below Γ p) ≡ true → part_at path c ≡ Some q → SAME (environment_at path (environment_below Γ p) c) q r → SAME (environment_below Γ p) c (put path c r))
+        → (o : Option Tree) → child p i ≡ o → option_and_then (part_at path) o ≡ Some q
+        → SAME (unwrap_or (option_map (environment_at path (environment_below Γ p)) o) Γ) q r
         → SAME Γ p (unwrap_or (option_map (λ c. with_child p i (put path c r)) o) p)
     below ih None is k same = same_itself Γ p
     below ih (Some c) is k same = child_same Γ p t i c (put path c r) is (ih c (child_types Γ p t i c is) k same)

@@ -52,7 +52,8 @@ left_of u v c d h = or_left (u c d) (v c d) h
 right_of : (u v : ℕ → Dir → Bool) (c : ℕ) (d : Dir) → v c d ≡ true → (u c d || v c d) ≡ true
 right_of u v c d h = or_right (u c d) (v c d) h
 
-followed_on : (u v : ℕ → Dir → Bool) (m n : Meaning) → UsesOnly u m → UsesOnly v n → (Γ : Environment) (s : Values) (t : Trace) (o : Outcome) → Followed m n Γ s t o → AreOnEnds (λ c d. u c d || v c d) t
+followed_on : (u v : ℕ → Dir → Bool) (m n : Meaning) → UsesOnly u m → UsesOnly v n
+    → (Γ : Environment) (s : Values) (t : Trace) (o : Outcome) → Followed m n Γ s t o → AreOnEnds (λ c d. u c d || v c d) t
 followed_on u v m n hm hn Γ s t o (in_first {X = X} d) = on_more u (λ c d. u c d || v c d) (left_of u v) t (hm.on_ends Γ s t (refusing X) d)
 followed_on u v m n hm hn Γ s t o (in_second t1 t2 s1 e d1 d2) =
     let P : Trace → Type 0 = λ r. AreOnEnds (λ c d. u c d || v c d) r in
@@ -70,14 +71,16 @@ chosen_uses u v e m n hm hn = record {
       (λ h. on_more v (λ c d. u c d || v c d) (right_of u v) t (hn.on_ends Γ s t o h)) d;
 }
 
-taken_uses : (Γ : Environment) (s : Values) (w : Waiting) (t : Trace) (u : Values) (a : Trace) (v : ℕ → Dir → Bool) → ((c : ℕ) (d : Dir) → end_in_waiting w c d ≡ true → v c d ≡ true) → AreOnEnds v a → Taken Γ s w t u a → AreOnEnds v t
+taken_uses : (Γ : Environment) (s : Values) (w : Waiting) (t : Trace) (u : Values) (a : Trace) (v : ℕ → Dir → Bool)
+    → ((c : ℕ) (d : Dir) → end_in_waiting w c d ≡ true → v c d ≡ true) → AreOnEnds v a → Taken Γ s w t u a → AreOnEnds v t
 taken_uses Γ s w t u a v imp h at_ready = h
 taken_uses Γ s w t u a v imp h (at_event {w = b} {e = e} {u = r} k) = (imp e.chan.0 e.dir (after_end Γ s b e r k), h)
 
 pub no_guard_uses : (u : ℕ → Dir → Bool) → UseOnly u no_guard
 no_guard_uses u = record { on_ends = λ Γ s t o d. absurd d }
 
-pub and_guard_uses : (u v : ℕ → Dir → Bool) (b : Exp) (w : Waiting) (m : Meaning) (g : Guards) → UsesOnly u m → UseOnly v g → UseOnly (λ c d. (end_in_waiting w c d || u c d) || v c d) (and_guard b w m g)
+pub and_guard_uses : (u v : ℕ → Dir → Bool) (b : Exp) (w : Waiting) (m : Meaning) (g : Guards) → UsesOnly u m → UseOnly v g
+    → UseOnly (λ c d. (end_in_waiting w c d || u c d) || v c d) (and_guard b w m g)
 and_guard_uses u v b w m g hm hg =
     let all : ℕ → Dir → Bool = λ c d. (end_in_waiting w c d || u c d) || v c d in
     record {
@@ -88,14 +91,16 @@ and_guard_uses u v b w m g hm hg =
       ];
     }
 
-alternates_on : (u : ℕ → Dir → Bool) (g : Guards) → UseOnly u g → (Γ : Environment) (s : Values) (t : Trace) (o : Outcome) → Alternates g Γ s t o → AreOnEnds u t
+alternates_on : (u : ℕ → Dir → Bool) (g : Guards) → UseOnly u g → (Γ : Environment) (s : Values) (t : Trace) (o : Outcome)
+    → Alternates g Γ s t o → AreOnEnds u t
 alternates_on u g hg Γ s t o (stable d) = tt
 alternates_on u g hg Γ s t o (taken d) = hg.on_ends Γ s t o d
 
 pub alternatives_uses : (u : ℕ → Dir → Bool) (g : Guards) → UseOnly u g → UsesOnly u (alternatives g)
 alternatives_uses u g hg = record { on_ends = alternates_on u g hg }
 
-together_on : (u v : ℕ → Dir → Bool) (m n : Meaning) → UsesOnly u m → UsesOnly v n → (Γ : Environment) (s : Values) (t : Trace) (o : Outcome) → Together m n Γ s t o → AreOnEnds (λ c d. u c d || v c d) t
+together_on : (u v : ℕ → Dir → Bool) (m n : Meaning) → UsesOnly u m → UsesOnly v n
+    → (Γ : Environment) (s : Values) (t : Trace) (o : Outcome) → Together m n Γ s t o → AreOnEnds (λ c d. u c d || v c d) t
 together_on u v m n hm hn Γ s t o (together t1 t2 o1 o2 woven c d1 d2) =
     on_woven (λ c d. u c d || v c d) t1 t2 t woven
     (on_more u (λ c d. u c d || v c d) (left_of u v) t1 (hm.on_ends Γ s t1 o1 d1))
@@ -104,7 +109,8 @@ together_on u v m n hm hn Γ s t o (together t1 t2 o1 o2 woven c d1 d2) =
 pub beside_uses : (u v : ℕ → Dir → Bool) (m n : Meaning) → UsesOnly u m → UsesOnly v n → UsesOnly (λ c d. u c d || v c d) (beside m n)
 beside_uses u v m n hm hn = record { on_ends = together_on u v m n hm hn }
 
-variable_on : (u : ℕ → Dir → Bool) (y : ℕ) (w : Width) (m : Meaning) → UsesOnly u m → (Γ : Environment) (s : Values) (t : Trace) (o : Outcome) → WithVariable y w m Γ s t o → AreOnEnds u t
+variable_on : (u : ℕ → Dir → Bool) (y : ℕ) (w : Width) (m : Meaning) → UsesOnly u m
+    → (Γ : Environment) (s : Values) (t : Trace) (o : Outcome) → WithVariable y w m Γ s t o → AreOnEnds u t
 variable_on u y w m hm Γ s t o (WithVariable.at_end v s1 lt e d) = hm.on_ends (with_name Γ y (Var w)) (with_value s y v) t (ended s1) d
 variable_on u y w m hm Γ s t o (WithVariable.at_rest {X = X} v lt d) = hm.on_ends (with_name Γ y (Var w)) (with_value s y v) t (refusing X) d
 
@@ -115,11 +121,13 @@ pub silent_uses : (u : ℕ → Dir → Bool) (b : ℕ) (t : Trace) → is_silent
 silent_uses u b [] h k = tt
 silent_uses u b (e ∷ t) h k = let j = and_parts (not (e.chan.0 == b)) (is_silent b t) h in (and_from (not (e.chan.0 == b)) (u e.chan.0 e.dir) j.0 k.0, silent_uses u b t j.1 k.1)
 
-channel_on : (u : ℕ → Dir → Bool) (b : ℕ) (w : Width) (m : Meaning) → UsesOnly u m → (Γ : Environment) (s : Values) (t : Trace) (o : Outcome) → WithChannel b w m Γ s t o → AreOnEnds (λ c d. not (c == b) && u c d) t
+channel_on : (u : ℕ → Dir → Bool) (b : ℕ) (w : Width) (m : Meaning) → UsesOnly u m
+    → (Γ : Environment) (s : Values) (t : Trace) (o : Outcome) → WithChannel b w m Γ s t o → AreOnEnds (λ c d. not (c == b) && u c d) t
 channel_on u b w m hm Γ s t o (WithChannel.at_end {s1 = r} silent d) = silent_uses u b t silent (hm.on_ends (with_name Γ b (Chan w None)) s t (ended r) d)
 channel_on u b w m hm Γ s t o (WithChannel.at_rest {X = X} silent d) = silent_uses u b t silent (hm.on_ends (with_name Γ b (Chan w None)) s t (refusing (off_channel b X)) d)
 
-pub channel_uses : (u : ℕ → Dir → Bool) (b : ℕ) (w : Width) (m : Meaning) → UsesOnly u m → UsesOnly (λ c d. not (c == b) && u c d) (over_channel b w m)
+pub channel_uses : (u : ℕ → Dir → Bool) (b : ℕ) (w : Width) (m : Meaning) → UsesOnly u m
+    → UsesOnly (λ c d. not (c == b) && u c d) (over_channel b w m)
 channel_uses u b w m hm = record { on_ends = channel_on u b w m hm }
 
 alone_uses : (w : Waiting) → UsesOnly (end_in_waiting w) (alternatives (and_guard (truth true) w (at_once (λ Γ s. s)) no_guard))
@@ -133,7 +141,8 @@ alone_uses w =
     first_of_three true h = refl
     first_of_three false h = false_not_true h
 
-beside_all_uses : (ps : Trees) (m n : Meaning) (u : ℕ → Dir → Bool) → UsesOnly u m → UsesOnly (end_in_some ps) n → UsesOnly (λ c d. u c d || end_in_some ps c d) (beside_all ps m n)
+beside_all_uses : (ps : Trees) (m n : Meaning) (u : ℕ → Dir → Bool) → UsesOnly u m → UsesOnly (end_in_some ps) n
+    → UsesOnly (λ c d. u c d || end_in_some ps c d) (beside_all ps m n)
 beside_all_uses no_tree m n u hm hn = uses_weaker u (λ c d. u c d || false) m (λ c d h. or_left (u c d) false h) hm
 beside_all_uses (and_tree p ps) m n u hm hn = beside_uses u (end_in_some (and_tree p ps)) m n hm hn
 

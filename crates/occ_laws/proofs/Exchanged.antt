@@ -1,12 +1,14 @@
 -- Names exchanged, both ways; and what a part with usage kept gives.
 use Rattle.occ_base.specs.declared.event.Event.{Event}
-use Rattle.occ_laws.proofs.RenamedTrees.{tree_twice}
+use Rattle.occ_laws.proofs.Redeclared.{replaced_is_exchanged}
+use Rattle.occ_laws.proofs.RenamedTrees.{tree_twice, types_under}
 use Rattle.occ_laws.proofs.Renaming.{IsExchange, exchange_is, part_carries}
-use Rattle.occ_laws.specs.Rename.{exchanging, renamed, renamed_event, renamed_outcome, renamed_trace, under}
+use Rattle.occ_laws.specs.Rename.{exchanging, renamed, renamed_event, renamed_outcome, renamed_trace, replacing, stands, under}
 use Rattle.occ_syntax.specs.Meaning.{Outcome, ended, meaning, refusing}
 use Rattle.occ_syntax.specs.Scopes.{Environment, Trace, Values}
 use Rattle.occ_syntax.specs.Tree.{Tree}
-use Rattle.std.proofs.Common.{[], ap, refl, subst, ℕ, ◌↔◌, ◌∙◌, ◌∷◌, ◌≡◌}
+use Rattle.occ_syntax.specs.Types.{types_kept}
+use Rattle.std.proofs.Common.{[], ap, false, refl, subst, sym, ℕ, ◌↔◌, ◌∙◌, ◌∷◌, ◌≡◌}
 use mathlib.Core.Path.{fun_ext}
 
 event_twice : (f : ℕ → ℕ) → IsExchange f → (e : Event) → renamed_event f (renamed_event f e) ≡ e
@@ -34,3 +36,17 @@ exchanged_back p f inv Γ s t o d =
 pub exchanged : (p : Tree) (a b : ℕ) (Γ : Environment) (s : Values) (t : Trace) (o : Outcome)
     → (meaning p).does Γ s t o ↔ (meaning (renamed p (exchanging a b))).does (under (exchanging a b) Γ) (under (exchanging a b) s) (renamed_trace (exchanging a b) t) (renamed_outcome (exchanging a b) o)
 exchanged p a b Γ s t o = ((part_carries p (exchanging a b) (exchange_is a b)).carried Γ s t o, exchanged_back p (exchanging a b) (exchange_is a b) Γ s t o)
+
+-- the same for a new name that stands nowhere
+pub replaced : (p : Tree) (old new : ℕ) → stands p new ≡ false → (Γ : Environment) (s : Values) (t : Trace) (o : Outcome)
+    → (meaning p).does Γ s t o
+    ↔ (meaning (renamed p (replacing old new))).does (under (exchanging old new) Γ) (under (exchanging old new) s) (renamed_trace (exchanging old new) t) (renamed_outcome (exchanging old new) o)
+replaced p old new nowhere Γ s t o =
+    let f : ℕ → ℕ = exchanging old new in
+    let P : Tree → Type 0 = λ q. (meaning p).does Γ s t o ↔ (meaning q).does (under f Γ) (under f s) (renamed_trace f t) (renamed_outcome f o) in
+    subst P (sym (replaced_is_exchanged old new p nowhere)) (exchanged p old new Γ s t o)
+
+pub replaced_types : (p : Tree) (old new : ℕ) → stands p new ≡ false → (Γ : Environment)
+    → types_kept (renamed p (replacing old new)) (under (exchanging old new) Γ) ≡ types_kept p Γ
+replaced_types p old new nowhere Γ =
+    ap (λ q. types_kept q (under (exchanging old new) Γ)) (replaced_is_exchanged old new p nowhere) ∙ types_under p (exchanging old new) (exchange_is old new) Γ

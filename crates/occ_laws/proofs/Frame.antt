@@ -22,12 +22,14 @@ not_and false b h = h refl
 
 -- ---- what is no variable in scope isn't written
 
-written_in_waiting_scope : (Γ : Environment) (x : ℕ) → variable_width Γ x ≡ None → (w : Waiting) → waiting_kept Γ w ≡ true → written_in_waiting w x ≡ false
+written_in_waiting_scope : (Γ : Environment) (x : ℕ) → variable_width Γ x ≡ None → (w : Waiting) → waiting_kept Γ w ≡ true
+    → written_in_waiting w x ≡ false
 written_in_waiting_scope Γ x k ready h = refl
 written_in_waiting_scope Γ x k (input c y) h = variable_in_scope Γ x y (channel_width Γ c) (and_parts (allows (Γ c) Input) (agree (channel_width Γ c) (variable_width Γ y)) h).1 k
 written_in_waiting_scope Γ x k (output c e) h = refl
 
-pub still_no_variable : (Γ : Environment) (x y : ℕ) (kind : Kind) → variable_width Γ x ≡ None → (x == y) ≡ false → variable_width (with_name Γ y kind) x ≡ None
+pub still_no_variable : (Γ : Environment) (x y : ℕ) (kind : Kind) → variable_width Γ x ≡ None → (x == y) ≡ false
+    → variable_width (with_name Γ y kind) x ≡ None
 still_no_variable Γ x y kind k h = ap variable_kind (name_off Γ y kind x h) ∙ k
 
 pub no_variable_at : (Γ : Environment) (x c : ℕ) (w : Width) → (x == c) ≡ true → variable_width (with_name Γ c (Chan w None)) x ≡ None
@@ -49,17 +51,20 @@ mutual
   written_in_scope (connect y w p) Γ h x k = not_and (x == y) (written p x)
       (λ off. written_in_scope p (with_name Γ y (Chan w None)) (and_parts (can_declare Γ y w) (types_kept p (with_name Γ y (Chan w None))) h).1 x (still_no_variable Γ x y (Chan w None) k off))
 
-  pub some_written_in_scope : (ps : Trees) (Γ : Environment) → all_types_kept ps Γ ≡ true → (x : ℕ) → variable_width Γ x ≡ None → written_in_some ps x ≡ false
+  pub some_written_in_scope : (ps : Trees) (Γ : Environment) → all_types_kept ps Γ ≡ true → (x : ℕ) → variable_width Γ x ≡ None
+      → written_in_some ps x ≡ false
   some_written_in_scope no_tree Γ h x k = refl
   some_written_in_scope (and_tree p ps) Γ h x k =
       let j = and_parts (types_kept p Γ) (all_types_kept ps Γ) h in or_from (written p x) (written_in_some ps x) (written_in_scope p Γ j.0 x k) (some_written_in_scope ps Γ j.1 x k)
 
-  pub cases_written_in_scope : (cs : Cases) (Γ : Environment) → cases_kept cs Γ ≡ true → (x : ℕ) → variable_width Γ x ≡ None → written_in_cases cs x ≡ false
+  pub cases_written_in_scope : (cs : Cases) (Γ : Environment) → cases_kept cs Γ ≡ true → (x : ℕ) → variable_width Γ x ≡ None
+      → written_in_cases cs x ≡ false
   cases_written_in_scope no_case Γ h x k = refl
   cases_written_in_scope (and_case e p cs) Γ h x k =
       let j = and_three (is_condition Γ e) (types_kept p Γ) (cases_kept cs Γ) h in or_from (written p x) (written_in_cases cs x) (written_in_scope p Γ j.1 x k) (cases_written_in_scope cs Γ j.2 x k)
 
-  pub branches_written_in_scope : (bs : Branches) (Γ : Environment) → branches_kept bs Γ ≡ true → (x : ℕ) → variable_width Γ x ≡ None → written_in_branches bs x ≡ false
+  pub branches_written_in_scope : (bs : Branches) (Γ : Environment) → branches_kept bs Γ ≡ true → (x : ℕ) → variable_width Γ x ≡ None
+      → written_in_branches bs x ≡ false
   branches_written_in_scope no_branch Γ h x k = refl
   branches_written_in_scope (and_branch e w p bs) Γ h x k =
       let j = and_four (is_condition Γ e) (waiting_kept Γ w) (types_kept p Γ) (branches_kept bs Γ) h in
@@ -96,7 +101,8 @@ assigned_off Γ s x (y ∷ xs) (e ∷ es) h =
 assign_value : (x : ℕ) (xs : List ℕ) (es : List Exp) → is_in xs x ≡ false → KeepsValue x (at_once (assigned xs es))
 assign_value x xs es h = record { value = λ Γ s t s' d. ap (λ r. r x) (end_is d.1) ∙ assigned_off Γ s x xs es h }
 
-followed_end : (x : ℕ) (m n : Meaning) → KeepsValue x m → KeepsValue x n → (Γ : Environment) (s : Values) (t : Trace) (s' : Values) → Followed m n Γ s t (ended s') → s' x ≡ s x
+followed_end : (x : ℕ) (m n : Meaning) → KeepsValue x m → KeepsValue x n → (Γ : Environment) (s : Values) (t : Trace) (s' : Values)
+    → Followed m n Γ s t (ended s') → s' x ≡ s x
 followed_end x m n hm hn Γ s t s' (in_second t1 t2 s1 e d1 d2) = hn.value Γ s1 t2 s' d2 ∙ hm.value Γ s t1 s1 d1
 
 pub followed_value : (x : ℕ) (m n : Meaning) → KeepsValue x m → KeepsValue x n → KeepsValue x (followed m n)
@@ -105,25 +111,29 @@ followed_value x m n hm hn = record { value = followed_end x m n hm hn }
 chosen_value : (x : ℕ) (e : Exp) (m n : Meaning) → KeepsValue x m → KeepsValue x n → KeepsValue x (chosen e m n)
 chosen_value x e m n hm hn = record { value = λ Γ s t s' d. either (is_true Γ e s) (λ h. hm.value Γ s t s' h) (λ h. hn.value Γ s t s' h) d }
 
-after_value : (Γ : Environment) (s : Values) (x : ℕ) (w : Waiting) (e : Event) (u : Values) → written_in_waiting w x ≡ false → After Γ s w e u → u x ≡ s x
+after_value : (Γ : Environment) (s : Values) (x : ℕ) (w : Waiting) (e : Event) (u : Values) → written_in_waiting w x ≡ false
+    → After Γ s w e u → u x ≡ s x
 after_value Γ s x ready e u h a = absurd a
 after_value Γ s x (input c y) e u h a = ap (λ r. r x) a.3 ∙ value_off s y a.0 x h
 after_value Γ s x (output c z) e u h a = ap (λ r. r x) a.1
 
-taken_value : (Γ : Environment) (s : Values) (x : ℕ) (w : Waiting) (t : Trace) (u : Values) (a : Trace) → written_in_waiting w x ≡ false → Taken Γ s w t u a → u x ≡ s x
+taken_value : (Γ : Environment) (s : Values) (x : ℕ) (w : Waiting) (t : Trace) (u : Values) (a : Trace) → written_in_waiting w x ≡ false
+    → Taken Γ s w t u a → u x ≡ s x
 taken_value Γ s x w t u a h at_ready = refl
 taken_value Γ s x w t u a h (at_event {w = b} {e = e} {u = r} k) = after_value Γ s x b e r h k
 
 no_guard_value : (x : ℕ) → KeepValue x no_guard
 no_guard_value x = record { value = λ Γ s t s' d. absurd d }
 
-and_guard_value : (x : ℕ) (e : Exp) (w : Waiting) (m : Meaning) (g : Guards) → written_in_waiting w x ≡ false → KeepsValue x m → KeepValue x g → KeepValue x (and_guard e w m g)
+and_guard_value : (x : ℕ) (e : Exp) (w : Waiting) (m : Meaning) (g : Guards) → written_in_waiting w x ≡ false → KeepsValue x m
+    → KeepValue x g → KeepValue x (and_guard e w m g)
 and_guard_value x e w m g h hm hg = record {
   value = λ Γ s t s' d.
       elim d [ inl k ↦ hm.value Γ k.1.0 k.1.1 s' k.1.3 ∙ taken_value Γ s x w t k.1.0 k.1.1 h k.1.2 | inr k ↦ hg.value Γ s t s' k ];
 }
 
-alternates_end : (x : ℕ) (g : Guards) → KeepValue x g → (Γ : Environment) (s : Values) (t : Trace) (s' : Values) → Alternates g Γ s t (ended s') → s' x ≡ s x
+alternates_end : (x : ℕ) (g : Guards) → KeepValue x g → (Γ : Environment) (s : Values) (t : Trace) (s' : Values)
+    → Alternates g Γ s t (ended s') → s' x ≡ s x
 alternates_end x g hg Γ s t s' (taken d) = hg.value Γ s t s' d
 
 alternatives_value : (x : ℕ) (g : Guards) → KeepValue x g → KeepsValue x (alternatives g)
@@ -133,10 +143,12 @@ if_one : (b : Bool) (a c d : ℕ) → a ≡ d → c ≡ d → (if b then a else 
 if_one true a c d h k = h
 if_one false a c d h k = k
 
-combined_value : (Γ : Environment) (s : Values) (x : ℕ) (o1 o2 : Outcome) (s' : Values) → ((s1 : Values) → o1 ≡ ended s1 → s1 x ≡ s x) → ((s2 : Values) → o2 ≡ ended s2 → s2 x ≡ s x) → Combines Γ s o1 o2 (ended s') → s' x ≡ s x
+combined_value : (Γ : Environment) (s : Values) (x : ℕ) (o1 o2 : Outcome) (s' : Values) → ((s1 : Values) → o1 ≡ ended s1 → s1 x ≡ s x)
+    → ((s2 : Values) → o2 ≡ ended s2 → s2 x ≡ s x) → Combines Γ s o1 o2 (ended s') → s' x ≡ s x
 combined_value Γ s x o1 o2 s' first second (both_ended {s1 = a} {s2 = b} {s' = r} e) = ap (λ q. q x) e ∙ if_one (a x == s x) (b x) (a x) (s x) (second b refl) (first a refl)
 
-together_end : (x : ℕ) (m n : Meaning) → KeepsValue x m → KeepsValue x n → (Γ : Environment) (s : Values) (t : Trace) (s' : Values) → Together m n Γ s t (ended s') → s' x ≡ s x
+together_end : (x : ℕ) (m n : Meaning) → KeepsValue x m → KeepsValue x n → (Γ : Environment) (s : Values) (t : Trace) (s' : Values)
+    → Together m n Γ s t (ended s') → s' x ≡ s x
 together_end x m n hm hn Γ s t s' (together t1 t2 o1 o2 woven c d1 d2) =
     combined_value Γ s x o1 o2 s'
     (λ s1 e. hm.value Γ s t1 s1 (let P : Outcome → Type 0 = λ o. m.does Γ s t1 o in subst P e d1))
@@ -149,7 +161,8 @@ beside_all_value : (x : ℕ) (ps : Trees) (m n : Meaning) → KeepsValue x m →
 beside_all_value x no_tree m n hm hn = hm
 beside_all_value x (and_tree p ps) m n hm hn = beside_value x m n hm hn
 
-variable_end : (x y : ℕ) (w : Width) (m : Meaning) → ((x == y) ≡ false → KeepsValue x m) → (Γ : Environment) (s : Values) (t : Trace) (s' : Values) → WithVariable y w m Γ s t (ended s') → s' x ≡ s x
+variable_end : (x y : ℕ) (w : Width) (m : Meaning) → ((x == y) ≡ false → KeepsValue x m)
+    → (Γ : Environment) (s : Values) (t : Trace) (s' : Values) → WithVariable y w m Γ s t (ended s') → s' x ≡ s x
 variable_end x y w m hm Γ s t s' (WithVariable.at_end v s1 lt e d) =
     ap (λ r. r x) e ∙ elim (eqb_tells x y) [
       | inl k ↦ if_true (x == y) (s y) (s1 x) k.0 ∙ ap s (sym k.1)
@@ -159,17 +172,20 @@ variable_end x y w m hm Γ s t s' (WithVariable.at_end v s1 lt e d) =
 variable_value : (x y : ℕ) (w : Width) (m : Meaning) → ((x == y) ≡ false → KeepsValue x m) → KeepsValue x (over_variable y w m)
 variable_value x y w m hm = record { value = variable_end x y w m hm }
 
-channel_end : (x c : ℕ) (w : Width) (m : Meaning) → KeepsValue x m → (Γ : Environment) (s : Values) (t : Trace) (s' : Values) → WithChannel c w m Γ s t (ended s') → s' x ≡ s x
+channel_end : (x c : ℕ) (w : Width) (m : Meaning) → KeepsValue x m → (Γ : Environment) (s : Values) (t : Trace) (s' : Values)
+    → WithChannel c w m Γ s t (ended s') → s' x ≡ s x
 channel_end x c w m hm Γ s t s' (WithChannel.at_end silent d) = hm.value (with_name Γ c (Chan w None)) s t s' d
 
 channel_value : (x c : ℕ) (w : Width) (m : Meaning) → KeepsValue x m → KeepsValue x (over_channel c w m)
 channel_value x c w m hm = record { value = channel_end x c w m hm }
 
-guard_alone : (x : ℕ) (w : Waiting) → written_in_waiting w x ≡ false → KeepsValue x (alternatives (and_guard (truth true) w (at_once (λ Γ s. s)) no_guard))
+guard_alone : (x : ℕ) (w : Waiting) → written_in_waiting w x ≡ false
+    → KeepsValue x (alternatives (and_guard (truth true) w (at_once (λ Γ s. s)) no_guard))
 guard_alone x w h = alternatives_value x (and_guard (truth true) w (at_once (λ Γ s. s)) no_guard) (and_guard_value x (truth true) w (at_once (λ Γ s. s)) no_guard h (skip_value x) (no_guard_value x))
 
 -- under a channel of that name nothing is written either
-unwritten_below : (p : Tree) (Γ : Environment) (x c : ℕ) (w : Width) → types_kept p (with_name Γ c (Chan w None)) ≡ true → (not (x == c) && written p x) ≡ false → written p x ≡ false
+unwritten_below : (p : Tree) (Γ : Environment) (x c : ℕ) (w : Width) → types_kept p (with_name Γ c (Chan w None)) ≡ true
+    → (not (x == c) && written p x) ≡ false → written p x ≡ false
 unwritten_below p Γ x c w h k = elim (cases_Bool (x == c)) [
   | inl e ↦ written_in_scope p (with_name Γ c (Chan w None)) h x (no_variable_at Γ x c w e)
   | inr e ↦ and_second (not (x == c)) (written p x) k (not_from_false (x == c) e)
@@ -200,7 +216,8 @@ mutual
       let j = and_parts (types_kept p Γ) (all_types_kept ps Γ) h in let i = or_parts (written p x) (written_in_some ps x) k in
       followed_value x (meaning p) (in_turn ps) (part_value p Γ j.0 x i.0) (turn_value ps Γ j.1 x i.1)
 
-  pub parallel_value : (ps : Trees) (Γ : Environment) → all_types_kept ps Γ ≡ true → (x : ℕ) → written_in_some ps x ≡ false → KeepsValue x (at_the_same_time ps)
+  pub parallel_value : (ps : Trees) (Γ : Environment) → all_types_kept ps Γ ≡ true → (x : ℕ) → written_in_some ps x ≡ false
+      → KeepsValue x (at_the_same_time ps)
   parallel_value no_tree Γ h x k = skip_value x
   parallel_value (and_tree p ps) Γ h x k =
       let j = and_parts (types_kept p Γ) (all_types_kept ps Γ) h in let i = or_parts (written p x) (written_in_some ps x) k in
@@ -212,7 +229,8 @@ mutual
       let j = and_three (is_condition Γ e) (types_kept p Γ) (cases_kept cs Γ) h in let i = or_parts (written p x) (written_in_cases cs x) k in
       chosen_value x e (meaning p) (first_choice cs) (part_value p Γ j.1 x i.0) (cases_value cs Γ j.2 x i.1)
 
-  pub branches_value : (bs : Branches) (Γ : Environment) → branches_kept bs Γ ≡ true → (x : ℕ) → written_in_branches bs x ≡ false → KeepValue x (guards bs)
+  pub branches_value : (bs : Branches) (Γ : Environment) → branches_kept bs Γ ≡ true → (x : ℕ) → written_in_branches bs x ≡ false
+      → KeepValue x (guards bs)
   branches_value no_branch Γ h x k = no_guard_value x
   branches_value (and_branch e w p bs) Γ h x k =
       let j = and_four (is_condition Γ e) (waiting_kept Γ w) (types_kept p Γ) (branches_kept bs Γ) h in

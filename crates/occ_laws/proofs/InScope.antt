@@ -104,19 +104,22 @@ mutual
       let off = declared_apart Γ x y w j.0 k in
       or_from (x == y) (stands p x) off (stands_nowhere p (with_name Γ y (Chan w None)) j.1 x (still_there Γ x y (Chan w None) k off) (and_second (not (x == y)) (free p x) i (not_from_false (x == y) off)))
 
-  none_stands : (ps : Trees) (Γ : Environment) → all_types_kept ps Γ ≡ true → (x : ℕ) → is_none (Γ x) ≡ false → free_in_some ps x ≡ false → stands_in_some ps x ≡ false
+  none_stands : (ps : Trees) (Γ : Environment) → all_types_kept ps Γ ≡ true → (x : ℕ) → is_none (Γ x) ≡ false → free_in_some ps x ≡ false
+      → stands_in_some ps x ≡ false
   none_stands no_tree Γ h x k i = refl
   none_stands (and_tree p ps) Γ h x k i =
       let j = and_parts (types_kept p Γ) (all_types_kept ps Γ) h in let l = or_parts (free p x) (free_in_some ps x) i in
       or_from (stands p x) (stands_in_some ps x) (stands_nowhere p Γ j.0 x k l.0) (none_stands ps Γ j.1 x k l.1)
 
-  cases_stand : (cs : Cases) (Γ : Environment) → cases_kept cs Γ ≡ true → (x : ℕ) → is_none (Γ x) ≡ false → free_in_cases cs x ≡ false → stands_in_cases cs x ≡ false
+  cases_stand : (cs : Cases) (Γ : Environment) → cases_kept cs Γ ≡ true → (x : ℕ) → is_none (Γ x) ≡ false → free_in_cases cs x ≡ false
+      → stands_in_cases cs x ≡ false
   cases_stand no_case Γ h x k i = refl
   cases_stand (and_case e p cs) Γ h x k i =
       let j = and_three (is_condition Γ e) (types_kept p Γ) (cases_kept cs Γ) h in let l = or_three (names e x) (free p x) (free_in_cases cs x) i in
       or_from (names e x || stands p x) (stands_in_cases cs x) (or_from (names e x) (stands p x) l.0 (stands_nowhere p Γ j.1 x k l.1)) (cases_stand cs Γ j.2 x k l.2)
 
-  branches_stand : (bs : Branches) (Γ : Environment) → branches_kept bs Γ ≡ true → (x : ℕ) → is_none (Γ x) ≡ false → free_in_branches bs x ≡ false → stands_in_branches bs x ≡ false
+  branches_stand : (bs : Branches) (Γ : Environment) → branches_kept bs Γ ≡ true → (x : ℕ) → is_none (Γ x) ≡ false
+      → free_in_branches bs x ≡ false → stands_in_branches bs x ≡ false
   branches_stand no_branch Γ h x k i = refl
   branches_stand (and_branch e w p bs) Γ h x k i =
       let j = and_four (is_condition Γ e) (waiting_kept Γ w) (types_kept p Γ) (branches_kept bs Γ) h in

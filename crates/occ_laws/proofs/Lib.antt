@@ -3,6 +3,9 @@ pub mod AssignedFirst
 pub mod Beside
 pub mod Bounded
 pub mod Contexts
+pub mod Declared
+pub mod DeclaredBeside
+pub mod DeclaredInTurn
 pub mod Ends
 pub mod Exchanged
 pub mod Facts
@@ -12,6 +15,7 @@ pub mod InScope
 pub mod Interface
 pub mod Members
 pub mod Moved
+pub mod Named
 pub mod OffNames
 pub mod OffValues
 pub mod OtherScopes
@@ -21,6 +25,7 @@ pub mod Redeclared
 pub mod Refusals
 pub mod RenamedTrees
 pub mod Renaming
+pub mod Sequence
 pub mod Settled
 pub mod States
 pub mod Substituting

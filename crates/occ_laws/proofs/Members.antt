@@ -31,24 +31,29 @@ pub record Refuses (Γ : Environment) (s : Values) (bs : Branches) (X : EventSet
 
 pub goes_out : (Γ : Environment) (s : Values) (bs : Branches) (t : Trace) (o : Outcome) → (guards bs).goes Γ s t o → Goes Γ s bs t o
 goes_out Γ s no_branch t o d = absurd d
-goes_out Γ s (and_branch e w p bs) t o d = elim d
-    [ inl k ↦ record { condition = e; guard = w; process = p; among_them = first_branch; enabled = k.0; state = k.1.0; rest = k.1.1; taken_by = k.1.2; goes_on = k.1.3 }
-    | inr k ↦ (let g = goes_out Γ s bs t o k in
-        record { condition = g.condition; guard = g.guard; process = g.process; among_them = later_branch g.among_them; enabled = g.enabled; state = g.state; rest = g.rest; taken_by = g.taken_by; goes_on = g.goes_on }) ]
+goes_out Γ s (and_branch e w p bs) t o d = elim d [
+  | inl k ↦ record { condition = e; guard = w; process = p; among_them = first_branch; enabled = k.0; state = k.1.0; rest = k.1.1; taken_by = k.1.2; goes_on = k.1.3 }
+  | inr k ↦ (let g = goes_out Γ s bs t o k in
+      record { condition = g.condition; guard = g.guard; process = g.process; among_them = later_branch g.among_them; enabled = g.enabled; state = g.state; rest = g.rest; taken_by = g.taken_by; goes_on = g.goes_on })
+]
 
-pub goes_in : (Γ : Environment) (s : Values) (e : Exp) (w : Waiting) (p : Tree) (bs : Branches) → Among e w p bs → is_true Γ e s ≡ true → (t : Trace) (u : Values) (a : Trace) (o : Outcome) → Taken Γ s w t u a → (meaning p).does Γ u a o → (guards bs).goes Γ s t o
+pub goes_in : (Γ : Environment) (s : Values) (e : Exp) (w : Waiting) (p : Tree) (bs : Branches) → Among e w p bs → is_true Γ e s ≡ true
+    → (t : Trace) (u : Values) (a : Trace) (o : Outcome) → Taken Γ s w t u a → (meaning p).does Γ u a o → (guards bs).goes Γ s t o
 goes_in Γ s e w p bs first_branch h t u a o k d = inl (h, (u, a, k, d))
 goes_in Γ s e w p bs (later_branch {bs = cs} m) h t u a o k d = inr (goes_in Γ s e w p cs m h t u a o k d)
 
-pub refuses_out : (Γ : Environment) (s : Values) (X : EventSet) (e : Exp) (w : Waiting) (p : Tree) (bs : Branches) → (guards bs).refuses Γ s X → Among e w p bs → is_true Γ e s ≡ true → IsQuiet Γ s w X
+pub refuses_out : (Γ : Environment) (s : Values) (X : EventSet) (e : Exp) (w : Waiting) (p : Tree) (bs : Branches)
+    → (guards bs).refuses Γ s X → Among e w p bs → is_true Γ e s ≡ true → IsQuiet Γ s w X
 refuses_out Γ s X e w p bs d first_branch h = first_of (is_true Γ e s) _ _ h d.0
 refuses_out Γ s X e w p bs d (later_branch {bs = cs} m) h = refuses_out Γ s X e w p cs d.1 m h
 
-pub refuses_in : (Γ : Environment) (s : Values) (bs : Branches) (X : EventSet) → ((e : Exp) (w : Waiting) (p : Tree) → Among e w p bs → is_true Γ e s ≡ true → IsQuiet Γ s w X) → (guards bs).refuses Γ s X
+pub refuses_in : (Γ : Environment) (s : Values) (bs : Branches) (X : EventSet)
+    → ((e : Exp) (w : Waiting) (p : Tree) → Among e w p bs → is_true Γ e s ≡ true → IsQuiet Γ s w X) → (guards bs).refuses Γ s X
 refuses_in Γ s no_branch X h = tt
-refuses_in Γ s (and_branch e w p bs) X h =
-    (elim (cases_Bool (is_true Γ e s)) [ inl k ↦ chosen_first (is_true Γ e s) _ _ k (h e w p first_branch k) | inr k ↦ chosen_second (is_true Γ e s) _ _ k tt ],
-     refuses_in Γ s bs X (λ f v q m k. h f v q (later_branch m) k))
+refuses_in Γ s (and_branch e w p bs) X h = (
+  elim (cases_Bool (is_true Γ e s)) [ inl k ↦ chosen_first (is_true Γ e s) _ _ k (h e w p first_branch k) | inr k ↦ chosen_second (is_true Γ e s) _ _ k tt ],
+  refuses_in Γ s bs X (λ f v q m k. h f v q (later_branch m) k),
+)
 
 -- ---- the ALT itself
 
@@ -68,7 +73,8 @@ alt_in Γ s bs t o (is_taken g) = taken (goes_in Γ s g.condition g.guard g.proc
 pub record EnabledAmong (Γ : Environment) (s : Values) (bs cs : Branches) : Type 0 where
   pub enabled_there : (e : Exp) (w : Waiting) (p : Tree) → Among e w p bs → is_true Γ e s ≡ true → (f : Exp) × (is_true Γ f s ≡ true) × Among f w p cs
 
-pub alt_by_enabled : (Γ : Environment) (s : Values) (bs cs : Branches) → EnabledAmong Γ s bs cs → EnabledAmong Γ s cs bs → (t : Trace) (o : Outcome) → (meaning (alt bs)).does Γ s t o → (meaning (alt cs)).does Γ s t o
+pub alt_by_enabled : (Γ : Environment) (s : Values) (bs cs : Branches) → EnabledAmong Γ s bs cs → EnabledAmong Γ s cs bs
+    → (t : Trace) (o : Outcome) → (meaning (alt bs)).does Γ s t o → (meaning (alt cs)).does Γ s t o
 alt_by_enabled Γ s bs cs into back t o d = by_case t o (alt_out Γ s bs t o d)
   where
     by_case : (t : Trace) (o : Outcome) → AltDoes Γ s bs t o → (meaning (alt cs)).does Γ s t o
@@ -95,7 +101,8 @@ pub among_either : (e : Exp) (w : Waiting) (p : Tree) (bs cs : Branches) → Amo
 among_either e w p no_branch cs m = inr m
 among_either e w p (and_branch f v q bs) cs m = first_or_later bs cs f v q e w p m (λ k. among_either e w p bs cs k)
   where
-    first_or_later : (bs cs : Branches) (f : Exp) (v : Waiting) (q : Tree) (e : Exp) (w : Waiting) (p : Tree) → Among e w p (and_branch f v q (all_branches bs cs)) → (Among e w p (all_branches bs cs) → Among e w p bs ⊎ Among e w p cs)
+    first_or_later : (bs cs : Branches) (f : Exp) (v : Waiting) (q : Tree) (e : Exp) (w : Waiting) (p : Tree)
+        → Among e w p (and_branch f v q (all_branches bs cs)) → (Among e w p (all_branches bs cs) → Among e w p bs ⊎ Among e w p cs)
         → Among e w p (and_branch f v q bs) ⊎ Among e w p cs
     first_or_later bs cs f v q e w p first_branch ih = inl first_branch
     first_or_later bs cs f v q e w p (later_branch k) ih = elim (ih k) [ inl a ↦ inl (later_branch a) | inr b ↦ inr b ]

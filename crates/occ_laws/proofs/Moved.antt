@@ -23,7 +23,8 @@ join_second_moved s a b x v kept = fun_ext (λ z. elim (eqb_tells z x) [
     one_of n u true h = sym (eqb-true u n h)
     one_of n u false h = refl
 
-    at_name : (z : ℕ) → (z == x) ≡ true → z ≡ x → (if a z == s z then b z else a z) ≡ (if a z == (if z == x then v else s z) then (if z == x then v else b z) else a z)
+    at_name : (z : ℕ) → (z == x) ≡ true → z ≡ x
+        → (if a z == s z then b z else a z) ≡ (if a z == (if z == x then v else s z) then (if z == x then v else b z) else a z)
     at_name z yes_z same =
         let P : Bool → Type 0 = λ c. a z ≡ (if a z == (if c then v else s z) then (if c then v else b z) else a z) in
         let Q : ℕ → Type 0 = λ y. b y ≡ s y in
@@ -38,13 +39,15 @@ join_first_moved s a b x v kept = fun_ext (λ z. elim (eqb_tells z x) [
 ])
 
 -- what the second part makes of both stays, whatever that variable holds at its beginning
-combined_second_moved : (Γ : Environment) (s : Values) (x v : ℕ) (o1 o2 o : Outcome) → ((b : Values) → o2 ≡ ended b → b x ≡ s x) → Combines Γ s o1 o2 o → Combines Γ (with_value s x v) o1 (with_result x v o2) o
+combined_second_moved : (Γ : Environment) (s : Values) (x v : ℕ) (o1 o2 o : Outcome) → ((b : Values) → o2 ≡ ended b → b x ≡ s x)
+    → Combines Γ s o1 o2 o → Combines Γ (with_value s x v) o1 (with_result x v o2) o
 combined_second_moved Γ s x v o1 o2 o kept (both_ended {s1 = a} {s2 = b} {s' = r} e) = both_ended (e ∙ join_second_moved s a b x v (kept b refl))
 combined_second_moved Γ s x v o1 o2 o kept first_ended = first_ended
 combined_second_moved Γ s x v o1 o2 o kept second_ended = second_ended
 combined_second_moved Γ s x v o1 o2 o kept (neither_ended X Y) = neither_ended X Y
 
-combined_first_moved : (Γ : Environment) (s : Values) (x v : ℕ) (o1 o2 o : Outcome) → ((a : Values) → o1 ≡ ended a → a x ≡ s x) → Combines Γ s o1 o2 o → Combines Γ (with_value s x v) (with_result x v o1) o2 o
+combined_first_moved : (Γ : Environment) (s : Values) (x v : ℕ) (o1 o2 o : Outcome) → ((a : Values) → o1 ≡ ended a → a x ≡ s x)
+    → Combines Γ s o1 o2 o → Combines Γ (with_value s x v) (with_result x v o1) o2 o
 combined_first_moved Γ s x v o1 o2 o kept (both_ended {s1 = a} {s2 = b} {s' = r} e) = both_ended (e ∙ join_first_moved s a b x v (kept a refl))
 combined_first_moved Γ s x v o1 o2 o kept first_ended = first_ended
 combined_first_moved Γ s x v o1 o2 o kept second_ended = second_ended
@@ -60,14 +63,18 @@ pub record MovedFirst (m : Meaning) (Γ : Environment) (s : Values) (t : Trace) 
   pub combines : Combines Γ s other o2 o
   pub does : m.does Γ s t other
 
-pub second_moved : (n : Meaning) (x : ℕ) → Ignores x n → KeepsValue x n → (Γ : Environment) (s : Values) (v : ℕ) (t : Trace) (o1 o2 o : Outcome) → Combines Γ s o1 o2 o → n.does Γ s t o2 → MovedSecond n Γ (with_value s x v) t o1 o
+pub second_moved : (n : Meaning) (x : ℕ) → Ignores x n → KeepsValue x n
+    → (Γ : Environment) (s : Values) (v : ℕ) (t : Trace) (o1 o2 o : Outcome) → Combines Γ s o1 o2 o → n.does Γ s t o2
+    → MovedSecond n Γ (with_value s x v) t o1 o
 second_moved n x ignores keeps Γ s v t o1 o2 o c d = record {
   other = with_result x v o2;
   combines = combined_second_moved Γ s x v o1 o2 o (λ b e. keeps.value Γ s t b (let P : Outcome → Type 0 = λ k. n.does Γ s t k in subst P e d)) c;
   does = ignores.ignored Γ s v t o2 d;
 }
 
-pub first_moved : (m : Meaning) (x : ℕ) → Ignores x m → KeepsValue x m → (Γ : Environment) (s : Values) (v : ℕ) (t : Trace) (o1 o2 o : Outcome) → Combines Γ s o1 o2 o → m.does Γ s t o1 → MovedFirst m Γ (with_value s x v) t o2 o
+pub first_moved : (m : Meaning) (x : ℕ) → Ignores x m → KeepsValue x m
+    → (Γ : Environment) (s : Values) (v : ℕ) (t : Trace) (o1 o2 o : Outcome) → Combines Γ s o1 o2 o → m.does Γ s t o1
+    → MovedFirst m Γ (with_value s x v) t o2 o
 first_moved m x ignores keeps Γ s v t o1 o2 o c d = record {
   other = with_result x v o1;
   combines = combined_first_moved Γ s x v o1 o2 o (λ a e. keeps.value Γ s t a (let P : Outcome → Type 0 = λ k. m.does Γ s t k in subst P e d)) c;
@@ -75,12 +82,16 @@ first_moved m x ignores keeps Γ s v t o1 o2 o c d = record {
 }
 
 -- and back: from other values to those
-pub second_moved_back : (n : Meaning) (x : ℕ) → Ignores x n → KeepsValue x n → (Γ : Environment) (s : Values) (v : ℕ) (t : Trace) (o1 o2 o : Outcome) → Combines Γ (with_value s x v) o1 o2 o → n.does Γ (with_value s x v) t o2 → MovedSecond n Γ s t o1 o
+pub second_moved_back : (n : Meaning) (x : ℕ) → Ignores x n → KeepsValue x n
+    → (Γ : Environment) (s : Values) (v : ℕ) (t : Trace) (o1 o2 o : Outcome) → Combines Γ (with_value s x v) o1 o2 o
+    → n.does Γ (with_value s x v) t o2 → MovedSecond n Γ s t o1 o
 second_moved_back n x ignores keeps Γ s v t o1 o2 o c d =
     let P : Values → Type 0 = λ r. MovedSecond n Γ r t o1 o in
     subst P (value_again s x v (s x) ∙ value_back s x) (second_moved n x ignores keeps Γ (with_value s x v) (s x) t o1 o2 o c d)
 
-pub first_moved_back : (m : Meaning) (x : ℕ) → Ignores x m → KeepsValue x m → (Γ : Environment) (s : Values) (v : ℕ) (t : Trace) (o1 o2 o : Outcome) → Combines Γ (with_value s x v) o1 o2 o → m.does Γ (with_value s x v) t o1 → MovedFirst m Γ s t o2 o
+pub first_moved_back : (m : Meaning) (x : ℕ) → Ignores x m → KeepsValue x m
+    → (Γ : Environment) (s : Values) (v : ℕ) (t : Trace) (o1 o2 o : Outcome) → Combines Γ (with_value s x v) o1 o2 o
+    → m.does Γ (with_value s x v) t o1 → MovedFirst m Γ s t o2 o
 first_moved_back m x ignores keeps Γ s v t o1 o2 o c d =
     let P : Values → Type 0 = λ r. MovedFirst m Γ r t o2 o in
     subst P (value_again s x v (s x) ∙ value_back s x) (first_moved m x ignores keeps Γ (with_value s x v) (s x) t o1 o2 o c d)
@@ -96,7 +107,8 @@ rest_ignored n y xs h x k = h x (or_right (x == y) (is_in xs x) k)
 first_ignored : (n : Meaning) (y : ℕ) (xs : List ℕ) → IgnoresAll n (y ∷ xs) → Ignores y n × KeepsValue y n
 first_ignored n y xs h = h y (or_left (y == y) (is_in xs y) (at_itself y))
 
-pub second_past : (n : Meaning) (Γ : Environment) (s : Values) (t : Trace) (xs : List ℕ) (es : List Exp) → IgnoresAll n xs → (o1 o2 o : Outcome) → Combines Γ s o1 o2 o → n.does Γ s t o2 → MovedSecond n Γ (assigned xs es Γ s) t o1 o
+pub second_past : (n : Meaning) (Γ : Environment) (s : Values) (t : Trace) (xs : List ℕ) (es : List Exp) → IgnoresAll n xs
+    → (o1 o2 o : Outcome) → Combines Γ s o1 o2 o → n.does Γ s t o2 → MovedSecond n Γ (assigned xs es Γ s) t o1 o
 second_past n Γ s t [] es h o1 o2 o c d = record { other = o2; combines = c; does = d }
 second_past n Γ s t (x ∷ xs) [] h o1 o2 o c d = record { other = o2; combines = c; does = d }
 second_past n Γ s t (x ∷ xs) (e ∷ es) h o1 o2 o c d =
@@ -104,7 +116,8 @@ second_past n Γ s t (x ∷ xs) (e ∷ es) h o1 o2 o c d =
     let i = first_ignored n x xs h in
     second_moved n x i.0 i.1 Γ (assigned xs es Γ s) (eval Γ e s) t o1 k.other o k.combines k.does
 
-pub second_past_back : (n : Meaning) (Γ : Environment) (s : Values) (t : Trace) (xs : List ℕ) (es : List Exp) → IgnoresAll n xs → (o1 o2 o : Outcome) → Combines Γ (assigned xs es Γ s) o1 o2 o → n.does Γ (assigned xs es Γ s) t o2 → MovedSecond n Γ s t o1 o
+pub second_past_back : (n : Meaning) (Γ : Environment) (s : Values) (t : Trace) (xs : List ℕ) (es : List Exp) → IgnoresAll n xs
+    → (o1 o2 o : Outcome) → Combines Γ (assigned xs es Γ s) o1 o2 o → n.does Γ (assigned xs es Γ s) t o2 → MovedSecond n Γ s t o1 o
 second_past_back n Γ s t [] es h o1 o2 o c d = record { other = o2; combines = c; does = d }
 second_past_back n Γ s t (x ∷ xs) [] h o1 o2 o c d = record { other = o2; combines = c; does = d }
 second_past_back n Γ s t (x ∷ xs) (e ∷ es) h o1 o2 o c d =

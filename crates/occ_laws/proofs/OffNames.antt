@@ -58,7 +58,8 @@ same_value x Γ Δ s h (operation op left right) k =
 pub same_truth : (x : ℕ) (Γ Δ : Environment) (s : Values) → AgreeOff x Γ Δ → (e : Exp) → names e x ≡ false → is_true Γ e s ≡ is_true Δ e s
 same_truth x Γ Δ s h e k = ap (λ n. n == 1) (same_value x Γ Δ s h e k)
 
-same_assigned : (x : ℕ) (Γ Δ : Environment) (s : Values) → AgreeOff x Γ Δ → (xs : List ℕ) (es : List Exp) → some_names es x ≡ false → assigned xs es Γ s ≡ assigned xs es Δ s
+same_assigned : (x : ℕ) (Γ Δ : Environment) (s : Values) → AgreeOff x Γ Δ → (xs : List ℕ) (es : List Exp) → some_names es x ≡ false
+    → assigned xs es Γ s ≡ assigned xs es Δ s
 same_assigned x Γ Δ s h [] es k = refl
 same_assigned x Γ Δ s h (y ∷ xs) [] k = refl
 same_assigned x Γ Δ s h (y ∷ xs) (e ∷ es) k =
@@ -83,24 +84,28 @@ skip_moves Γ Δ = record { moved = λ s t o d. d }
 never_moves : (Γ Δ : Environment) → Moves Γ Δ never
 never_moves Γ Δ = record { moved = λ s t o d. d }
 
-assign_moves : (x : ℕ) (Γ Δ : Environment) → AgreeOff x Γ Δ → (xs : List ℕ) (es : List Exp) → some_names es x ≡ false → Moves Γ Δ (at_once (assigned xs es))
+assign_moves : (x : ℕ) (Γ Δ : Environment) → AgreeOff x Γ Δ → (xs : List ℕ) (es : List Exp) → some_names es x ≡ false
+    → Moves Γ Δ (at_once (assigned xs es))
 assign_moves x Γ Δ h xs es k = record { moved = λ s t o d. (d.0, d.1 ∙ ap ended (same_assigned x Γ Δ s h xs es k)) }
 
-followed_does : (Γ Δ : Environment) (m n : Meaning) → Moves Γ Δ m → Moves Γ Δ n → (s : Values) (t : Trace) (o : Outcome) → Followed m n Γ s t o → Followed m n Δ s t o
+followed_does : (Γ Δ : Environment) (m n : Meaning) → Moves Γ Δ m → Moves Γ Δ n → (s : Values) (t : Trace) (o : Outcome)
+    → Followed m n Γ s t o → Followed m n Δ s t o
 followed_does Γ Δ m n hm hn s t o (in_first {X = X} d) = in_first (hm.moved s t (refusing X) d)
 followed_does Γ Δ m n hm hn s t o (in_second t1 t2 s1 e d1 d2) = in_second t1 t2 s1 e (hm.moved s t1 (ended s1) d1) (hn.moved s1 t2 o d2)
 
 pub followed_moves : (Γ Δ : Environment) (m n : Meaning) → Moves Γ Δ m → Moves Γ Δ n → Moves Γ Δ (followed m n)
 followed_moves Γ Δ m n hm hn = record { moved = followed_does Γ Δ m n hm hn }
 
-pub chosen_moves : (Γ Δ : Environment) (e : Exp) (m n : Meaning) → ((s : Values) → is_true Γ e s ≡ is_true Δ e s) → Moves Γ Δ m → Moves Γ Δ n → Moves Γ Δ (chosen e m n)
+pub chosen_moves : (Γ Δ : Environment) (e : Exp) (m n : Meaning) → ((s : Values) → is_true Γ e s ≡ is_true Δ e s) → Moves Γ Δ m
+    → Moves Γ Δ n → Moves Γ Δ (chosen e m n)
 chosen_moves Γ Δ e m n same hm hn = record {
   moved = λ s t o d.
       let P : Bool → Type 0 = λ b. MatchBool b (m.does Δ s t o) (n.does Δ s t o) in
       subst P (same s) (both (is_true Γ e s) (λ h. hm.moved s t o h) (λ h. hn.moved s t o h) d);
 }
 
-pub after_moves : (x : ℕ) (Γ Δ : Environment) (s : Values) → AgreeOff x Γ Δ → (w : Waiting) → free_in_waiting w x ≡ false → (e : Event) (u : Values) → After Γ s w e u → After Δ s w e u
+pub after_moves : (x : ℕ) (Γ Δ : Environment) (s : Values) → AgreeOff x Γ Δ → (w : Waiting) → free_in_waiting w x ≡ false
+    → (e : Event) (u : Values) → After Γ s w e u → After Δ s w e u
 after_moves x Γ Δ s h ready k e u a = a
 after_moves x Γ Δ s h (input c y) k e u a =
     let P : Option Kind → Type 0 = λ o. has_width (channel_kind o) a.0 ≡ true in
@@ -108,14 +113,16 @@ after_moves x Γ Δ s h (input c y) k e u a =
 after_moves x Γ Δ s h (output c z) k e u a =
     (a.0 ∙ ap (λ v. record { chan = record { 0 = c }; dir = Output; value = v }) (same_value x Γ Δ s h z (or_parts (x == c) (names z x) k).1), a.1)
 
-taken_moves : (Γ Δ : Environment) (s : Values) (w : Waiting) → ((e : Event) (u : Values) → After Γ s w e u → After Δ s w e u) → (t : Trace) (u : Values) (a : Trace) → Taken Γ s w t u a → Taken Δ s w t u a
+taken_moves : (Γ Δ : Environment) (s : Values) (w : Waiting) → ((e : Event) (u : Values) → After Γ s w e u → After Δ s w e u)
+    → (t : Trace) (u : Values) (a : Trace) → Taken Γ s w t u a → Taken Δ s w t u a
 taken_moves Γ Δ s w imp t u a at_ready = at_ready
 taken_moves Γ Δ s w imp t u a (at_event {e = e} {u = r} k) = at_event (imp e r k)
 
 pub no_guard_moves : (Γ Δ : Environment) → GuardsMove Γ Δ no_guard
 no_guard_moves Γ Δ = record { first = λ s X d. d; later = λ s t o d. d }
 
-pub and_guard_moves : (x : ℕ) (Γ Δ : Environment) → AgreeOff x Γ Δ → (b : Exp) (w : Waiting) (m : Meaning) (g : Guards) → names b x ≡ false → free_in_waiting w x ≡ false → Moves Γ Δ m → GuardsMove Γ Δ g → GuardsMove Γ Δ (and_guard b w m g)
+pub and_guard_moves : (x : ℕ) (Γ Δ : Environment) → AgreeOff x Γ Δ → (b : Exp) (w : Waiting) (m : Meaning) (g : Guards) → names b x ≡ false
+    → free_in_waiting w x ≡ false → Moves Γ Δ m → GuardsMove Γ Δ g → GuardsMove Γ Δ (and_guard b w m g)
 and_guard_moves x Γ Δ h b w m g kb kw hm hg = record {
   first = λ s X d. (
     let P : Bool → Type 0 = λ c. MatchBool c (IsQuiet Δ s w X) (Unit {0}) in
@@ -129,7 +136,8 @@ and_guard_moves x Γ Δ h b w m g kb kw hm hg = record {
   ];
 }
 
-alternates_move : (Γ Δ : Environment) (g : Guards) → GuardsMove Γ Δ g → (s : Values) (t : Trace) (o : Outcome) → Alternates g Γ s t o → Alternates g Δ s t o
+alternates_move : (Γ Δ : Environment) (g : Guards) → GuardsMove Γ Δ g → (s : Values) (t : Trace) (o : Outcome) → Alternates g Γ s t o
+    → Alternates g Δ s t o
 alternates_move Γ Δ g hg s t o (stable {X = X} d) = stable (hg.first s X d)
 alternates_move Γ Δ g hg s t o (taken d) = taken (hg.later s t o d)
 
@@ -137,7 +145,8 @@ pub alternatives_move : (Γ Δ : Environment) (g : Guards) → GuardsMove Γ Δ 
 alternatives_move Γ Δ g hg = record { moved = alternates_move Γ Δ g hg }
 
 -- the events in scope differ on the channel of that name alone
-scope_moves : (x : ℕ) (Γ Δ : Environment) → AgreeOff x Γ Δ → (u : ℕ → Dir → Bool) → ((d : Dir) → u x d ≡ false) → (X Y : EventSet) → Extends u (refused_with Γ X Y) (refused_with Δ X Y)
+scope_moves : (x : ℕ) (Γ Δ : Environment) → AgreeOff x Γ Δ → (u : ℕ → Dir → Bool) → ((d : Dir) → u x d ≡ false) → (X Y : EventSet)
+    → Extends u (refused_with Γ X Y) (refused_with Δ X Y)
 scope_moves x Γ Δ h u unused X Y e k = elim (or_cases (X e) (in_scope Δ e && Y e) k) [
   | inl j ↦ inl (or_left (X e) (in_scope Γ e && Y e) j)
   | inr j ↦ elim (eqb_tells e.chan.0 x) [
@@ -146,7 +155,8 @@ scope_moves x Γ Δ h u unused X Y e k = elim (or_cases (X e) (in_scope Δ e && 
   ]
 ]
 
-combine_move : (x : ℕ) (Γ Δ : Environment) → AgreeOff x Γ Δ → (u v : ℕ → Dir → Bool) (m n : Meaning) → ((d : Dir) → u x d ≡ false) → ((d : Dir) → v x d ≡ false) → RefusesMore u m → RefusesMore v n → Moves Γ Δ m → Moves Γ Δ n
+combine_move : (x : ℕ) (Γ Δ : Environment) → AgreeOff x Γ Δ → (u v : ℕ → Dir → Bool) (m n : Meaning) → ((d : Dir) → u x d ≡ false)
+    → ((d : Dir) → v x d ≡ false) → RefusesMore u m → RefusesMore v n → Moves Γ Δ m → Moves Γ Δ n
     → (s : Values) (t1 t2 t : Trace) → Weave t1 t2 t → (o1 o2 o : Outcome) → m.does Γ s t1 o1 → n.does Γ s t2 o2 → Combines Γ s o1 o2 o → Together m n Δ s t o
 combine_move x Γ Δ h u v m n ku kv rm rn hm hn s t1 t2 t woven o1 o2 o d1 d2 (both_ended {s1 = a} {s2 = b} {s' = r} e) =
     together t1 t2 (ended a) (ended b) woven (both_ended e) (hm.moved s t1 (ended a) d1) (hn.moved s t2 (ended b) d2)
@@ -159,37 +169,47 @@ combine_move x Γ Δ h u v m n ku kv rm rn hm hn s t1 t2 t woven o1 o2 o d1 d2 (
     (rm.more Δ s t1 (refused_with Γ X Y) (refused_with Δ X Y) (scope_moves x Γ Δ h u ku X Y) (hm.moved s t1 (refusing (refused_with Γ X Y)) d1))
     (rn.more Δ s t2 (refused_with Γ X (answered Y)) (refused_with Δ X (answered Y)) (scope_moves x Γ Δ h v kv X (answered Y)) (hn.moved s t2 (refusing (refused_with Γ X (answered Y))) d2))
 
-together_moves : (x : ℕ) (Γ Δ : Environment) → AgreeOff x Γ Δ → (u v : ℕ → Dir → Bool) (m n : Meaning) → ((d : Dir) → u x d ≡ false) → ((d : Dir) → v x d ≡ false) → RefusesMore u m → RefusesMore v n → Moves Γ Δ m → Moves Γ Δ n
+together_moves : (x : ℕ) (Γ Δ : Environment) → AgreeOff x Γ Δ → (u v : ℕ → Dir → Bool) (m n : Meaning) → ((d : Dir) → u x d ≡ false)
+    → ((d : Dir) → v x d ≡ false) → RefusesMore u m → RefusesMore v n → Moves Γ Δ m → Moves Γ Δ n
     → (s : Values) (t : Trace) (o : Outcome) → Together m n Γ s t o → Together m n Δ s t o
 together_moves x Γ Δ h u v m n ku kv rm rn hm hn s t o (together t1 t2 o1 o2 woven c d1 d2) = combine_move x Γ Δ h u v m n ku kv rm rn hm hn s t1 t2 t woven o1 o2 o d1 d2 c
 
-pub beside_moves : (x : ℕ) (Γ Δ : Environment) → AgreeOff x Γ Δ → (u v : ℕ → Dir → Bool) (m n : Meaning) → ((d : Dir) → u x d ≡ false) → ((d : Dir) → v x d ≡ false) → RefusesMore u m → RefusesMore v n → Moves Γ Δ m → Moves Γ Δ n → Moves Γ Δ (beside m n)
+pub beside_moves : (x : ℕ) (Γ Δ : Environment) → AgreeOff x Γ Δ → (u v : ℕ → Dir → Bool) (m n : Meaning) → ((d : Dir) → u x d ≡ false)
+    → ((d : Dir) → v x d ≡ false) → RefusesMore u m → RefusesMore v n → Moves Γ Δ m → Moves Γ Δ n → Moves Γ Δ (beside m n)
 beside_moves x Γ Δ h u v m n ku kv rm rn hm hn = record { moved = together_moves x Γ Δ h u v m n ku kv rm rn hm hn }
 
-variable_does : (y : ℕ) (w : Width) (Γ Δ : Environment) (m : Meaning) → Moves (with_name Γ y (Var w)) (with_name Δ y (Var w)) m → (s : Values) (t : Trace) (o : Outcome) → WithVariable y w m Γ s t o → WithVariable y w m Δ s t o
+variable_does : (y : ℕ) (w : Width) (Γ Δ : Environment) (m : Meaning) → Moves (with_name Γ y (Var w)) (with_name Δ y (Var w)) m
+    → (s : Values) (t : Trace) (o : Outcome) → WithVariable y w m Γ s t o → WithVariable y w m Δ s t o
 variable_does y w Γ Δ m hm s t o (WithVariable.at_end v s1 lt e d) = WithVariable.at_end v s1 lt e (hm.moved (with_value s y v) t (ended s1) d)
 variable_does y w Γ Δ m hm s t o (WithVariable.at_rest {X = X} v lt d) = WithVariable.at_rest v lt (hm.moved (with_value s y v) t (refusing X) d)
 
-pub variable_moves : (y : ℕ) (w : Width) (Γ Δ : Environment) (m : Meaning) → Moves (with_name Γ y (Var w)) (with_name Δ y (Var w)) m → Moves Γ Δ (over_variable y w m)
+pub variable_moves : (y : ℕ) (w : Width) (Γ Δ : Environment) (m : Meaning) → Moves (with_name Γ y (Var w)) (with_name Δ y (Var w)) m
+    → Moves Γ Δ (over_variable y w m)
 variable_moves y w Γ Δ m hm = record { moved = variable_does y w Γ Δ m hm }
 
-channel_does : (c : ℕ) (w : Width) (Γ Δ : Environment) (m : Meaning) → Moves (with_name Γ c (Chan w None)) (with_name Δ c (Chan w None)) m → (s : Values) (t : Trace) (o : Outcome) → WithChannel c w m Γ s t o → WithChannel c w m Δ s t o
+channel_does : (c : ℕ) (w : Width) (Γ Δ : Environment) (m : Meaning) → Moves (with_name Γ c (Chan w None)) (with_name Δ c (Chan w None)) m
+    → (s : Values) (t : Trace) (o : Outcome) → WithChannel c w m Γ s t o → WithChannel c w m Δ s t o
 channel_does c w Γ Δ m hm s t o (WithChannel.at_end {s1 = r} silent d) = WithChannel.at_end silent (hm.moved s t (ended r) d)
 channel_does c w Γ Δ m hm s t o (WithChannel.at_rest {X = X} silent d) = WithChannel.at_rest silent (hm.moved s t (refusing (off_channel c X)) d)
 
-pub channel_moves : (c : ℕ) (w : Width) (Γ Δ : Environment) (m : Meaning) → Moves (with_name Γ c (Chan w None)) (with_name Δ c (Chan w None)) m → Moves Γ Δ (over_channel c w m)
+pub channel_moves : (c : ℕ) (w : Width) (Γ Δ : Environment) (m : Meaning)
+    → Moves (with_name Γ c (Chan w None)) (with_name Δ c (Chan w None)) m → Moves Γ Δ (over_channel c w m)
 channel_moves c w Γ Δ m hm = record { moved = channel_does c w Γ Δ m hm }
 
-alone_moves : (x : ℕ) (Γ Δ : Environment) → AgreeOff x Γ Δ → (w : Waiting) → free_in_waiting w x ≡ false → Moves Γ Δ (alternatives (and_guard (truth true) w (at_once (λ Ψ s. s)) no_guard))
+alone_moves : (x : ℕ) (Γ Δ : Environment) → AgreeOff x Γ Δ → (w : Waiting) → free_in_waiting w x ≡ false
+    → Moves Γ Δ (alternatives (and_guard (truth true) w (at_once (λ Ψ s. s)) no_guard))
 alone_moves x Γ Δ h w k = alternatives_move Γ Δ (and_guard (truth true) w (at_once (λ Ψ s. s)) no_guard) (and_guard_moves x Γ Δ h (truth true) w (at_once (λ Ψ s. s)) no_guard refl k (skip_moves Γ Δ) (no_guard_moves Γ Δ))
 
-beside_all_moves : (x : ℕ) (Γ Δ : Environment) → AgreeOff x Γ Δ → (p : Tree) (ps : Trees) → ((d : Dir) → uses_end p x d ≡ false) → ((d : Dir) → end_in_some ps x d ≡ false) → RefusesMore (uses_end p) (meaning p) → RefusesMore (end_in_some ps) (at_the_same_time ps)
+beside_all_moves : (x : ℕ) (Γ Δ : Environment) → AgreeOff x Γ Δ → (p : Tree) (ps : Trees) → ((d : Dir) → uses_end p x d ≡ false)
+    → ((d : Dir) → end_in_some ps x d ≡ false) → RefusesMore (uses_end p) (meaning p) → RefusesMore (end_in_some ps) (at_the_same_time ps)
     → Moves Γ Δ (meaning p) → Moves Γ Δ (at_the_same_time ps) → Moves Γ Δ (beside_all ps (meaning p) (at_the_same_time ps))
 beside_all_moves x Γ Δ h p no_tree ku kv rm rn hm hn = hm
 beside_all_moves x Γ Δ h p (and_tree q qs) ku kv rm rn hm hn = beside_moves x Γ Δ h (uses_end p) (end_in_some (and_tree q qs)) (meaning p) (at_the_same_time (and_tree q qs)) ku kv rm rn hm hn
 
 -- inside a declaration of a name
-below_moves : (x y : ℕ) (Γ Δ : Environment) (kind : Kind) (p : Tree) → AgreeOff x Γ Δ → (not (x == y) && free p x) ≡ false → (free p x ≡ false → AgreeOff x (with_name Γ y kind) (with_name Δ y kind) → Moves (with_name Γ y kind) (with_name Δ y kind) (meaning p)) → Moves (with_name Γ y kind) (with_name Δ y kind) (meaning p)
+below_moves : (x y : ℕ) (Γ Δ : Environment) (kind : Kind) (p : Tree) → AgreeOff x Γ Δ → (not (x == y) && free p x) ≡ false
+    → (free p x ≡ false → AgreeOff x (with_name Γ y kind) (with_name Δ y kind) → Moves (with_name Γ y kind) (with_name Δ y kind) (meaning p))
+    → Moves (with_name Γ y kind) (with_name Δ y kind) (meaning p)
 below_moves x y Γ Δ kind p h k ih = elim (eqb_tells x y) [
   | inl e ↦ moves_along (with_name Γ y kind) (with_name Δ y kind) (meaning p) (let P : ℕ → Type 0 = λ z. with_name Γ z kind ≡ with_name Δ z kind in subst P e.1 (agree_same x Γ Δ kind h))
   | inr e ↦ ih (and_second (not (x == y)) (free p x) k (not_from_false (x == y) e.0)) (agree_below x y Γ Δ kind h)
@@ -198,7 +218,8 @@ below_moves x y Γ Δ kind p h k ih = elim (eqb_tells x y) [
 -- ---- the whole language
 
 mutual
-  pub part_moves : (p : Tree) (Θ : Environment) → types_kept p Θ ≡ true → (x : ℕ) → free p x ≡ false → (Γ Δ : Environment) → AgreeOff x Γ Δ → Moves Γ Δ (meaning p)
+  pub part_moves : (p : Tree) (Θ : Environment) → types_kept p Θ ≡ true → (x : ℕ) → free p x ≡ false → (Γ Δ : Environment) → AgreeOff x Γ Δ
+      → Moves Γ Δ (meaning p)
   part_moves skip Θ t x k Γ Δ h = skip_moves Γ Δ
   part_moves stop Θ t x k Γ Δ h = never_moves Γ Δ
   part_moves (assign xs es) Θ t x k Γ Δ h = assign_moves x Γ Δ h xs es (or_parts (is_in xs x) (some_names es x) k).1
@@ -213,25 +234,29 @@ mutual
   part_moves (connect y w p) Θ t x k Γ Δ h = channel_moves y w Γ Δ (meaning p) (below_moves x y Γ Δ (Chan w None) p h k
       (λ j i. part_moves p (with_name Θ y (Chan w None)) (and_parts (can_declare Θ y w) (types_kept p (with_name Θ y (Chan w None))) t).1 x j (with_name Γ y (Chan w None)) (with_name Δ y (Chan w None)) i))
 
-  pub turn_moves : (ps : Trees) (Θ : Environment) → all_types_kept ps Θ ≡ true → (x : ℕ) → free_in_some ps x ≡ false → (Γ Δ : Environment) → AgreeOff x Γ Δ → Moves Γ Δ (in_turn ps)
+  pub turn_moves : (ps : Trees) (Θ : Environment) → all_types_kept ps Θ ≡ true → (x : ℕ) → free_in_some ps x ≡ false → (Γ Δ : Environment)
+      → AgreeOff x Γ Δ → Moves Γ Δ (in_turn ps)
   turn_moves no_tree Θ t x k Γ Δ h = skip_moves Γ Δ
   turn_moves (and_tree p ps) Θ t x k Γ Δ h =
       let j = and_parts (types_kept p Θ) (all_types_kept ps Θ) t in let i = or_parts (free p x) (free_in_some ps x) k in
       followed_moves Γ Δ (meaning p) (in_turn ps) (part_moves p Θ j.0 x i.0 Γ Δ h) (turn_moves ps Θ j.1 x i.1 Γ Δ h)
 
-  pub parallel_moves : (ps : Trees) (Θ : Environment) → all_types_kept ps Θ ≡ true → (x : ℕ) → free_in_some ps x ≡ false → (Γ Δ : Environment) → AgreeOff x Γ Δ → Moves Γ Δ (at_the_same_time ps)
+  pub parallel_moves : (ps : Trees) (Θ : Environment) → all_types_kept ps Θ ≡ true → (x : ℕ) → free_in_some ps x ≡ false
+      → (Γ Δ : Environment) → AgreeOff x Γ Δ → Moves Γ Δ (at_the_same_time ps)
   parallel_moves no_tree Θ t x k Γ Δ h = skip_moves Γ Δ
   parallel_moves (and_tree p ps) Θ t x k Γ Δ h =
       let j = and_parts (types_kept p Θ) (all_types_kept ps Θ) t in let i = or_parts (free p x) (free_in_some ps x) k in
       beside_all_moves x Γ Δ h p ps (λ d. no_end p x d i.0) (λ d. some_no_end ps x d i.1) (part_more p Θ j.0) (parallel_more ps Θ j.1) (part_moves p Θ j.0 x i.0 Γ Δ h) (parallel_moves ps Θ j.1 x i.1 Γ Δ h)
 
-  pub cases_move : (cs : Cases) (Θ : Environment) → cases_kept cs Θ ≡ true → (x : ℕ) → free_in_cases cs x ≡ false → (Γ Δ : Environment) → AgreeOff x Γ Δ → Moves Γ Δ (first_choice cs)
+  pub cases_move : (cs : Cases) (Θ : Environment) → cases_kept cs Θ ≡ true → (x : ℕ) → free_in_cases cs x ≡ false → (Γ Δ : Environment)
+      → AgreeOff x Γ Δ → Moves Γ Δ (first_choice cs)
   cases_move no_case Θ t x k Γ Δ h = never_moves Γ Δ
   cases_move (and_case e p cs) Θ t x k Γ Δ h =
       let j = and_three (is_condition Θ e) (types_kept p Θ) (cases_kept cs Θ) t in let i = or_three (names e x) (free p x) (free_in_cases cs x) k in
       chosen_moves Γ Δ e (meaning p) (first_choice cs) (λ s. same_truth x Γ Δ s h e i.0) (part_moves p Θ j.1 x i.1 Γ Δ h) (cases_move cs Θ j.2 x i.2 Γ Δ h)
 
-  pub branches_move : (bs : Branches) (Θ : Environment) → branches_kept bs Θ ≡ true → (x : ℕ) → free_in_branches bs x ≡ false → (Γ Δ : Environment) → AgreeOff x Γ Δ → GuardsMove Γ Δ (guards bs)
+  pub branches_move : (bs : Branches) (Θ : Environment) → branches_kept bs Θ ≡ true → (x : ℕ) → free_in_branches bs x ≡ false
+      → (Γ Δ : Environment) → AgreeOff x Γ Δ → GuardsMove Γ Δ (guards bs)
   branches_move no_branch Θ t x k Γ Δ h = no_guard_moves Γ Δ
   branches_move (and_branch e w p bs) Θ t x k Γ Δ h =
       let j = and_four (is_condition Θ e) (waiting_kept Θ w) (types_kept p Θ) (branches_kept bs Θ) t in

@@ -56,7 +56,8 @@ value_unnamed Γ s x v (operation op left right) k =
 pub truth_unnamed : (Γ : Environment) (s : Values) (x v : ℕ) (e : Exp) → names e x ≡ false → is_true Γ e s ≡ is_true Γ e (with_value s x v)
 truth_unnamed Γ s x v e k = ap (λ n. n == 1) (value_unnamed Γ s x v e k)
 
-pub assigned_unnamed : (Γ : Environment) (s : Values) (x v : ℕ) (xs : List ℕ) (es : List Exp) → is_in xs x ≡ false → some_names es x ≡ false → with_value (assigned xs es Γ s) x v ≡ assigned xs es Γ (with_value s x v)
+pub assigned_unnamed : (Γ : Environment) (s : Values) (x v : ℕ) (xs : List ℕ) (es : List Exp) → is_in xs x ≡ false → some_names es x ≡ false
+    → with_value (assigned xs es Γ s) x v ≡ assigned xs es Γ (with_value s x v)
 assigned_unnamed Γ s x v [] es h k = refl
 assigned_unnamed Γ s x v (y ∷ xs) [] h k = refl
 assigned_unnamed Γ s x v (y ∷ xs) (e ∷ es) h k =
@@ -86,7 +87,8 @@ never_ignores x = record { ignored = λ Γ s v t o d. stopped_ignores x v t o d 
 assign_ignores : (x : ℕ) (xs : List ℕ) (es : List Exp) → is_in xs x ≡ false → some_names es x ≡ false → Ignores x (at_once (assigned xs es))
 assign_ignores x xs es h k = record { ignored = λ Γ s v t o d. (d.0, ap (with_result x v) d.1 ∙ ap ended (assigned_unnamed Γ s x v xs es h k)) }
 
-followed_does : (x : ℕ) (m n : Meaning) → Ignores x m → Ignores x n → (Γ : Environment) (s : Values) (v : ℕ) (t : Trace) (o : Outcome) → Followed m n Γ s t o → Followed m n Γ (with_value s x v) t (with_result x v o)
+followed_does : (x : ℕ) (m n : Meaning) → Ignores x m → Ignores x n → (Γ : Environment) (s : Values) (v : ℕ) (t : Trace) (o : Outcome)
+    → Followed m n Γ s t o → Followed m n Γ (with_value s x v) t (with_result x v o)
 followed_does x m n hm hn Γ s v t o (in_first {X = X} d) = in_first (hm.ignored Γ s v t (refusing X) d)
 followed_does x m n hm hn Γ s v t o (in_second t1 t2 s1 e d1 d2) = in_second t1 t2 (with_value s1 x v) e (hm.ignored Γ s v t1 (ended s1) d1) (hn.ignored Γ s1 v t2 o d2)
 
@@ -106,25 +108,29 @@ Aloof ready x = Unit {0}
 Aloof (input c y) x = (x == y) ≡ false
 Aloof (output c z) x = names z x ≡ false
 
-pub after_ignores : (Γ : Environment) (s : Values) (x v : ℕ) (w : Waiting) → Aloof w x → (e : Event) (u : Values) → After Γ s w e u → After Γ (with_value s x v) w e (with_value u x v)
+pub after_ignores : (Γ : Environment) (s : Values) (x v : ℕ) (w : Waiting) → Aloof w x → (e : Event) (u : Values) → After Γ s w e u
+    → After Γ (with_value s x v) w e (with_value u x v)
 after_ignores Γ s x v ready k e u a = a
 after_ignores Γ s x v (input c y) k e u a = (a.0, a.1, a.2, ap (λ r. with_value r x v) a.3 ∙ sym (swap_values s x v y a.0 k))
 after_ignores Γ s x v (output c z) k e u a = (a.0 ∙ ap (λ n. record { chan = record { 0 = c }; dir = Output; value = n }) (value_unnamed Γ s x v z k), ap (λ r. with_value r x v) a.1)
 
 -- the events of a guard are the same from both
-pub after_from : (Γ : Environment) (s : Values) (x v : ℕ) (w : Waiting) → Aloof w x → (e : Event) (u : Values) → After Γ (with_value s x v) w e u → (r : Values) × After Γ s w e r
+pub after_from : (Γ : Environment) (s : Values) (x v : ℕ) (w : Waiting) → Aloof w x → (e : Event) (u : Values)
+    → After Γ (with_value s x v) w e u → (r : Values) × After Γ s w e r
 after_from Γ s x v ready k e u a = absurd a
 after_from Γ s x v (input c y) k e u a = (with_value s y a.0, (a.0, a.1, a.2, refl))
 after_from Γ s x v (output c z) k e u a = (s, (a.0 ∙ ap (λ n. record { chan = record { 0 = c }; dir = Output; value = n }) (sym (value_unnamed Γ s x v z k)), refl))
 
-taken_ignores : (Γ : Environment) (s : Values) (x v : ℕ) (w : Waiting) → Aloof w x → (t : Trace) (u : Values) (a : Trace) → Taken Γ s w t u a → Taken Γ (with_value s x v) w t (with_value u x v) a
+taken_ignores : (Γ : Environment) (s : Values) (x v : ℕ) (w : Waiting) → Aloof w x → (t : Trace) (u : Values) (a : Trace)
+    → Taken Γ s w t u a → Taken Γ (with_value s x v) w t (with_value u x v) a
 taken_ignores Γ s x v w k t u a at_ready = at_ready
 taken_ignores Γ s x v w k t u a (at_event {w = b} {e = e} {u = r} j) = at_event (after_ignores Γ s x v b k e r j)
 
 pub no_guard_ignores : (x : ℕ) → Ignore x no_guard
 no_guard_ignores x = record { first = λ Γ s v X d. d; later = λ Γ s v t o d. d }
 
-pub and_guard_ignores : (x : ℕ) (b : Exp) (w : Waiting) (m : Meaning) (g : Guards) → names b x ≡ false → Aloof w x → Ignores x m → Ignore x g → Ignore x (and_guard b w m g)
+pub and_guard_ignores : (x : ℕ) (b : Exp) (w : Waiting) (m : Meaning) (g : Guards) → names b x ≡ false → Aloof w x → Ignores x m
+    → Ignore x g → Ignore x (and_guard b w m g)
 and_guard_ignores x b w m g kb kw hm hg = record {
   first = λ Γ s v X d. (
     let P : Bool → Type 0 = λ c. MatchBool c (IsQuiet Γ (with_value s x v) w X) (Unit {0}) in
@@ -138,14 +144,16 @@ and_guard_ignores x b w m g kb kw hm hg = record {
   ];
 }
 
-alternates_ignore : (x : ℕ) (g : Guards) → Ignore x g → (Γ : Environment) (s : Values) (v : ℕ) (t : Trace) (o : Outcome) → Alternates g Γ s t o → Alternates g Γ (with_value s x v) t (with_result x v o)
+alternates_ignore : (x : ℕ) (g : Guards) → Ignore x g → (Γ : Environment) (s : Values) (v : ℕ) (t : Trace) (o : Outcome)
+    → Alternates g Γ s t o → Alternates g Γ (with_value s x v) t (with_result x v o)
 alternates_ignore x g hg Γ s v t o (stable {X = X} d) = stable (hg.first Γ s v X d)
 alternates_ignore x g hg Γ s v t o (taken d) = taken (hg.later Γ s v t o d)
 
 pub alternatives_ignore : (x : ℕ) (g : Guards) → Ignore x g → Ignores x (alternatives g)
 alternatives_ignore x g hg = record { ignored = alternates_ignore x g hg }
 
-same_if : (p : Bool) (v a b c : ℕ) → (if p then v else if a == c then b else a) ≡ (if (if p then v else a) == (if p then v else c) then (if p then v else b) else (if p then v else a))
+same_if : (p : Bool) (v a b c : ℕ)
+    → (if p then v else if a == c then b else a) ≡ (if (if p then v else a) == (if p then v else c) then (if p then v else b) else (if p then v else a))
 same_if true v a b c = either_way (v == v) v
   where
     either_way : (q : Bool) (n : ℕ) → n ≡ (if q then n else n)
@@ -156,13 +164,15 @@ same_if false v a b c = refl
 pub join_ignores : (s a b : Values) (x v : ℕ) → with_value (join s a b) x v ≡ join (with_value s x v) (with_value a x v) (with_value b x v)
 join_ignores s a b x v = fun_ext (λ z. same_if (z == x) v (a z) (b z) (s z))
 
-pub combines_ignore : (Γ : Environment) (s : Values) (x v : ℕ) (o1 o2 o : Outcome) → Combines Γ s o1 o2 o → Combines Γ (with_value s x v) (with_result x v o1) (with_result x v o2) (with_result x v o)
+pub combines_ignore : (Γ : Environment) (s : Values) (x v : ℕ) (o1 o2 o : Outcome) → Combines Γ s o1 o2 o
+    → Combines Γ (with_value s x v) (with_result x v o1) (with_result x v o2) (with_result x v o)
 combines_ignore Γ s x v o1 o2 o (both_ended {s1 = a} {s2 = b} {s' = r} e) = both_ended (ap (λ q. with_value q x v) e ∙ join_ignores s a b x v)
 combines_ignore Γ s x v o1 o2 o first_ended = first_ended
 combines_ignore Γ s x v o1 o2 o second_ended = second_ended
 combines_ignore Γ s x v o1 o2 o (neither_ended X Y) = neither_ended X Y
 
-together_ignores : (x : ℕ) (m n : Meaning) → Ignores x m → Ignores x n → (Γ : Environment) (s : Values) (v : ℕ) (t : Trace) (o : Outcome) → Together m n Γ s t o → Together m n Γ (with_value s x v) t (with_result x v o)
+together_ignores : (x : ℕ) (m n : Meaning) → Ignores x m → Ignores x n → (Γ : Environment) (s : Values) (v : ℕ) (t : Trace) (o : Outcome)
+    → Together m n Γ s t o → Together m n Γ (with_value s x v) t (with_result x v o)
 together_ignores x m n hm hn Γ s v t o (together t1 t2 o1 o2 woven c d1 d2) =
     together t1 t2 (with_result x v o1) (with_result x v o2) woven (combines_ignore Γ s x v o1 o2 o c) (hm.ignored Γ s v t1 o1 d1) (hn.ignored Γ s v t2 o2 d2)
 
@@ -170,7 +180,8 @@ pub beside_ignores : (x : ℕ) (m n : Meaning) → Ignores x m → Ignores x n �
 beside_ignores x m n hm hn = record { ignored = together_ignores x m n hm hn }
 
 -- a declaration of that very name: its own beginning value counts, and the outer one is put back
-declared_does : (x : ℕ) (w : Width) (m : Meaning) (Γ : Environment) (s : Values) (v : ℕ) (t : Trace) (o : Outcome) → WithVariable x w m Γ s t o → WithVariable x w m Γ (with_value s x v) t (with_result x v o)
+declared_does : (x : ℕ) (w : Width) (m : Meaning) (Γ : Environment) (s : Values) (v : ℕ) (t : Trace) (o : Outcome)
+    → WithVariable x w m Γ s t o → WithVariable x w m Γ (with_value s x v) t (with_result x v o)
 declared_does x w m Γ s v t o (WithVariable.at_end {s' = r} u s1 lt e d) =
     let P : Values → Type 0 = λ q. m.does (with_name Γ x (Var w)) q t (ended s1) in
     WithVariable.at_end u s1 lt (ap (λ q. with_value q x v) e ∙ (value_again s1 x (s x) v ∙ ap (λ n. with_value s1 x n) (sym (value_at s x v)))) (subst P (sym (value_again s x v u)) d)
@@ -178,7 +189,9 @@ declared_does x w m Γ s v t o (WithVariable.at_rest {X = X} u lt d) =
     let P : Values → Type 0 = λ q. m.does (with_name Γ x (Var w)) q t (refusing X) in
     WithVariable.at_rest u lt (subst P (sym (value_again s x v u)) d)
 
-variable_does : (x y : ℕ) (w : Width) (m : Meaning) → (x == y) ≡ false → Ignores x m → (Γ : Environment) (s : Values) (v : ℕ) (t : Trace) (o : Outcome) → WithVariable y w m Γ s t o → WithVariable y w m Γ (with_value s x v) t (with_result x v o)
+variable_does : (x y : ℕ) (w : Width) (m : Meaning) → (x == y) ≡ false → Ignores x m
+    → (Γ : Environment) (s : Values) (v : ℕ) (t : Trace) (o : Outcome) → WithVariable y w m Γ s t o
+    → WithVariable y w m Γ (with_value s x v) t (with_result x v o)
 variable_does x y w m off hm Γ s v t o (WithVariable.at_end {s' = r} u s1 lt e d) =
     let P : Values → Type 0 = λ q. m.does (with_name Γ y (Var w)) q t (ended (with_value s1 x v)) in
     WithVariable.at_end u (with_value s1 x v) lt
@@ -194,7 +207,8 @@ variable_ignores x y w m hm = elim (eqb_tells x y) [
   | inr e ↦ record { ignored = variable_does x y w m e.0 (hm e.0) }
 ]
 
-channel_does : (x c : ℕ) (w : Width) (m : Meaning) → Ignores x m → (Γ : Environment) (s : Values) (v : ℕ) (t : Trace) (o : Outcome) → WithChannel c w m Γ s t o → WithChannel c w m Γ (with_value s x v) t (with_result x v o)
+channel_does : (x c : ℕ) (w : Width) (m : Meaning) → Ignores x m → (Γ : Environment) (s : Values) (v : ℕ) (t : Trace) (o : Outcome)
+    → WithChannel c w m Γ s t o → WithChannel c w m Γ (with_value s x v) t (with_result x v o)
 channel_does x c w m hm Γ s v t o (WithChannel.at_end {s1 = r} silent d) = WithChannel.at_end silent (hm.ignored (with_name Γ c (Chan w None)) s v t (ended r) d)
 channel_does x c w m hm Γ s v t o (WithChannel.at_rest {X = X} silent d) = WithChannel.at_rest silent (hm.ignored (with_name Γ c (Chan w None)) s v t (refusing (off_channel c X)) d)
 
@@ -224,10 +238,12 @@ unless_waiting Γ x ready t h = tt
 unless_waiting Γ x (input c y) t h = elim h [ inl k ↦ (or_parts (x == c) (x == y) k).1 | inr k ↦ variable_in_scope Γ x y (channel_width Γ c) (and_parts (allows (Γ c) Input) (agree (channel_width Γ c) (variable_width Γ y)) t).1 k ]
 unless_waiting Γ x (output c e) t h = elim h [ inl k ↦ (or_parts (x == c) (names e x) k).1 | inr k ↦ (let j = output_types Γ c e t in names_in_scope Γ x k e j.1.0 j.1.2) ]
 
-unless_assign : (Γ : Environment) (x : ℕ) (xs : List ℕ) (es : List Exp) → pairs_kept Γ xs es ≡ true → Unless Γ x (is_in xs x || some_names es x) → (is_in xs x ≡ false) × (some_names es x ≡ false)
+unless_assign : (Γ : Environment) (x : ℕ) (xs : List ℕ) (es : List Exp) → pairs_kept Γ xs es ≡ true
+    → Unless Γ x (is_in xs x || some_names es x) → (is_in xs x ≡ false) × (some_names es x ≡ false)
 unless_assign Γ x xs es t h = elim h [ inl k ↦ or_parts (is_in xs x) (some_names es x) k | inr k ↦ pairs_in_scope Γ x k xs es t ]
 
-unless_below : (Γ : Environment) (x y : ℕ) (kind : Kind) (b : Bool) → (x == y) ≡ false → Unless Γ x (not (x == y) && b) → Unless (with_name Γ y kind) x b
+unless_below : (Γ : Environment) (x y : ℕ) (kind : Kind) (b : Bool) → (x == y) ≡ false → Unless Γ x (not (x == y) && b)
+    → Unless (with_name Γ y kind) x b
 unless_below Γ x y kind b off h = elim h [ inl k ↦ inl (and_second (not (x == y)) b k (not_from_false (x == y) off)) | inr k ↦ inr (still_no_variable Γ x y kind k off) ]
 
 unless_channel : (Γ : Environment) (x c : ℕ) (w : Width) (b : Bool) → Unless Γ x (not (x == c) && b) → Unless (with_name Γ c (Chan w None)) x b
@@ -236,7 +252,8 @@ unless_channel Γ x c w b h = elim (cases_Bool (x == c)) [ inl e ↦ inr (no_var
 -- ---- the whole language
 
 mutual
-  pub part_ignores : (p : Tree) (Θ : Environment) → types_kept p Θ ≡ true → (x : ℕ) → (free p x ≡ false) ⊎ (variable_width Θ x ≡ None) → Ignores x (meaning p)
+  pub part_ignores : (p : Tree) (Θ : Environment) → types_kept p Θ ≡ true → (x : ℕ) → (free p x ≡ false) ⊎ (variable_width Θ x ≡ None)
+      → Ignores x (meaning p)
   part_ignores skip Θ t x k = skip_ignores x
   part_ignores stop Θ t x k = never_ignores x
   part_ignores (assign xs es) Θ t x k = let j = unless_assign Θ x xs es (and_parts (is_pair xs) (pairs_kept Θ xs es) t).1 k in assign_ignores x xs es j.0 j.1
@@ -251,19 +268,22 @@ mutual
   part_ignores (connect y w p) Θ t x k = channel_ignores x y w (meaning p)
       (part_ignores p (with_name Θ y (Chan w None)) (and_parts (can_declare Θ y w) (types_kept p (with_name Θ y (Chan w None))) t).1 x (unless_channel Θ x y w (free p x) k))
 
-  pub turn_ignores : (ps : Trees) (Θ : Environment) → all_types_kept ps Θ ≡ true → (x : ℕ) → (free_in_some ps x ≡ false) ⊎ (variable_width Θ x ≡ None) → Ignores x (in_turn ps)
+  pub turn_ignores : (ps : Trees) (Θ : Environment) → all_types_kept ps Θ ≡ true → (x : ℕ)
+      → (free_in_some ps x ≡ false) ⊎ (variable_width Θ x ≡ None) → Ignores x (in_turn ps)
   turn_ignores no_tree Θ t x k = skip_ignores x
   turn_ignores (and_tree p ps) Θ t x k =
       let j = and_parts (types_kept p Θ) (all_types_kept ps Θ) t in let i = unless_parts Θ x (free p x) (free_in_some ps x) k in
       followed_ignores x (meaning p) (in_turn ps) (part_ignores p Θ j.0 x i.0) (turn_ignores ps Θ j.1 x i.1)
 
-  pub parallel_ignores : (ps : Trees) (Θ : Environment) → all_types_kept ps Θ ≡ true → (x : ℕ) → (free_in_some ps x ≡ false) ⊎ (variable_width Θ x ≡ None) → Ignores x (at_the_same_time ps)
+  pub parallel_ignores : (ps : Trees) (Θ : Environment) → all_types_kept ps Θ ≡ true → (x : ℕ)
+      → (free_in_some ps x ≡ false) ⊎ (variable_width Θ x ≡ None) → Ignores x (at_the_same_time ps)
   parallel_ignores no_tree Θ t x k = skip_ignores x
   parallel_ignores (and_tree p ps) Θ t x k =
       let j = and_parts (types_kept p Θ) (all_types_kept ps Θ) t in let i = unless_parts Θ x (free p x) (free_in_some ps x) k in
       beside_all_ignores x ps (meaning p) (at_the_same_time ps) (part_ignores p Θ j.0 x i.0) (parallel_ignores ps Θ j.1 x i.1)
 
-  pub cases_ignore : (cs : Cases) (Θ : Environment) → cases_kept cs Θ ≡ true → (x : ℕ) → (free_in_cases cs x ≡ false) ⊎ (variable_width Θ x ≡ None) → Ignores x (first_choice cs)
+  pub cases_ignore : (cs : Cases) (Θ : Environment) → cases_kept cs Θ ≡ true → (x : ℕ)
+      → (free_in_cases cs x ≡ false) ⊎ (variable_width Θ x ≡ None) → Ignores x (first_choice cs)
   cases_ignore no_case Θ t x k = never_ignores x
   cases_ignore (and_case e p cs) Θ t x k =
       let j = and_three (is_condition Θ e) (types_kept p Θ) (cases_kept cs Θ) t in
@@ -271,7 +291,8 @@ mutual
       let l = unless_parts Θ x (names e x) (free p x) i.0 in
       chosen_ignores x e (meaning p) (first_choice cs) (unless_condition Θ x e j.0 l.0) (part_ignores p Θ j.1 x l.1) (cases_ignore cs Θ j.2 x i.1)
 
-  pub branches_ignore : (bs : Branches) (Θ : Environment) → branches_kept bs Θ ≡ true → (x : ℕ) → (free_in_branches bs x ≡ false) ⊎ (variable_width Θ x ≡ None) → Ignore x (guards bs)
+  pub branches_ignore : (bs : Branches) (Θ : Environment) → branches_kept bs Θ ≡ true → (x : ℕ)
+      → (free_in_branches bs x ≡ false) ⊎ (variable_width Θ x ≡ None) → Ignore x (guards bs)
   branches_ignore no_branch Θ t x k = no_guard_ignores x
   branches_ignore (and_branch e w p bs) Θ t x k =
       let j = and_four (is_condition Θ e) (waiting_kept Θ w) (types_kept p Θ) (branches_kept bs Θ) t in

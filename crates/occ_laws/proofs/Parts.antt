@@ -57,7 +57,8 @@ flat_out : (Γ : Environment) (qs rs : Trees) → Gives Γ (at_the_same_time (al
 flat_out Γ qs rs = gives_through Γ (at_the_same_time (all_of qs rs)) (beside (at_the_same_time qs) (at_the_same_time rs)) (at_the_same_time (and_tree (par qs) rs)) (all_of_beside Γ qs rs) (beside_whole Γ (par qs) rs)
 
 -- what holds of the last parts holds behind others
-pub behind : (Γ : Environment) (ps qs rs : Trees) → Gives Γ (at_the_same_time qs) (at_the_same_time rs) → Gives Γ (at_the_same_time (all_of ps qs)) (at_the_same_time (all_of ps rs))
+pub behind : (Γ : Environment) (ps qs rs : Trees) → Gives Γ (at_the_same_time qs) (at_the_same_time rs)
+    → Gives Γ (at_the_same_time (all_of ps qs)) (at_the_same_time (all_of ps rs))
 behind Γ ps qs rs h =
     gives_through Γ (at_the_same_time (all_of ps qs)) (beside (at_the_same_time ps) (at_the_same_time qs)) (at_the_same_time (all_of ps rs)) (all_of_beside Γ ps qs)
     (gives_through Γ (beside (at_the_same_time ps) (at_the_same_time qs)) (beside (at_the_same_time ps) (at_the_same_time rs)) (at_the_same_time (all_of ps rs))
@@ -101,10 +102,12 @@ pub each_written_apart : (ps : Trees) → AreSeparate ps → EachWritesApart ps
 each_written_apart no_tree h = tt
 each_written_apart (and_tree p ps) h = (written_apart p (par ps) h.0, each_written_apart ps h.1)
 
-pub change_apart : (Γ : Environment) (p q : Tree) → types_kept p Γ ≡ true → types_kept q Γ ≡ true → WriteApart p q → ChangeApart (meaning p) (meaning q)
+pub change_apart : (Γ : Environment) (p q : Tree) → types_kept p Γ ≡ true → types_kept q Γ ≡ true → WriteApart p q
+    → ChangeApart (meaning p) (meaning q)
 change_apart Γ p q tp tq h = record { one_keeps = λ x. elim (h x) [ inl k ↦ inl (part_value p Γ tp x k) | inr k ↦ inr (part_value q Γ tq x k) ] }
 
-pub par_turned : (Γ : Environment) (p q : Tree) → types_kept p Γ ≡ true → types_kept q Γ ≡ true → WriteApart p q → SAME Γ (par (and_tree p (and_tree q no_tree))) (par (and_tree q (and_tree p no_tree)))
+pub par_turned : (Γ : Environment) (p q : Tree) → types_kept p Γ ≡ true → types_kept q Γ ≡ true → WriteApart p q
+    → SAME Γ (par (and_tree p (and_tree q no_tree))) (par (and_tree q (and_tree p no_tree)))
 par_turned Γ p q tp tq h =
     let apart = change_apart Γ p q tp tq h in
     same_by Γ (par (and_tree p (and_tree q no_tree))) (par (and_tree q (and_tree p no_tree))) (beside_turned Γ (meaning p) (meaning q) apart) (beside_turned Γ (meaning q) (meaning p) (apart_turned (meaning p) (meaning q) apart))
@@ -157,7 +160,8 @@ reordered_back ps qs (behind_first {ps = us} {qs = vs} r) = behind_first (reorde
 reordered_back ps qs first_two = first_two
 reordered_back ps qs (in_steps {ps = us} {qs = vs} {rs = ws} r1 r2) = in_steps (reordered_back vs ws r2) (reordered_back us vs r1)
 
-first_two_gives : (Γ : Environment) (p q : Tree) (ps : Trees) → ChangeApart (meaning p) (meaning q) → Gives Γ (at_the_same_time (and_tree p (and_tree q ps))) (at_the_same_time (and_tree q (and_tree p ps)))
+first_two_gives : (Γ : Environment) (p q : Tree) (ps : Trees) → ChangeApart (meaning p) (meaning q)
+    → Gives Γ (at_the_same_time (and_tree p (and_tree q ps))) (at_the_same_time (and_tree q (and_tree p ps)))
 first_two_gives Γ p q ps apart =
     let one = meaning p in
     let two = meaning q in
@@ -172,7 +176,8 @@ first_two_gives Γ p q ps apart =
     (gives_through Γ (beside (beside two one) rest) (beside two (beside one rest)) goal (beside_grouped two one rest (part_shrinks q) (part_shrinks p) (parallel_shrinks ps) Γ)
     (beside_gives Γ two two (beside one rest) (at_the_same_time (and_tree p ps)) (gives_itself Γ two) (beside_whole Γ p ps)))))
 
-pub reordered_gives : (Γ : Environment) (ps qs : Trees) → Reordered ps qs → all_types_kept ps Γ ≡ true → EachWritesApart ps → Gives Γ (at_the_same_time ps) (at_the_same_time qs)
+pub reordered_gives : (Γ : Environment) (ps qs : Trees) → Reordered ps qs → all_types_kept ps Γ ≡ true → EachWritesApart ps
+    → Gives Γ (at_the_same_time ps) (at_the_same_time qs)
 reordered_gives Γ ps qs (as_they_are {ps = us}) t h = gives_itself Γ (at_the_same_time us)
 reordered_gives Γ ps qs (behind_first {p} {ps = us} {qs = vs} r) t h =
     let k = and_parts (types_kept p Γ) (all_types_kept us Γ) t in

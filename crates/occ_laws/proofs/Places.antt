@@ -48,7 +48,8 @@ pub part_usage : (path : List ℕ) (p q : Tree) → KeepsUsage p → part_at pat
 part_usage [] p q h e = let P : Tree → Type 0 = λ z. KeepsUsage z in subst P (some_is e) h
 part_usage (i ∷ path) p q h e = below (λ c u k. part_usage path c q u k) (child p i) refl e
   where
-    below : ((c : Tree) → KeepsUsage c → part_at path c ≡ Some q → KeepsUsage q) → (o : Option Tree) → child p i ≡ o → option_and_then (part_at path) o ≡ Some q → KeepsUsage q
+    below : ((c : Tree) → KeepsUsage c → part_at path c ≡ Some q → KeepsUsage q) → (o : Option Tree) → child p i ≡ o
+        → option_and_then (part_at path) o ≡ Some q → KeepsUsage q
     below ih None is k = none_not_some k
     below ih (Some c) is k = ih c (child_usage p h i c is) k
 
@@ -107,17 +108,20 @@ pub put_there : (path : List ℕ) (p q r : Tree) → part_at path p ≡ Some q �
 put_there [] p q r e = refl
 put_there (i ∷ path) p q r e = below (λ c k. put_there path c q r k) (child p i) refl e
   where
-    below : ((c : Tree) → part_at path c ≡ Some q → part_at path (put path c r) ≡ Some r) → (o : Option Tree) → child p i ≡ o → option_and_then (part_at path) o ≡ Some q
+    below : ((c : Tree) → part_at path c ≡ Some q → part_at path (put path c r) ≡ Some r) → (o : Option Tree) → child p i ≡ o
+        → option_and_then (part_at path) o ≡ Some q
         → option_and_then (part_at path) (child (unwrap_or (option_map (λ c. with_child p i (put path c r)) o) p) i) ≡ Some r
     below ih None is k = none_not_some k
     below ih (Some c) is k = ap (option_and_then (part_at path)) (child_put p i c (put path c r) is) ∙ ih c k
 
 -- in the same environment
-pub put_scope : (path : List ℕ) (Γ : Environment) (p q r : Tree) → part_at path p ≡ Some q → environment_at path Γ (put path p r) ≡ environment_at path Γ p
+pub put_scope : (path : List ℕ) (Γ : Environment) (p q r : Tree) → part_at path p ≡ Some q
+    → environment_at path Γ (put path p r) ≡ environment_at path Γ p
 put_scope [] Γ p q r e = refl
 put_scope (i ∷ path) Γ p q r e = below (λ c Δ k. put_scope path Δ c q r k) (child p i) refl e
   where
-    below : ((c : Tree) (Δ : Environment) → part_at path c ≡ Some q → environment_at path Δ (put path c r) ≡ environment_at path Δ c) → (o : Option Tree) → child p i ≡ o → option_and_then (part_at path) o ≡ Some q
+    below : ((c : Tree) (Δ : Environment) → part_at path c ≡ Some q → environment_at path Δ (put path c r) ≡ environment_at path Δ c)
+        → (o : Option Tree) → child p i ≡ o → option_and_then (part_at path) o ≡ Some q
         → environment_at (i ∷ path) Γ (unwrap_or (option_map (λ c. with_child p i (put path c r)) o) p) ≡ unwrap_or (option_map (environment_at path (environment_below Γ p)) o) Γ
     below ih None is k = none_not_some k
     below ih (Some c) is k =
@@ -126,12 +130,14 @@ put_scope (i ∷ path) Γ p q r e = below (λ c Δ k. put_scope path Δ c q r k)
 
 -- ---- types
 
-tree_put_types : (Γ : Environment) (ps : Trees) (i : ℕ) (r : Tree) → all_types_kept ps Γ ≡ true → types_kept r Γ ≡ true → all_types_kept (with_tree ps i r) Γ ≡ true
+tree_put_types : (Γ : Environment) (ps : Trees) (i : ℕ) (r : Tree) → all_types_kept ps Γ ≡ true → types_kept r Γ ≡ true
+    → all_types_kept (with_tree ps i r) Γ ≡ true
 tree_put_types Γ no_tree i r h k = refl
 tree_put_types Γ (and_tree p ps) zero r h k = and_from (types_kept r Γ) (all_types_kept ps Γ) k (and_parts (types_kept p Γ) (all_types_kept ps Γ) h).1
 tree_put_types Γ (and_tree p ps) (suc i) r h k = let j = and_parts (types_kept p Γ) (all_types_kept ps Γ) h in and_from (types_kept p Γ) (all_types_kept (with_tree ps i r) Γ) j.0 (tree_put_types Γ ps i r j.1 k)
 
-case_put_types : (Γ : Environment) (cs : Cases) (i : ℕ) (r : Tree) → cases_kept cs Γ ≡ true → types_kept r Γ ≡ true → cases_kept (with_case cs i r) Γ ≡ true
+case_put_types : (Γ : Environment) (cs : Cases) (i : ℕ) (r : Tree) → cases_kept cs Γ ≡ true → types_kept r Γ ≡ true
+    → cases_kept (with_case cs i r) Γ ≡ true
 case_put_types Γ no_case i r h k = refl
 case_put_types Γ (and_case e p cs) zero r h k =
     let j = and_three (is_condition Γ e) (types_kept p Γ) (cases_kept cs Γ) h in and_from (is_condition Γ e && types_kept r Γ) (cases_kept cs Γ) (and_from (is_condition Γ e) (types_kept r Γ) j.0 k) j.2
@@ -139,7 +145,8 @@ case_put_types Γ (and_case e p cs) (suc i) r h k =
     let j = and_three (is_condition Γ e) (types_kept p Γ) (cases_kept cs Γ) h in
     and_from (is_condition Γ e && types_kept p Γ) (cases_kept (with_case cs i r) Γ) (and_from (is_condition Γ e) (types_kept p Γ) j.0 j.1) (case_put_types Γ cs i r j.2 k)
 
-branch_put_types : (Γ : Environment) (bs : Branches) (i : ℕ) (r : Tree) → branches_kept bs Γ ≡ true → types_kept r Γ ≡ true → branches_kept (with_branch bs i r) Γ ≡ true
+branch_put_types : (Γ : Environment) (bs : Branches) (i : ℕ) (r : Tree) → branches_kept bs Γ ≡ true → types_kept r Γ ≡ true
+    → branches_kept (with_branch bs i r) Γ ≡ true
 branch_put_types Γ no_branch i r h k = refl
 branch_put_types Γ (and_branch e w p bs) zero r h k =
     let j = and_four (is_condition Γ e) (waiting_kept Γ w) (types_kept p Γ) (branches_kept bs Γ) h in
@@ -149,11 +156,13 @@ branch_put_types Γ (and_branch e w p bs) (suc i) r h k =
     and_from ((is_condition Γ e && waiting_kept Γ w) && types_kept p Γ) (branches_kept (with_branch bs i r) Γ)
     (and_from (is_condition Γ e && waiting_kept Γ w) (types_kept p Γ) (and_from (is_condition Γ e) (waiting_kept Γ w) j.0 j.1) j.2) (branch_put_types Γ bs i r j.3 k)
 
-only_put_types : (Γ : Environment) (p : Tree) (i : ℕ) (r : Tree) → types_kept p Γ ≡ true → types_kept r Γ ≡ true → types_kept (with_only p i r) Γ ≡ true
+only_put_types : (Γ : Environment) (p : Tree) (i : ℕ) (r : Tree) → types_kept p Γ ≡ true → types_kept r Γ ≡ true
+    → types_kept (with_only p i r) Γ ≡ true
 only_put_types Γ p zero r h k = k
 only_put_types Γ p (suc i) r h k = h
 
-child_put_types : (Γ : Environment) (p : Tree) (i : ℕ) (r : Tree) → types_kept p Γ ≡ true → types_kept r (environment_below Γ p) ≡ true → types_kept (with_child p i r) Γ ≡ true
+child_put_types : (Γ : Environment) (p : Tree) (i : ℕ) (r : Tree) → types_kept p Γ ≡ true → types_kept r (environment_below Γ p) ≡ true
+    → types_kept (with_child p i r) Γ ≡ true
 child_put_types Γ skip i r h k = h
 child_put_types Γ stop i r h k = h
 child_put_types Γ (assign xs es) i r h k = h
@@ -171,11 +180,13 @@ child_put_types Γ (connect c w p) i r h k =
     and_from (can_declare Γ c w) (types_kept (with_only p i r) (with_name Γ c (Chan w None))) j.0 (only_put_types (with_name Γ c (Chan w None)) p i r j.1 k)
 
 -- a part that is well typed there may be put in
-pub put_types : (path : List ℕ) (Γ : Environment) (p q r : Tree) → types_kept p Γ ≡ true → part_at path p ≡ Some q → types_kept r (environment_at path Γ p) ≡ true → types_kept (put path p r) Γ ≡ true
+pub put_types : (path : List ℕ) (Γ : Environment) (p q r : Tree) → types_kept p Γ ≡ true → part_at path p ≡ Some q
+    → types_kept r (environment_at path Γ p) ≡ true → types_kept (put path p r) Γ ≡ true
 put_types [] Γ p q r h e k = k
 put_types (i ∷ path) Γ p q r h e k = below (λ c Δ t u v. put_types path Δ c q r t u v) (child p i) refl e k
   where
-    below : ((c : Tree) (Δ : Environment) → types_kept c Δ ≡ true → part_at path c ≡ Some q → types_kept r (environment_at path Δ c) ≡ true → types_kept (put path c r) Δ ≡ true) → (o : Option Tree) → child p i ≡ o
+    below : ((c : Tree) (Δ : Environment) → types_kept c Δ ≡ true → part_at path c ≡ Some q → types_kept r (environment_at path Δ c) ≡ true → types_kept (put path c r) Δ ≡ true)
+        → (o : Option Tree) → child p i ≡ o
         → option_and_then (part_at path) o ≡ Some q → types_kept r (unwrap_or (option_map (environment_at path (environment_below Γ p)) o) Γ) ≡ true → types_kept (unwrap_or (option_map (λ c. with_child p i (put path c r)) o) p) Γ ≡ true
     below ih None is u v = none_not_some u
     below ih (Some c) is u v = child_put_types Γ p i (put path c r) h (ih c (environment_below Γ p) (child_types Γ p h i c is) u v)

@@ -40,12 +40,13 @@ unchanged_event x y e h k = ap (λ n. record { chan = record { 0 = n }; dir = e.
 unused_channel : (u : ℕ → Dir → Bool) (x : ℕ) (e : Event) → ((d : Dir) → u x d ≡ false) → u e.chan.0 e.dir ≡ true → (e.chan.0 == x) ≡ false
 unused_channel u x e unused used = false_from_ne_true (e.chan.0 == x) (λ h. (let P : ℕ → Type 0 = λ n. u n e.dir ≡ true in clash (u x e.dir) (subst P (eqb-true e.chan.0 x h) used) (unused e.dir)))
 
-unchanged_trace : (x y : ℕ) (u : ℕ → Dir → Bool) → ((d : Dir) → u x d ≡ false) → ((d : Dir) → u y d ≡ false) → (t : Trace) → AreOnEnds u t → renamed_trace (exchanging x y) t ≡ t
+unchanged_trace : (x y : ℕ) (u : ℕ → Dir → Bool) → ((d : Dir) → u x d ≡ false) → ((d : Dir) → u y d ≡ false) → (t : Trace) → AreOnEnds u t
+    → renamed_trace (exchanging x y) t ≡ t
 unchanged_trace x y u ux uy [] h = refl
 unchanged_trace x y u ux uy (e ∷ t) h =
     ap (λ z. z ∷ renamed_trace (exchanging x y) t) (unchanged_event x y e (unused_channel u x e ux h.0) (unused_channel u y e uy h.0)) ∙ ap (λ r. e ∷ r) (unchanged_trace x y u ux uy t h.1)
 
-silent_unused : (y : ℕ) (u : ℕ → Dir → Bool) → ((d : Dir) → u y d ≡ false) → (t : Trace) → AreOnEnds u t → is_silent y t ≡ true
+pub silent_unused : (y : ℕ) (u : ℕ → Dir → Bool) → ((d : Dir) → u y d ≡ false) → (t : Trace) → AreOnEnds u t → is_silent y t ≡ true
 silent_unused y u uy [] h = refl
 silent_unused y u uy (e ∷ t) h = and_from (not (e.chan.0 == y)) (is_silent y t) (not_from_false (e.chan.0 == y) (unused_channel u y e uy h.0)) (silent_unused y u uy t h.1)
 
@@ -134,7 +135,8 @@ module _ (Γ : Environment) (x y : ℕ) (off : (x == y) ≡ false) (fresh_x : Γ
       ]
     ]
 
-    variable_there : (s : Values) (t : Trace) (o : Outcome) → WithVariable x w (meaning p) Γ s t o → WithVariable y w (meaning (renamed p (exchanging x y))) Γ s t o
+    variable_there : (s : Values) (t : Trace) (o : Outcome) → WithVariable x w (meaning p) Γ s t o
+        → WithVariable y w (meaning (renamed p (exchanging x y))) Γ s t o
     variable_there s t o (WithVariable.at_end v s1 lt e d) =
         WithVariable.at_end v (with_value (under (exchanging x y) s1) x (s x)) lt
         (e ∙ end_there s s1 ((keeps_y (Var w) p types).value (with_name Γ x (Var w)) (with_value s x v) t s1 d ∙ value_off s x v y (off_turned x y off)))
@@ -164,7 +166,8 @@ module _ (Γ : Environment) (x y : ℕ) (off : (x == y) ≡ false) (fresh_x : Γ
     off_x : ℕ → Dir → Bool
     off_x c d = not (c == x) && uses_end p c d
 
-    off_x_there : (s : Values) (t : Trace) (o : Outcome) → is_silent x t ≡ true → (meaning p).does (with_name Γ x (Chan w None)) s t o → AreOnEnds (λ c d. not (c == x) && uses_end p c d) t
+    off_x_there : (s : Values) (t : Trace) (o : Outcome) → is_silent x t ≡ true → (meaning p).does (with_name Γ x (Chan w None)) s t o
+        → AreOnEnds (λ c d. not (c == x) && uses_end p c d) t
     off_x_there s t o silent d = silent_uses (uses_end p) x t silent ((part_uses p (with_name Γ x (Chan w None)) types).on_ends (with_name Γ x (Chan w None)) s t o d)
 
     none_on_x : (d : Dir) → (not (x == x) && uses_end p x d) ≡ false
@@ -186,7 +189,8 @@ module _ (Γ : Environment) (x y : ℕ) (off : (x == y) ≡ false) (fresh_x : Γ
         (ignores_y.ignored (with_name Γ y (Chan w None)) (with_value (under f s) x (s x)) (s y) t (with_result x (s x) (renamed_outcome f o))
         ((ignores_x (Chan w None) p types).ignored (with_name Γ y (Chan w None)) (under f s) (s x) t (renamed_outcome f o) along))
 
-    channel_extends : (X : EventSet) → Extends (uses_end (renamed p (exchanging x y))) (λ e. off_channel x X (renamed_event (exchanging x y) e)) (off_channel y X)
+    channel_extends : (X : EventSet)
+        → Extends (uses_end (renamed p (exchanging x y))) (λ e. off_channel x X (renamed_event (exchanging x y) e)) (off_channel y X)
     channel_extends X e h =
         let k = and_parts (not (e.chan.0 == y)) (X e) h in
         let off_y : (e.chan.0 == y) ≡ false = not-true (e.chan.0 == y) k.0 in
@@ -199,7 +203,8 @@ module _ (Γ : Environment) (x y : ℕ) (off : (x == y) ≡ false) (fresh_x : Γ
     channel_end_there s s1 kx ky =
         ap (λ n. with_value (with_value (under (exchanging x y) s1) x n) y (s y)) (sym kx) ∙ (ap (λ n. with_value (with_value (under (exchanging x y) s1) x (s1 x)) y n) (sym ky) ∙ values_back s1)
 
-    channel_there : (s : Values) (t : Trace) (o : Outcome) → WithChannel x w (meaning p) Γ s t o → WithChannel y w (meaning (renamed p (exchanging x y))) Γ s t o
+    channel_there : (s : Values) (t : Trace) (o : Outcome) → WithChannel x w (meaning p) Γ s t o
+        → WithChannel y w (meaning (renamed p (exchanging x y))) Γ s t o
     channel_there s t o (WithChannel.at_end {s1 = r} silent d) =
         let P : Values → Type 0 = λ q. (meaning (renamed p (exchanging x y))).does (with_name Γ y (Chan w None)) s t (ended q) in
         WithChannel.at_end (silent_unused y (λ c i. not (c == x) && uses_end p c i) none_on_y t (off_x_there s t (ended r) silent d))
@@ -224,7 +229,8 @@ exchange_turned x y n = elim (eqb_tells n x) [
 back_again : (x y : ℕ) (p : Tree) → renamed (renamed p (exchanging x y)) (exchanging y x) ≡ p
 back_again x y p = trees_agree (renamed p (exchanging x y)) (exchanging y x) (exchanging x y) (λ n h. exchange_turned y x n) ∙ tree_twice p (exchanging x y) (exchange_is x y)
 
-pub variable_exchanged : (Γ : Environment) (x y : ℕ) (w : Width) (p : Tree) → (x == y) ≡ false → Γ x ≡ None → Γ y ≡ None → types_kept p (with_name Γ x (Var w)) ≡ true → SAME Γ (declare x w p) (declare y w (renamed p (exchanging x y)))
+pub variable_exchanged : (Γ : Environment) (x y : ℕ) (w : Width) (p : Tree) → (x == y) ≡ false → Γ x ≡ None → Γ y ≡ None
+    → types_kept p (with_name Γ x (Var w)) ≡ true → SAME Γ (declare x w p) (declare y w (renamed p (exchanging x y)))
 variable_exchanged Γ x y w p off fx fy t =
     let q = renamed p (exchanging x y) in
     let back_off : (y == x) ≡ false = off_turned x y off in
@@ -232,7 +238,8 @@ variable_exchanged Γ x y w p off fx fy t =
     same_by Γ (declare x w p) (declare y w q) (record { gives = variable_there Γ x y off fx fy w p t })
     (subst P (back_again x y p) (record { gives = variable_there Γ y x back_off fy fx w q (types_there Γ x y off fx fy (Var w) p t) }))
 
-pub channel_exchanged : (Γ : Environment) (x y : ℕ) (w : Width) (p : Tree) → (x == y) ≡ false → Γ x ≡ None → Γ y ≡ None → types_kept p (with_name Γ x (Chan w None)) ≡ true → SAME Γ (connect x w p) (connect y w (renamed p (exchanging x y)))
+pub channel_exchanged : (Γ : Environment) (x y : ℕ) (w : Width) (p : Tree) → (x == y) ≡ false → Γ x ≡ None → Γ y ≡ None
+    → types_kept p (with_name Γ x (Chan w None)) ≡ true → SAME Γ (connect x w p) (connect y w (renamed p (exchanging x y)))
 channel_exchanged Γ x y w p off fx fy t =
     let q = renamed p (exchanging x y) in
     let back_off : (y == x) ≡ false = off_turned x y off in
@@ -249,10 +256,13 @@ replaced_is_exchanged x y p nowhere = trees_agree p (replacing x y) (exchanging 
       (false_from_ne_true (n == y) (λ e. (let P : ℕ → Type 0 = λ z. stands p z ≡ true in clash (stands p y) (subst P (eqb-true n y e) h) nowhere))))
 ])
 
-pub variable_renamed : (Γ : Environment) (x y : ℕ) (w : Width) (p : Tree) → (x == y) ≡ false → Γ x ≡ None → Γ y ≡ None → types_kept p (with_name Γ x (Var w)) ≡ true → stands p y ≡ false → SAME Γ (declare x w p) (declare y w (renamed p (replacing x y)))
+pub variable_renamed : (Γ : Environment) (x y : ℕ) (w : Width) (p : Tree) → (x == y) ≡ false → Γ x ≡ None → Γ y ≡ None
+    → types_kept p (with_name Γ x (Var w)) ≡ true → stands p y ≡ false → SAME Γ (declare x w p) (declare y w (renamed p (replacing x y)))
 variable_renamed Γ x y w p off fx fy t nowhere = let P : Tree → Type 0 = λ r. SAME Γ (declare x w p) (declare y w r) in subst P (sym (replaced_is_exchanged x y p nowhere)) (variable_exchanged Γ x y w p off fx fy t)
 
-pub channel_renamed : (Γ : Environment) (x y : ℕ) (w : Width) (p : Tree) → (x == y) ≡ false → Γ x ≡ None → Γ y ≡ None → types_kept p (with_name Γ x (Chan w None)) ≡ true → stands p y ≡ false → SAME Γ (connect x w p) (connect y w (renamed p (replacing x y)))
+pub channel_renamed : (Γ : Environment) (x y : ℕ) (w : Width) (p : Tree) → (x == y) ≡ false → Γ x ≡ None → Γ y ≡ None
+    → types_kept p (with_name Γ x (Chan w None)) ≡ true → stands p y ≡ false
+    → SAME Γ (connect x w p) (connect y w (renamed p (replacing x y)))
 channel_renamed Γ x y w p off fx fy t nowhere = let P : Tree → Type 0 = λ r. SAME Γ (connect x w p) (connect y w r) in subst P (sym (replaced_is_exchanged x y p nowhere)) (channel_exchanged Γ x y w p off fx fy t)
 
 -- a name replaced by itself

@@ -25,12 +25,14 @@ end_allowed Γ b c d e yes_b no_c = false_from_ne_true (c == b && same_dir d e)
     let Q : Dir → Type 0 = λ n. allows (Γ b) n ≡ false in
     clash (allows (Γ b) e) yes_b (subst Q (same_dirs d e k.1) (subst P (eqb-true c b k.0) no_c)))
 
-end_in_waiting_allowed : (Γ : Environment) (c : ℕ) (d : Dir) → allows (Γ c) d ≡ false → (w : Waiting) → waiting_kept Γ w ≡ true → end_in_waiting w c d ≡ false
+end_in_waiting_allowed : (Γ : Environment) (c : ℕ) (d : Dir) → allows (Γ c) d ≡ false → (w : Waiting) → waiting_kept Γ w ≡ true
+    → end_in_waiting w c d ≡ false
 end_in_waiting_allowed Γ c d k ready h = refl
 end_in_waiting_allowed Γ c d k (input b y) h = end_allowed Γ b c d Input (input_types Γ b y h).0 k
 end_in_waiting_allowed Γ c d k (output b e) h = end_allowed Γ b c d Output (output_types Γ b e h).0 k
 
-still_not_allowed : (Γ : Environment) (c y : ℕ) (kind : Kind) (d : Dir) → allows (Γ c) d ≡ false → (c == y) ≡ false → allows (with_name Γ y kind c) d ≡ false
+still_not_allowed : (Γ : Environment) (c y : ℕ) (kind : Kind) (d : Dir) → allows (Γ c) d ≡ false → (c == y) ≡ false
+    → allows (with_name Γ y kind c) d ≡ false
 still_not_allowed Γ c y kind d k off = ap (λ o. allows o d) (name_off Γ y kind c off) ∙ k
 
 -- an end that the environment doesn't allow isn't used
@@ -50,17 +52,20 @@ mutual
   end_in_scope (connect y w p) Γ h c d k = not_and (c == y) (uses_end p c d)
       (λ off. end_in_scope p (with_name Γ y (Chan w None)) (and_parts (can_declare Γ y w) (types_kept p (with_name Γ y (Chan w None))) h).1 c d (still_not_allowed Γ c y (Chan w None) d k off))
 
-  pub some_end_in_scope : (ps : Trees) (Γ : Environment) → all_types_kept ps Γ ≡ true → (c : ℕ) (d : Dir) → allows (Γ c) d ≡ false → end_in_some ps c d ≡ false
+  pub some_end_in_scope : (ps : Trees) (Γ : Environment) → all_types_kept ps Γ ≡ true → (c : ℕ) (d : Dir) → allows (Γ c) d ≡ false
+      → end_in_some ps c d ≡ false
   some_end_in_scope no_tree Γ h c d k = refl
   some_end_in_scope (and_tree p ps) Γ h c d k =
       let j = and_parts (types_kept p Γ) (all_types_kept ps Γ) h in or_from (uses_end p c d) (end_in_some ps c d) (end_in_scope p Γ j.0 c d k) (some_end_in_scope ps Γ j.1 c d k)
 
-  pub case_end_in_scope : (cs : Cases) (Γ : Environment) → cases_kept cs Γ ≡ true → (c : ℕ) (d : Dir) → allows (Γ c) d ≡ false → end_in_cases cs c d ≡ false
+  pub case_end_in_scope : (cs : Cases) (Γ : Environment) → cases_kept cs Γ ≡ true → (c : ℕ) (d : Dir) → allows (Γ c) d ≡ false
+      → end_in_cases cs c d ≡ false
   case_end_in_scope no_case Γ h c d k = refl
   case_end_in_scope (and_case e p cs) Γ h c d k =
       let j = and_three (is_condition Γ e) (types_kept p Γ) (cases_kept cs Γ) h in or_from (uses_end p c d) (end_in_cases cs c d) (end_in_scope p Γ j.1 c d k) (case_end_in_scope cs Γ j.2 c d k)
 
-  pub branch_end_in_scope : (bs : Branches) (Γ : Environment) → branches_kept bs Γ ≡ true → (c : ℕ) (d : Dir) → allows (Γ c) d ≡ false → end_in_branches bs c d ≡ false
+  pub branch_end_in_scope : (bs : Branches) (Γ : Environment) → branches_kept bs Γ ≡ true → (c : ℕ) (d : Dir) → allows (Γ c) d ≡ false
+      → end_in_branches bs c d ≡ false
   branch_end_in_scope no_branch Γ h c d k = refl
   branch_end_in_scope (and_branch e w p bs) Γ h c d k =
       let j = and_four (is_condition Γ e) (waiting_kept Γ w) (types_kept p Γ) (branches_kept bs Γ) h in
@@ -69,7 +74,8 @@ mutual
       (branch_end_in_scope bs Γ j.3 c d k)
 
 -- under a variable of that name no end is used
-pub unused_below : (p : Tree) (Γ : Environment) (y : ℕ) (w : Width) → types_kept p (with_name Γ y (Var w)) ≡ true → (c : ℕ) (d : Dir) → (not (c == y) && uses_end p c d) ≡ false → uses_end p c d ≡ false
+pub unused_below : (p : Tree) (Γ : Environment) (y : ℕ) (w : Width) → types_kept p (with_name Γ y (Var w)) ≡ true → (c : ℕ) (d : Dir)
+    → (not (c == y) && uses_end p c d) ≡ false → uses_end p c d ≡ false
 unused_below p Γ y w h c d k = elim (cases_Bool (c == y)) [
   | inl e ↦ end_in_scope p (with_name Γ y (Var w)) h c d (ap (λ o. allows o d) (if_true (c == y) (Some (Var w)) (Γ c) e))
   | inr e ↦ and_second (not (c == y)) (uses_end p c d) k (not_from_false (c == y) e)
@@ -110,14 +116,17 @@ stopped_more t X W stopped = stopped
 pub never_more : (u : ℕ → Dir → Bool) → RefusesMore u never
 never_more u = record { more = λ Γ s t X W ext d. stopped_more t X W d }
 
-followed_does_more : (u v : ℕ → Dir → Bool) (m n : Meaning) → RefusesMore u m → RefusesMore v n → (Γ : Environment) (s : Values) (t : Trace) (X W : EventSet) → Extends (λ c d. u c d || v c d) X W → Followed m n Γ s t (refusing X) → Followed m n Γ s t (refusing W)
+followed_does_more : (u v : ℕ → Dir → Bool) (m n : Meaning) → RefusesMore u m → RefusesMore v n
+    → (Γ : Environment) (s : Values) (t : Trace) (X W : EventSet) → Extends (λ c d. u c d || v c d) X W → Followed m n Γ s t (refusing X)
+    → Followed m n Γ s t (refusing W)
 followed_does_more u v m n hm hn Γ s t X W ext (in_first d) = in_first (hm.more Γ s t X W (extends_left u v X W ext) d)
 followed_does_more u v m n hm hn Γ s t X W ext (in_second t1 t2 s1 e d1 d2) = in_second t1 t2 s1 e d1 (hn.more Γ s1 t2 X W (extends_right u v X W ext) d2)
 
 pub followed_more : (u v : ℕ → Dir → Bool) (m n : Meaning) → RefusesMore u m → RefusesMore v n → RefusesMore (λ c d. u c d || v c d) (followed m n)
 followed_more u v m n hm hn = record { more = followed_does_more u v m n hm hn }
 
-pub chosen_more : (u v : ℕ → Dir → Bool) (e : Exp) (m n : Meaning) → RefusesMore u m → RefusesMore v n → RefusesMore (λ c d. u c d || v c d) (chosen e m n)
+pub chosen_more : (u v : ℕ → Dir → Bool) (e : Exp) (m n : Meaning) → RefusesMore u m → RefusesMore v n
+    → RefusesMore (λ c d. u c d || v c d) (chosen e m n)
 chosen_more u v e m n hm hn = record {
   more = λ Γ s t X W ext d.
       both (is_true Γ e s) (λ h. hm.more Γ s t X W (extends_left u v X W ext) h) (λ h. hn.more Γ s t X W (extends_right u v X W ext) h) d;
@@ -131,7 +140,8 @@ after_end Γ s (input c x) e u a =
 after_end Γ s (output c z) e u a =
     let P : Event → Type 0 = λ f. (f.chan.0 == c && same_dir f.dir Output) ≡ true in subst P (sym a.0) (and_from (c == c) true (at_itself c) refl)
 
-quiet_more : (Γ : Environment) (s : Values) (w : Waiting) (X W : EventSet) → ((e : Event) → W e ≡ true → (X e ≡ true) ⊎ (end_in_waiting w e.chan.0 e.dir ≡ false)) → IsQuiet Γ s w X → IsQuiet Γ s w W
+quiet_more : (Γ : Environment) (s : Values) (w : Waiting) (X W : EventSet)
+    → ((e : Event) → W e ≡ true → (X e ≡ true) ⊎ (end_in_waiting w e.chan.0 e.dir ≡ false)) → IsQuiet Γ s w X → IsQuiet Γ s w W
 quiet_more Γ s w X W ext q = record {
   not_ready = q.not_ready;
   refused = λ e u a. false_from_ne_true (W e) (λ h. elim (ext e h) [ inl k ↦ clash (X e) k (q.refused e u a) | inr k ↦ clash (end_in_waiting w e.chan.0 e.dir) (after_end Γ s w e u a) k ]);
@@ -140,16 +150,19 @@ quiet_more Γ s w X W ext q = record {
 pub no_guard_more : (u : ℕ → Dir → Bool) → RefuseMore u no_guard
 no_guard_more u = record { first = λ Γ s X W ext d. d; later = λ Γ s t X W ext d. absurd d }
 
-extends_guard : (u v : ℕ → Dir → Bool) (w : Waiting) (X W : EventSet) → Extends (λ c d. (end_in_waiting w c d || u c d) || v c d) X W → (e : Event) → W e ≡ true → (X e ≡ true) ⊎ (end_in_waiting w e.chan.0 e.dir ≡ false)
+extends_guard : (u v : ℕ → Dir → Bool) (w : Waiting) (X W : EventSet) → Extends (λ c d. (end_in_waiting w c d || u c d) || v c d) X W
+    → (e : Event) → W e ≡ true → (X e ≡ true) ⊎ (end_in_waiting w e.chan.0 e.dir ≡ false)
 extends_guard u v w X W ext e h = elim (ext e h) [ inl k ↦ inl k | inr k ↦ inr (or_three (end_in_waiting w e.chan.0 e.dir) (u e.chan.0 e.dir) (v e.chan.0 e.dir) k).0 ]
 
-extends_process : (u v : ℕ → Dir → Bool) (w : Waiting) (X W : EventSet) → Extends (λ c d. (end_in_waiting w c d || u c d) || v c d) X W → Extends u X W
+extends_process : (u v : ℕ → Dir → Bool) (w : Waiting) (X W : EventSet) → Extends (λ c d. (end_in_waiting w c d || u c d) || v c d) X W
+    → Extends u X W
 extends_process u v w X W ext e h = elim (ext e h) [ inl k ↦ inl k | inr k ↦ inr (or_three (end_in_waiting w e.chan.0 e.dir) (u e.chan.0 e.dir) (v e.chan.0 e.dir) k).1 ]
 
 extends_others : (u v : ℕ → Dir → Bool) (w : Waiting) (X W : EventSet) → Extends (λ c d. (end_in_waiting w c d || u c d) || v c d) X W → Extends v X W
 extends_others u v w X W ext e h = elim (ext e h) [ inl k ↦ inl k | inr k ↦ inr (or_three (end_in_waiting w e.chan.0 e.dir) (u e.chan.0 e.dir) (v e.chan.0 e.dir) k).2 ]
 
-pub and_guard_more : (u v : ℕ → Dir → Bool) (b : Exp) (w : Waiting) (m : Meaning) (g : Guards) → RefusesMore u m → RefuseMore v g → RefuseMore (λ c d. (end_in_waiting w c d || u c d) || v c d) (and_guard b w m g)
+pub and_guard_more : (u v : ℕ → Dir → Bool) (b : Exp) (w : Waiting) (m : Meaning) (g : Guards) → RefusesMore u m → RefuseMore v g
+    → RefuseMore (λ c d. (end_in_waiting w c d || u c d) || v c d) (and_guard b w m g)
 and_guard_more u v b w m g hm hg = record {
   first = λ Γ s X W ext d. (both (is_true Γ b s) (λ q. quiet_more Γ s w X W (extends_guard u v w X W ext) q) (λ q. q) d.0, hg.first Γ s X W (extends_others u v w X W ext) d.1);
   later = λ Γ s t X W ext d. elim d [
@@ -158,7 +171,8 @@ and_guard_more u v b w m g hm hg = record {
   ];
 }
 
-alternates_more : (u : ℕ → Dir → Bool) (g : Guards) → RefuseMore u g → (Γ : Environment) (s : Values) (t : Trace) (X W : EventSet) → Extends u X W → Alternates g Γ s t (refusing X) → Alternates g Γ s t (refusing W)
+alternates_more : (u : ℕ → Dir → Bool) (g : Guards) → RefuseMore u g → (Γ : Environment) (s : Values) (t : Trace) (X W : EventSet)
+    → Extends u X W → Alternates g Γ s t (refusing X) → Alternates g Γ s t (refusing W)
 alternates_more u g hg Γ s t X W ext (stable d) = stable (hg.first Γ s X W ext d)
 alternates_more u g hg Γ s t X W ext (taken d) = taken (hg.later Γ s t X W ext d)
 
@@ -170,7 +184,8 @@ extends_with : (u : ℕ → Dir → Bool) (Γ : Environment) (X W Y : EventSet) 
 extends_with u Γ X W Y ext e h = elim (or_cases (W e) (in_scope Γ e && Y e) h)
     [ inl k ↦ elim (ext e k) [ inl j ↦ inl (or_left (X e) (in_scope Γ e && Y e) j) | inr j ↦ inr j ] | inr k ↦ inl (or_right (X e) (in_scope Γ e && Y e) k) ]
 
-combine_more : (u v : ℕ → Dir → Bool) (m n : Meaning) → RefusesMore u m → RefusesMore v n → (Γ : Environment) (s : Values) (X W : EventSet) → Extends (λ c d. u c d || v c d) X W
+combine_more : (u v : ℕ → Dir → Bool) (m n : Meaning) → RefusesMore u m → RefusesMore v n → (Γ : Environment) (s : Values) (X W : EventSet)
+    → Extends (λ c d. u c d || v c d) X W
     → (t1 t2 t : Trace) → Weave t1 t2 t → (o1 o2 : Outcome) → m.does Γ s t1 o1 → n.does Γ s t2 o2 → Combines Γ s o1 o2 (refusing X) → Together m n Γ s t (refusing W)
 combine_more u v m n hm hn Γ s X W ext t1 t2 t woven o1 o2 d1 d2 (first_ended {s1 = a}) =
     together t1 t2 (ended a) (refusing W) woven first_ended d1 (hn.more Γ s t2 X W (extends_right u v X W ext) d2)
@@ -181,27 +196,35 @@ combine_more u v m n hm hn Γ s X W ext t1 t2 t woven o1 o2 d1 d2 (neither_ended
     (hm.more Γ s t1 (refused_with Γ X Y) (refused_with Γ W Y) (extends_with u Γ X W Y (extends_left u v X W ext)) d1)
     (hn.more Γ s t2 (refused_with Γ X (answered Y)) (refused_with Γ W (answered Y)) (extends_with v Γ X W (answered Y) (extends_right u v X W ext)) d2)
 
-together_more : (u v : ℕ → Dir → Bool) (m n : Meaning) → RefusesMore u m → RefusesMore v n → (Γ : Environment) (s : Values) (t : Trace) (X W : EventSet) → Extends (λ c d. u c d || v c d) X W → Together m n Γ s t (refusing X) → Together m n Γ s t (refusing W)
+together_more : (u v : ℕ → Dir → Bool) (m n : Meaning) → RefusesMore u m → RefusesMore v n
+    → (Γ : Environment) (s : Values) (t : Trace) (X W : EventSet) → Extends (λ c d. u c d || v c d) X W → Together m n Γ s t (refusing X)
+    → Together m n Γ s t (refusing W)
 together_more u v m n hm hn Γ s t X W ext (together t1 t2 o1 o2 woven c d1 d2) = combine_more u v m n hm hn Γ s X W ext t1 t2 t woven o1 o2 d1 d2 c
 
 pub beside_more : (u v : ℕ → Dir → Bool) (m n : Meaning) → RefusesMore u m → RefusesMore v n → RefusesMore (λ c d. u c d || v c d) (beside m n)
 beside_more u v m n hm hn = record { more = together_more u v m n hm hn }
 
-variable_does_more : (u : ℕ → Dir → Bool) (y : ℕ) (w : Width) (m : Meaning) → RefusesMore u m → (Γ : Environment) (s : Values) (t : Trace) (X W : EventSet) → Extends u X W → WithVariable y w m Γ s t (refusing X) → WithVariable y w m Γ s t (refusing W)
+variable_does_more : (u : ℕ → Dir → Bool) (y : ℕ) (w : Width) (m : Meaning) → RefusesMore u m
+    → (Γ : Environment) (s : Values) (t : Trace) (X W : EventSet) → Extends u X W → WithVariable y w m Γ s t (refusing X)
+    → WithVariable y w m Γ s t (refusing W)
 variable_does_more u y w m hm Γ s t X W ext (WithVariable.at_rest v lt d) = WithVariable.at_rest v lt (hm.more (with_name Γ y (Var w)) (with_value s y v) t X W ext d)
 
 pub variable_more : (u : ℕ → Dir → Bool) (y : ℕ) (w : Width) (m : Meaning) → RefusesMore u m → RefusesMore u (over_variable y w m)
 variable_more u y w m hm = record { more = variable_does_more u y w m hm }
 
-extends_off : (u : ℕ → Dir → Bool) (b : ℕ) (X W : EventSet) → Extends (λ c d. not (c == b) && u c d) X W → Extends u (off_channel b X) (off_channel b W)
+extends_off : (u : ℕ → Dir → Bool) (b : ℕ) (X W : EventSet) → Extends (λ c d. not (c == b) && u c d) X W
+    → Extends u (off_channel b X) (off_channel b W)
 extends_off u b X W ext e h =
     let k = and_parts (not (e.chan.0 == b)) (W e) h in
     elim (ext e k.1) [ inl j ↦ inl (and_from (not (e.chan.0 == b)) (X e) k.0 j) | inr j ↦ inr (and_second (not (e.chan.0 == b)) (u e.chan.0 e.dir) j k.0) ]
 
-channel_does_more : (u : ℕ → Dir → Bool) (b : ℕ) (w : Width) (m : Meaning) → RefusesMore u m → (Γ : Environment) (s : Values) (t : Trace) (X W : EventSet) → Extends (λ c d. not (c == b) && u c d) X W → WithChannel b w m Γ s t (refusing X) → WithChannel b w m Γ s t (refusing W)
+channel_does_more : (u : ℕ → Dir → Bool) (b : ℕ) (w : Width) (m : Meaning) → RefusesMore u m
+    → (Γ : Environment) (s : Values) (t : Trace) (X W : EventSet) → Extends (λ c d. not (c == b) && u c d) X W
+    → WithChannel b w m Γ s t (refusing X) → WithChannel b w m Γ s t (refusing W)
 channel_does_more u b w m hm Γ s t X W ext (WithChannel.at_rest silent d) = WithChannel.at_rest silent (hm.more (with_name Γ b (Chan w None)) s t (off_channel b X) (off_channel b W) (extends_off u b X W ext) d)
 
-pub channel_more : (u : ℕ → Dir → Bool) (b : ℕ) (w : Width) (m : Meaning) → RefusesMore u m → RefusesMore (λ c d. not (c == b) && u c d) (over_channel b w m)
+pub channel_more : (u : ℕ → Dir → Bool) (b : ℕ) (w : Width) (m : Meaning) → RefusesMore u m
+    → RefusesMore (λ c d. not (c == b) && u c d) (over_channel b w m)
 channel_more u b w m hm = record { more = channel_does_more u b w m hm }
 
 -- ---- every part refuses each subset of what it refuses
@@ -270,7 +293,8 @@ alone_more w =
     (λ c d h. or_from (end_in_waiting w c d || false) false (or_from (end_in_waiting w c d) false h refl) refl)
     (alternatives_more (λ c d. (end_in_waiting w c d || false) || false) g (and_guard_more u u (truth true) w (at_once (λ Γ s. s)) no_guard (once_more u (λ Γ s. s)) (no_guard_more u)))
 
-beside_all_more : (ps : Trees) (m n : Meaning) (u : ℕ → Dir → Bool) → RefusesMore u m → RefusesMore (end_in_some ps) n → RefusesMore (λ c d. u c d || end_in_some ps c d) (beside_all ps m n)
+beside_all_more : (ps : Trees) (m n : Meaning) (u : ℕ → Dir → Bool) → RefusesMore u m → RefusesMore (end_in_some ps) n
+    → RefusesMore (λ c d. u c d || end_in_some ps c d) (beside_all ps m n)
 beside_all_more no_tree m n u hm hn = more_weaker u (λ c d. u c d || false) m (λ c d h. (or_parts (u c d) false h).0) hm
 beside_all_more (and_tree p ps) m n u hm hn = beside_more u (end_in_some (and_tree p ps)) m n hm hn
 

@@ -86,7 +86,8 @@ mutual
       ∙ (ap (λ q. and_case (renamed_exp g e) q (cases_renamed cs f)) (trees_agree p f g (λ x k. h x (or_left (names e x || stands p x) (stands_in_cases cs x) (or_right (names e x) (stands p x) k))))
       ∙ ap (λ r. and_case (renamed_exp g e) (renamed p g) r) (cases_agree cs f g (λ x k. h x (or_right (names e x || stands p x) (stands_in_cases cs x) k))))
 
-  branches_agree : (bs : Branches) (f g : ℕ → ℕ) → ((x : ℕ) → stands_in_branches bs x ≡ true → f x ≡ g x) → branches_renamed bs f ≡ branches_renamed bs g
+  branches_agree : (bs : Branches) (f g : ℕ → ℕ) → ((x : ℕ) → stands_in_branches bs x ≡ true → f x ≡ g x)
+      → branches_renamed bs f ≡ branches_renamed bs g
   branches_agree no_branch f g h = refl
   branches_agree (and_branch e w p bs) f g h =
       ap (λ z. and_branch z (renamed_waiting f w) (renamed p f) (branches_renamed bs f))
@@ -234,7 +235,8 @@ waiting_under f inv Γ ready = refl
 waiting_under f inv Γ (input c x) = input_under f inv Γ c x
 waiting_under f inv Γ (output c e) = output_under f inv Γ c e
 
-pairs_under : (f : ℕ → ℕ) → IsExchange f → (Γ : Environment) (xs : List ℕ) (es : List Exp) → pairs_kept (under f Γ) (renamed_names f xs) (renamed_exps f es) ≡ pairs_kept Γ xs es
+pairs_under : (f : ℕ → ℕ) → IsExchange f → (Γ : Environment) (xs : List ℕ) (es : List Exp)
+    → pairs_kept (under f Γ) (renamed_names f xs) (renamed_exps f es) ≡ pairs_kept Γ xs es
 pairs_under f inv Γ [] [] = refl
 pairs_under f inv Γ [] (e ∷ es) = refl
 pairs_under f inv Γ (x ∷ xs) [] = refl
@@ -251,7 +253,8 @@ pair_under : (f : ℕ → ℕ) (xs : List ℕ) → is_pair (renamed_names f xs) 
 pair_under f [] = refl
 pair_under f (x ∷ xs) = refl
 
-declare_under : (f : ℕ → ℕ) → IsExchange f → (Γ : Environment) (x : ℕ) (w : Width) (kind : Kind) (p : Tree) → types_kept (renamed p f) (under f (with_name Γ x kind)) ≡ types_kept p (with_name Γ x kind)
+declare_under : (f : ℕ → ℕ) → IsExchange f → (Γ : Environment) (x : ℕ) (w : Width) (kind : Kind) (p : Tree)
+    → types_kept (renamed p f) (under f (with_name Γ x kind)) ≡ types_kept p (with_name Γ x kind)
     → (can_declare (under f Γ) (f x) w && types_kept (renamed p f) (with_name (under f Γ) (f x) kind)) ≡ (can_declare Γ x w && types_kept p (with_name Γ x kind))
 declare_under f inv Γ x w kind p ih =
     and_same (can_declare (under f Γ) (f x) w) (types_kept (renamed p f) (with_name (under f Γ) (f x) kind)) (can_declare Γ x w) (types_kept p (with_name Γ x kind))
@@ -282,7 +285,8 @@ mutual
       (and_same (is_condition (under f Γ) (renamed_exp f e)) (types_kept (renamed p f) (under f Γ)) (is_condition Γ e) (types_kept p Γ) (condition_under f inv Γ e) (types_under p f inv Γ))
       (case_types_under cs f inv Γ)
 
-  branch_types_under : (bs : Branches) (f : ℕ → ℕ) → IsExchange f → (Γ : Environment) → branches_kept (branches_renamed bs f) (under f Γ) ≡ branches_kept bs Γ
+  branch_types_under : (bs : Branches) (f : ℕ → ℕ) → IsExchange f → (Γ : Environment)
+      → branches_kept (branches_renamed bs f) (under f Γ) ≡ branches_kept bs Γ
   branch_types_under no_branch f inv Γ = refl
   branch_types_under (and_branch e w p bs) f inv Γ =
       and_same ((is_condition (under f Γ) (renamed_exp f e) && waiting_kept (under f Γ) (renamed_waiting f w)) && types_kept (renamed p f) (under f Γ)) (branches_kept (branches_renamed bs f) (under f Γ))

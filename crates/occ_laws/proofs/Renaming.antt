@@ -32,7 +32,8 @@ one_for_one f inv a b = flip f inv (f a) b ∙ ap (λ n. n == b) (inv a)
 pub value_under : (f : ℕ → ℕ) → IsExchange f → (s : Values) (x v : ℕ) → under f (with_value s x v) ≡ with_value (under f s) (f x) v
 value_under f inv s x v = fun_ext (λ y. ap (λ b. if b then v else s (f y)) (sym (flip f inv y x)))
 
-pub name_under : (f : ℕ → ℕ) → IsExchange f → (Γ : Environment) (x : ℕ) (kind : Kind) → under f (with_name Γ x kind) ≡ with_name (under f Γ) (f x) kind
+pub name_under : (f : ℕ → ℕ) → IsExchange f → (Γ : Environment) (x : ℕ) (kind : Kind)
+    → under f (with_name Γ x kind) ≡ with_name (under f Γ) (f x) kind
 name_under f inv Γ x kind = fun_ext (λ y. ap (λ b. if b then Some kind else Γ (f y)) (sym (flip f inv y x)))
 
 pub exchange_is : (a b : ℕ) → IsExchange (exchanging a b)
@@ -79,10 +80,12 @@ type_under f inv Γ (complement e) = ap if_word (type_under f inv Γ e)
 type_under f inv Γ (operation op left right) =
     ap (λ a. type_of_two op a (type_of (under f Γ) (renamed_exp f right))) (type_under f inv Γ left) ∙ ap (λ b. type_of_two op (type_of Γ left) b) (type_under f inv Γ right)
 
-pub truth_under : (f : ℕ → ℕ) → IsExchange f → (Γ : Environment) (s : Values) (e : Exp) → is_true (under f Γ) (renamed_exp f e) (under f s) ≡ is_true Γ e s
+pub truth_under : (f : ℕ → ℕ) → IsExchange f → (Γ : Environment) (s : Values) (e : Exp)
+    → is_true (under f Γ) (renamed_exp f e) (under f s) ≡ is_true Γ e s
 truth_under f inv Γ s e = ap (λ n. n == 1) (eval_under f inv Γ s e)
 
-assigned_under : (f : ℕ → ℕ) → IsExchange f → (Γ : Environment) (s : Values) (xs : List ℕ) (es : List Exp) → under f (assigned xs es Γ s) ≡ assigned (renamed_names f xs) (renamed_exps f es) (under f Γ) (under f s)
+assigned_under : (f : ℕ → ℕ) → IsExchange f → (Γ : Environment) (s : Values) (xs : List ℕ) (es : List Exp)
+    → under f (assigned xs es Γ s) ≡ assigned (renamed_names f xs) (renamed_exps f es) (under f Γ) (under f s)
 assigned_under f inv Γ s [] es = refl
 assigned_under f inv Γ s (x ∷ xs) [] = refl
 assigned_under f inv Γ s (x ∷ xs) (e ∷ es) =
@@ -93,11 +96,13 @@ assigned_under f inv Γ s (x ∷ xs) (e ∷ es) =
 -- ---- one operator at a time
 
 pub record Carries (f : ℕ → ℕ) (m n : Meaning) : Type 0 where
-  pub carried : (Γ : Environment) (s : Values) (t : Trace) (o : Outcome) → m.does Γ s t o → n.does (under f Γ) (under f s) (renamed_trace f t) (renamed_outcome f o)
+  pub carried : (Γ : Environment) (s : Values) (t : Trace) (o : Outcome) → m.does Γ s t o
+      → n.does (under f Γ) (under f s) (renamed_trace f t) (renamed_outcome f o)
 
 pub record CarriesGuards (f : ℕ → ℕ) (g h : Guards) : Type 0 where
   pub first : (Γ : Environment) (s : Values) (X : EventSet) → g.refuses Γ s X → h.refuses (under f Γ) (under f s) (λ e. X (renamed_event f e))
-  pub later : (Γ : Environment) (s : Values) (t : Trace) (o : Outcome) → g.goes Γ s t o → h.goes (under f Γ) (under f s) (renamed_trace f t) (renamed_outcome f o)
+  pub later : (Γ : Environment) (s : Values) (t : Trace) (o : Outcome) → g.goes Γ s t o
+      → h.goes (under f Γ) (under f s) (renamed_trace f t) (renamed_outcome f o)
 
 skip_carries : (f : ℕ → ℕ) → Carries f (at_once (λ Γ s. s)) (at_once (λ Γ s. s))
 skip_carries f = record { carried = λ Γ s t o d. (ap (renamed_trace f) d.0, ap (renamed_outcome f) d.1) }
@@ -108,14 +113,17 @@ stopped_carried f t o stopped = stopped
 never_carries : (f : ℕ → ℕ) → Carries f never never
 never_carries f = record { carried = λ Γ s t o d. stopped_carried f t o d }
 
-assign_carries : (f : ℕ → ℕ) → IsExchange f → (xs : List ℕ) (es : List Exp) → Carries f (at_once (assigned xs es)) (at_once (assigned (renamed_names f xs) (renamed_exps f es)))
+assign_carries : (f : ℕ → ℕ) → IsExchange f → (xs : List ℕ) (es : List Exp)
+    → Carries f (at_once (assigned xs es)) (at_once (assigned (renamed_names f xs) (renamed_exps f es)))
 assign_carries f inv xs es = record { carried = λ Γ s t o d. (ap (renamed_trace f) d.0, ap (renamed_outcome f) d.1 ∙ ap ended (assigned_under f inv Γ s xs es)) }
 
 pub trace_both : (f : ℕ → ℕ) (a b : Trace) → renamed_trace f (a ++ b) ≡ renamed_trace f a ++ renamed_trace f b
 trace_both f [] b = refl
 trace_both f (e ∷ a) b = ap (λ r. renamed_event f e ∷ r) (trace_both f a b)
 
-followed_carried : (f : ℕ → ℕ) (m m' n n' : Meaning) → Carries f m m' → Carries f n n' → (Γ : Environment) (s : Values) (t : Trace) (o : Outcome) → Followed m n Γ s t o → Followed m' n' (under f Γ) (under f s) (renamed_trace f t) (renamed_outcome f o)
+followed_carried : (f : ℕ → ℕ) (m m' n n' : Meaning) → Carries f m m' → Carries f n n'
+    → (Γ : Environment) (s : Values) (t : Trace) (o : Outcome) → Followed m n Γ s t o
+    → Followed m' n' (under f Γ) (under f s) (renamed_trace f t) (renamed_outcome f o)
 followed_carried f m m' n n' hm hn Γ s t o (in_first {X = X} d) = in_first (hm.carried Γ s t (refusing X) d)
 followed_carried f m m' n n' hm hn Γ s t o (in_second t1 t2 s1 e d1 d2) =
     in_second (renamed_trace f t1) (renamed_trace f t2) (under f s1) (ap (renamed_trace f) e ∙ trace_both f t1 t2) (hm.carried Γ s t1 (ended s1) d1) (hn.carried Γ s1 t2 o d2)
@@ -123,14 +131,16 @@ followed_carried f m m' n n' hm hn Γ s t o (in_second t1 t2 s1 e d1 d2) =
 followed_carries : (f : ℕ → ℕ) (m m' n n' : Meaning) → Carries f m m' → Carries f n n' → Carries f (followed m n) (followed m' n')
 followed_carries f m m' n n' hm hn = record { carried = followed_carried f m m' n n' hm hn }
 
-chosen_carries : (f : ℕ → ℕ) → IsExchange f → (e : Exp) (m m' n n' : Meaning) → Carries f m m' → Carries f n n' → Carries f (chosen e m n) (chosen (renamed_exp f e) m' n')
+chosen_carries : (f : ℕ → ℕ) → IsExchange f → (e : Exp) (m m' n n' : Meaning) → Carries f m m' → Carries f n n'
+    → Carries f (chosen e m n) (chosen (renamed_exp f e) m' n')
 chosen_carries f inv e m m' n n' hm hn = record {
   carried = λ Γ s t o d.
       let P : Bool → Type 0 = λ b. MatchBool b (m'.does (under f Γ) (under f s) (renamed_trace f t) (renamed_outcome f o)) (n'.does (under f Γ) (under f s) (renamed_trace f t) (renamed_outcome f o)) in
       subst P (sym (truth_under f inv Γ s e)) (both (is_true Γ e s) (λ h. hm.carried Γ s t o h) (λ h. hn.carried Γ s t o h) d);
 }
 
-pub after_under : (f : ℕ → ℕ) → IsExchange f → (Γ : Environment) (s : Values) (w : Waiting) (e : Event) (u : Values) → After Γ s w e u → After (under f Γ) (under f s) (renamed_waiting f w) (renamed_event f e) (under f u)
+pub after_under : (f : ℕ → ℕ) → IsExchange f → (Γ : Environment) (s : Values) (w : Waiting) (e : Event) (u : Values) → After Γ s w e u
+    → After (under f Γ) (under f s) (renamed_waiting f w) (renamed_event f e) (under f u)
 after_under f inv Γ s ready e u a = a
 after_under f inv Γ s (input c x) e u a =
     let P : ℕ → Type 0 = λ n. has_width (channel_kind (Γ n)) a.0 ≡ true in
@@ -138,7 +148,8 @@ after_under f inv Γ s (input c x) e u a =
 after_under f inv Γ s (output c z) e u a =
     (ap (renamed_event f) a.0 ∙ ap (λ v. record { chan = record { 0 = f c }; dir = Output; value = v }) (sym (eval_under f inv Γ s z)), ap (λ r. under f r) a.1)
 
-pub after_back : (f : ℕ → ℕ) → IsExchange f → (Γ : Environment) (s : Values) (w : Waiting) (e : Event) (u : Values) → After (under f Γ) (under f s) (renamed_waiting f w) e u → (r : Values) × After Γ s w (renamed_event f e) r
+pub after_back : (f : ℕ → ℕ) → IsExchange f → (Γ : Environment) (s : Values) (w : Waiting) (e : Event) (u : Values)
+    → After (under f Γ) (under f s) (renamed_waiting f w) e u → (r : Values) × After Γ s w (renamed_event f e) r
 after_back f inv Γ s ready e u a = absurd a
 after_back f inv Γ s (input c x) e u a =
     let P : ℕ → Type 0 = λ n. has_width (channel_kind (Γ n)) a.0 ≡ true in
@@ -152,7 +163,8 @@ after_back f inv Γ s (output c z) e u a = (
   ),
 )
 
-taken_under : (f : ℕ → ℕ) → IsExchange f → (Γ : Environment) (s : Values) (w : Waiting) (t : Trace) (u : Values) (a : Trace) → Taken Γ s w t u a → Taken (under f Γ) (under f s) (renamed_waiting f w) (renamed_trace f t) (under f u) (renamed_trace f a)
+taken_under : (f : ℕ → ℕ) → IsExchange f → (Γ : Environment) (s : Values) (w : Waiting) (t : Trace) (u : Values) (a : Trace)
+    → Taken Γ s w t u a → Taken (under f Γ) (under f s) (renamed_waiting f w) (renamed_trace f t) (under f u) (renamed_trace f a)
 taken_under f inv Γ s w t u a at_ready = at_ready
 taken_under f inv Γ s w t u a (at_event {w = b} {e = e} {u = r} k) = at_event (after_under f inv Γ s b e r k)
 
@@ -164,7 +176,8 @@ ready_back f (output c z) h = cc
 no_guard_carries : (f : ℕ → ℕ) → CarriesGuards f no_guard no_guard
 no_guard_carries f = record { first = λ Γ s X d. d; later = λ Γ s t o d. d }
 
-and_guard_carries : (f : ℕ → ℕ) → IsExchange f → (b : Exp) (w : Waiting) (m m' : Meaning) (g h : Guards) → Carries f m m' → CarriesGuards f g h → CarriesGuards f (and_guard b w m g) (and_guard (renamed_exp f b) (renamed_waiting f w) m' h)
+and_guard_carries : (f : ℕ → ℕ) → IsExchange f → (b : Exp) (w : Waiting) (m m' : Meaning) (g h : Guards) → Carries f m m'
+    → CarriesGuards f g h → CarriesGuards f (and_guard b w m g) (and_guard (renamed_exp f b) (renamed_waiting f w) m' h)
 and_guard_carries f inv b w m m' g h hm hg = record {
   first = λ Γ s X d. (
     let P : Bool → Type 0 = λ c. MatchBool c (IsQuiet (under f Γ) (under f s) (renamed_waiting f w) (λ e. X (renamed_event f e))) (Unit {0}) in
@@ -178,7 +191,8 @@ and_guard_carries f inv b w m m' g h hm hg = record {
   ];
 }
 
-alternates_carried : (f : ℕ → ℕ) (g h : Guards) → CarriesGuards f g h → (Γ : Environment) (s : Values) (t : Trace) (o : Outcome) → Alternates g Γ s t o → Alternates h (under f Γ) (under f s) (renamed_trace f t) (renamed_outcome f o)
+alternates_carried : (f : ℕ → ℕ) (g h : Guards) → CarriesGuards f g h → (Γ : Environment) (s : Values) (t : Trace) (o : Outcome)
+    → Alternates g Γ s t o → Alternates h (under f Γ) (under f s) (renamed_trace f t) (renamed_outcome f o)
 alternates_carried f g h k Γ s t o (stable {X = X} d) = stable (k.first Γ s X d)
 alternates_carried f g h k Γ s t o (taken d) = taken (k.later Γ s t o d)
 
@@ -191,21 +205,27 @@ weave_under f a b c (of_first {a = x} {b = y} {c = z} w) = of_first (weave_under
 weave_under f a b c (of_second {a = x} {b = y} {c = z} w) = of_second (weave_under f x y z w)
 weave_under f a b c (unseen {a = x} {b = y} {c = z} i w) = unseen (ap (renamed_event f) i) (weave_under f x y z w)
 
-combines_under : (f : ℕ → ℕ) (Γ : Environment) (s : Values) (o1 o2 o : Outcome) → Combines Γ s o1 o2 o → Combines (under f Γ) (under f s) (renamed_outcome f o1) (renamed_outcome f o2) (renamed_outcome f o)
+combines_under : (f : ℕ → ℕ) (Γ : Environment) (s : Values) (o1 o2 o : Outcome) → Combines Γ s o1 o2 o
+    → Combines (under f Γ) (under f s) (renamed_outcome f o1) (renamed_outcome f o2) (renamed_outcome f o)
 combines_under f Γ s o1 o2 o (both_ended e) = both_ended (ap (λ r. under f r) e)
 combines_under f Γ s o1 o2 o first_ended = first_ended
 combines_under f Γ s o1 o2 o second_ended = second_ended
 combines_under f Γ s o1 o2 o (neither_ended X Y) = neither_ended (λ e. X (renamed_event f e)) (λ e. Y (renamed_event f e))
 
-together_carried : (f : ℕ → ℕ) (m m' n n' : Meaning) → Carries f m m' → Carries f n n' → (Γ : Environment) (s : Values) (t : Trace) (o : Outcome) → Together m n Γ s t o → Together m' n' (under f Γ) (under f s) (renamed_trace f t) (renamed_outcome f o)
+together_carried : (f : ℕ → ℕ) (m m' n n' : Meaning) → Carries f m m' → Carries f n n'
+    → (Γ : Environment) (s : Values) (t : Trace) (o : Outcome) → Together m n Γ s t o
+    → Together m' n' (under f Γ) (under f s) (renamed_trace f t) (renamed_outcome f o)
 together_carried f m m' n n' hm hn Γ s t o (together t1 t2 o1 o2 w c d1 d2) =
     together (renamed_trace f t1) (renamed_trace f t2) (renamed_outcome f o1) (renamed_outcome f o2) (weave_under f t1 t2 t w) (combines_under f Γ s o1 o2 o c) (hm.carried Γ s t1 o1 d1) (hn.carried Γ s t2 o2 d2)
 
-beside_all_carries : (f : ℕ → ℕ) (ps : Trees) (m m' n n' : Meaning) → Carries f m m' → Carries f n n' → Carries f (beside_all ps m n) (beside_all (all_renamed ps f) m' n')
+beside_all_carries : (f : ℕ → ℕ) (ps : Trees) (m m' n n' : Meaning) → Carries f m m' → Carries f n n'
+    → Carries f (beside_all ps m n) (beside_all (all_renamed ps f) m' n')
 beside_all_carries f no_tree m m' n n' hm hn = hm
 beside_all_carries f (and_tree p ps) m m' n n' hm hn = record { carried = together_carried f m m' n n' hm hn }
 
-variable_carried : (f : ℕ → ℕ) → IsExchange f → (x : ℕ) (w : Width) (m n : Meaning) → Carries f m n → (Γ : Environment) (s : Values) (t : Trace) (o : Outcome) → WithVariable x w m Γ s t o → WithVariable (f x) w n (under f Γ) (under f s) (renamed_trace f t) (renamed_outcome f o)
+variable_carried : (f : ℕ → ℕ) → IsExchange f → (x : ℕ) (w : Width) (m n : Meaning) → Carries f m n
+    → (Γ : Environment) (s : Values) (t : Trace) (o : Outcome) → WithVariable x w m Γ s t o
+    → WithVariable (f x) w n (under f Γ) (under f s) (renamed_trace f t) (renamed_outcome f o)
 variable_carried f inv x w m n h Γ s t o (WithVariable.at_end v s1 lt e d) =
     let P : Environment → Type 0 = λ Ψ. n.does Ψ (under f (with_value s x v)) (renamed_trace f t) (ended (under f s1)) in
     let Q : Values → Type 0 = λ r. n.does (with_name (under f Γ) (f x) (Var w)) r (renamed_trace f t) (ended (under f s1)) in
@@ -220,10 +240,13 @@ silent_under : (f : ℕ → ℕ) → IsExchange f → (c : ℕ) (t : Trace) → 
 silent_under f inv c [] = refl
 silent_under f inv c (e ∷ t) = ap (λ b. not b && is_silent (f c) (renamed_trace f t)) (one_for_one f inv e.chan.0 c) ∙ ap (λ b. not (e.chan.0 == c) && b) (silent_under f inv c t)
 
-off_under : (f : ℕ → ℕ) → IsExchange f → (c : ℕ) (X : EventSet) → (λ e. off_channel c X (renamed_event f e)) ≡ off_channel (f c) (λ e. X (renamed_event f e))
+off_under : (f : ℕ → ℕ) → IsExchange f → (c : ℕ) (X : EventSet)
+    → (λ e. off_channel c X (renamed_event f e)) ≡ off_channel (f c) (λ e. X (renamed_event f e))
 off_under f inv c X = fun_ext (λ e. ap (λ b. not b && X (renamed_event f e)) (sym (flip f inv e.chan.0 c)))
 
-channel_carried : (f : ℕ → ℕ) → IsExchange f → (c : ℕ) (w : Width) (m n : Meaning) → Carries f m n → (Γ : Environment) (s : Values) (t : Trace) (o : Outcome) → WithChannel c w m Γ s t o → WithChannel (f c) w n (under f Γ) (under f s) (renamed_trace f t) (renamed_outcome f o)
+channel_carried : (f : ℕ → ℕ) → IsExchange f → (c : ℕ) (w : Width) (m n : Meaning) → Carries f m n
+    → (Γ : Environment) (s : Values) (t : Trace) (o : Outcome) → WithChannel c w m Γ s t o
+    → WithChannel (f c) w n (under f Γ) (under f s) (renamed_trace f t) (renamed_outcome f o)
 channel_carried f inv c w m n h Γ s t o (WithChannel.at_end {s1 = r} silent d) =
     let P : Environment → Type 0 = λ Ψ. n.does Ψ (under f s) (renamed_trace f t) (ended (under f r)) in
     WithChannel.at_end (silent_under f inv c t ∙ silent) (subst P (name_under f inv Γ c (Chan w None)) (h.carried (with_name Γ c (Chan w None)) s t (ended r) d))
@@ -233,7 +256,8 @@ channel_carried f inv c w m n h Γ s t o (WithChannel.at_rest {X = X} silent d) 
     WithChannel.at_rest (silent_under f inv c t ∙ silent)
     (subst Q (off_under f inv c X) (subst P (name_under f inv Γ c (Chan w None)) (h.carried (with_name Γ c (Chan w None)) s t (refusing (off_channel c X)) d)))
 
-alone_carries : (f : ℕ → ℕ) → IsExchange f → (w : Waiting) → Carries f (alternatives (and_guard (truth true) w (at_once (λ Γ s. s)) no_guard)) (alternatives (and_guard (truth true) (renamed_waiting f w) (at_once (λ Γ s. s)) no_guard))
+alone_carries : (f : ℕ → ℕ) → IsExchange f → (w : Waiting)
+    → Carries f (alternatives (and_guard (truth true) w (at_once (λ Γ s. s)) no_guard)) (alternatives (and_guard (truth true) (renamed_waiting f w) (at_once (λ Γ s. s)) no_guard))
 alone_carries f inv w =
     alternatives_carry f (and_guard (truth true) w (at_once (λ Γ s. s)) no_guard) (and_guard (truth true) (renamed_waiting f w) (at_once (λ Γ s. s)) no_guard)
     (and_guard_carries f inv (truth true) w (at_once (λ Γ s. s)) (at_once (λ Γ s. s)) no_guard no_guard (skip_carries f) (no_guard_carries f))

@@ -26,7 +26,8 @@ Avoids us X = (e : Event) → X e ≡ true → among us e ≡ false
 -- may follow.
 pub data Settled (D : Trace → Outcome → Type 0) : Trace → Type 0 where
   at_last : {t : Trace} (s' : Values) → D t (ended s') → Settled D t
-  waits : {t : Trace} (us : List Event) → ((X : EventSet) → Avoids us X → D t (refusing X)) → ((e : Event) → among us e ≡ true → Settled D (t ++ e ∷ [])) → Settled D t
+  waits : {t : Trace} (us : List Event) → ((X : EventSet) → Avoids us X → D t (refusing X))
+      → ((e : Event) → among us e ≡ true → Settled D (t ++ e ∷ [])) → Settled D t
 
 -- ---- lists of events
 
@@ -53,7 +54,8 @@ among_cases f us e h = elim (cases_Bool (same_event e f))
     [ inl k ↦ inl (same_events e f k) | inr k ↦ inr (sym (if_false (same_event e f) true (among us e) k) ∙ h) ]
 
 -- the first of those events whose counterpart is one of these, if there is one
-meeting : (us bs : List Event) → ((e : Event) × (among us e ≡ true) × (among bs (counterpart e) ≡ true)) ⊎ ((e : Event) → among us e ≡ true → among bs (counterpart e) ≡ false)
+meeting : (us bs : List Event)
+    → ((e : Event) × (among us e ≡ true) × (among bs (counterpart e) ≡ true)) ⊎ ((e : Event) → among us e ≡ true → among bs (counterpart e) ≡ false)
 meeting [] bs = inr (λ e h. false_not_true h)
 meeting (f ∷ us) bs = elim (cases_Bool (among bs (counterpart f))) [
   | inl yes_f ↦ inl (f, among_head f us, yes_f)
@@ -65,7 +67,8 @@ meeting (f ∷ us) bs = elim (cases_Bool (among bs (counterpart f))) [
 
 -- ---- settled behaviours of one operator in another
 
-pub settled_in : (D E : Trace → Outcome → Type 0) → ((t : Trace) (s1 : Values) → D t (ended s1) → (s2 : Values) × E t (ended s2)) → ((t : Trace) (X : EventSet) → D t (refusing X) → E t (refusing X)) → (t : Trace) → Settled D t → Settled E t
+pub settled_in : (D E : Trace → Outcome → Type 0) → ((t : Trace) (s1 : Values) → D t (ended s1) → (s2 : Values) × E t (ended s2))
+    → ((t : Trace) (X : EventSet) → D t (refusing X) → E t (refusing X)) → (t : Trace) → Settled D t → Settled E t
 settled_in D E last rest t (at_last s' d) = let k = last t s' d in at_last k.0 k.1
 settled_in D E last rest t (waits us d k) = waits us (λ X av. rest t X (d X av)) (λ e h. settled_in D E last rest (t ++ e ∷ []) (k e h))
 
@@ -73,7 +76,8 @@ pub settled_all : (D E : Trace → Outcome → Type 0) → ((t : Trace) (o : Out
 settled_all D E into t h = settled_in D E (λ r s1 d. (s1, into r (ended s1) d)) (λ r X d. into r (refusing X) d) t h
 
 -- behind a trace that is taken first
-pub settled_behind : (D E : Trace → Outcome → Type 0) (t1 : Trace) → ((t : Trace) (o : Outcome) → D t o → E (t1 ++ t) o) → (t : Trace) → Settled D t → Settled E (t1 ++ t)
+pub settled_behind : (D E : Trace → Outcome → Type 0) (t1 : Trace) → ((t : Trace) (o : Outcome) → D t o → E (t1 ++ t) o) → (t : Trace)
+    → Settled D t → Settled E (t1 ++ t)
 settled_behind D E t1 into t (at_last s' d) = at_last s' (into t (ended s') d)
 settled_behind D E t1 into t (waits us d k) = waits us (λ X av. into t (refusing X) (d X av))
     (λ e h. let P : Trace → Type 0 = λ r. Settled E r in subst P (sym (append_assoc t1 t (e ∷ []))) (settled_behind D E t1 into (t ++ e ∷ []) (k e h)))
@@ -119,13 +123,15 @@ never_fronts Γ s t o stopped a b e = settled_at (never.does Γ s) [] a (sym (no
 never_settles : Settles never
 never_settles = record { starts = never_starts; fronts = never_fronts }
 
-followed_settled : (m n : Meaning) → Settles n → (Γ : Environment) (s : Values) (t : Trace) → Settled (m.does Γ s) t → Settled ((followed m n).does Γ s) t
+followed_settled : (m n : Meaning) → Settles n → (Γ : Environment) (s : Values) (t : Trace) → Settled (m.does Γ s) t
+    → Settled ((followed m n).does Γ s) t
 followed_settled m n hn Γ s t (at_last s1 d) =
     settled_at ((followed m n).does Γ s) (t ++ []) t (append-nil t)
     (settled_behind (n.does Γ s1) ((followed m n).does Γ s) t (λ t2 o d2. in_second t t2 s1 refl d d2) [] (hn.starts Γ s1))
 followed_settled m n hn Γ s t (waits us d k) = waits us (λ X av. in_first (d X av)) (λ e h. followed_settled m n hn Γ s (t ++ e ∷ []) (k e h))
 
-followed_fronts : (m n : Meaning) → Settles m → Settles n → (Γ : Environment) (s : Values) (t : Trace) (o : Outcome) → Followed m n Γ s t o → (a b : Trace) → t ≡ a ++ b → Settled ((followed m n).does Γ s) a
+followed_fronts : (m n : Meaning) → Settles m → Settles n → (Γ : Environment) (s : Values) (t : Trace) (o : Outcome) → Followed m n Γ s t o
+    → (a b : Trace) → t ≡ a ++ b → Settled ((followed m n).does Γ s) a
 followed_fronts m n hm hn Γ s t o (in_first {X = X} d) a b e = followed_settled m n hn Γ s a (hm.fronts Γ s t (refusing X) d a b e)
 followed_fronts m n hm hn Γ s t o (in_second t1 t2 s1 i d1 d2) a b e = elim (cut_twice t1 t2 a b (sym i ∙ e)) [
   | inl k ↦ followed_settled m n hn Γ s a (hm.fronts Γ s t1 (ended s1) d1 a k.0 k.1)
@@ -152,10 +158,12 @@ pub second_of : (b : Bool) (P Q : Type 0) → b ≡ false → MatchBool b P Q �
 second_of true P Q h k = true_not_false h
 second_of false P Q h k = k
 
-chosen_left : (e : Exp) (m n : Meaning) (Γ : Environment) (s : Values) → is_true Γ e s ≡ true → (t : Trace) → Settled (m.does Γ s) t → Settled ((chosen e m n).does Γ s) t
+chosen_left : (e : Exp) (m n : Meaning) (Γ : Environment) (s : Values) → is_true Γ e s ≡ true → (t : Trace) → Settled (m.does Γ s) t
+    → Settled ((chosen e m n).does Γ s) t
 chosen_left e m n Γ s h t k = settled_all (m.does Γ s) ((chosen e m n).does Γ s) (λ r o d. chosen_first (is_true Γ e s) _ _ h d) t k
 
-chosen_right : (e : Exp) (m n : Meaning) (Γ : Environment) (s : Values) → is_true Γ e s ≡ false → (t : Trace) → Settled (n.does Γ s) t → Settled ((chosen e m n).does Γ s) t
+chosen_right : (e : Exp) (m n : Meaning) (Γ : Environment) (s : Values) → is_true Γ e s ≡ false → (t : Trace) → Settled (n.does Γ s) t
+    → Settled ((chosen e m n).does Γ s) t
 chosen_right e m n Γ s h t k = settled_all (n.does Γ s) ((chosen e m n).does Γ s) (λ r o d. chosen_second (is_true Γ e s) _ _ h d) t k
 
 pub chosen_settles : (e : Exp) (m n : Meaning) → Settles m → Settles n → Settles (chosen e m n)
@@ -193,17 +201,20 @@ input_there c v (suc n) lt =
       | inr k ↦ among_tail f (inputs_below c n) g (input_there c v n (let ne : v ≢ n = k.1 in omega arith))
     ]
 
-input_below : (c n : ℕ) (e : Event) → among (inputs_below c n) e ≡ true → (v : ℕ) × (v < n) × (e ≡ record { chan = record { 0 = c }; dir = Input; value = v })
+input_below : (c n : ℕ) (e : Event) → among (inputs_below c n) e ≡ true
+    → (v : ℕ) × (v < n) × (e ≡ record { chan = record { 0 = c }; dir = Input; value = v })
 unfolding inputs_below
 input_below c zero e h = false_not_true h
 input_below c (suc n) e h = elim (among_cases (record { chan = record { 0 = c }; dir = Input; value = n }) (inputs_below c n) e h)
     [ inl k ↦ (n, omega arith, k) | inr k ↦ (let r = input_below c n e k in (r.0, (let lt = r.1 in omega arith), r.2)) ]
 
-width_there : (c v : ℕ) (o : Option Width) → has_width o v ≡ true → among (inputs c o) (record { chan = record { 0 = c }; dir = Input; value = v }) ≡ true
+width_there : (c v : ℕ) (o : Option Width) → has_width o v ≡ true
+    → among (inputs c o) (record { chan = record { 0 = c }; dir = Input; value = v }) ≡ true
 width_there c v (Some w) h = input_there c v (2 ^ bits_of w) (ltb-true v (2 ^ bits_of w) h)
 width_there c v None h = false_not_true h
 
-width_below : (c : ℕ) (o : Option Width) (e : Event) → among (inputs c o) e ≡ true → (v : ℕ) × (has_width o v ≡ true) × (e ≡ record { chan = record { 0 = c }; dir = Input; value = v })
+width_below : (c : ℕ) (o : Option Width) (e : Event) → among (inputs c o) e ≡ true
+    → (v : ℕ) × (has_width o v ≡ true) × (e ≡ record { chan = record { 0 = c }; dir = Input; value = v })
 width_below c (Some w) e h = let r = input_below c (2 ^ bits_of w) e h in (r.0, lt-ltb r.0 (2 ^ bits_of w) r.1, r.2)
 width_below c None e h = false_not_true h
 
@@ -236,20 +247,24 @@ no_guard_settles = record {
   fronts = λ Γ s t o d a b i. absurd d;
 }
 
-guard_goes : (e : Exp) (w : Waiting) (m : Meaning) (g : Guards) (Γ : Environment) (s u : Values) (t1 : Trace) → is_true Γ e s ≡ true → ((t : Trace) → Taken Γ s w (t1 ++ t) u t) → (t : Trace) → Settled (m.does Γ u) t → Settled ((and_guard e w m g).goes Γ s) (t1 ++ t)
+guard_goes : (e : Exp) (w : Waiting) (m : Meaning) (g : Guards) (Γ : Environment) (s u : Values) (t1 : Trace) → is_true Γ e s ≡ true
+    → ((t : Trace) → Taken Γ s w (t1 ++ t) u t) → (t : Trace) → Settled (m.does Γ u) t → Settled ((and_guard e w m g).goes Γ s) (t1 ++ t)
 guard_goes e w m g Γ s u t1 h took t k = settled_behind (m.does Γ u) ((and_guard e w m g).goes Γ s) t1 (λ r o d. inl (h, (u, r, took r, d))) t k
 
-others_go : (e : Exp) (w : Waiting) (m : Meaning) (g : Guards) (Γ : Environment) (s : Values) (t : Trace) → Settled (g.goes Γ s) t → Settled ((and_guard e w m g).goes Γ s) t
+others_go : (e : Exp) (w : Waiting) (m : Meaning) (g : Guards) (Γ : Environment) (s : Values) (t : Trace) → Settled (g.goes Γ s) t
+    → Settled ((and_guard e w m g).goes Γ s) t
 others_go e w m g Γ s t k = settled_all (g.goes Γ s) ((and_guard e w m g).goes Γ s) (λ r o d. inr d) t k
 
-disabled_offers : (e : Exp) (w : Waiting) (m : Meaning) (g : Guards) (Γ : Environment) (s : Values) → is_true Γ e s ≡ false → Offers g Γ s → Offers (and_guard e w m g) Γ s
+disabled_offers : (e : Exp) (w : Waiting) (m : Meaning) (g : Guards) (Γ : Environment) (s : Values) → is_true Γ e s ≡ false → Offers g Γ s
+    → Offers (and_guard e w m g) Γ s
 disabled_offers e w m g Γ s h k = record {
   events = k.events;
   quiet = λ X av. (chosen_second (is_true Γ e s) _ _ h tt, k.quiet X av);
   each = λ f i. others_go e w m g Γ s (f ∷ []) (k.each f i);
 }
 
-enabled_offers : (e : Exp) (w : Waiting) (m : Meaning) (g : Guards) → Settles m → (Γ : Environment) (s : Values) → is_true Γ e s ≡ true → (w ≡ ready → ⊥) → Offers g Γ s → Offers (and_guard e w m g) Γ s
+enabled_offers : (e : Exp) (w : Waiting) (m : Meaning) (g : Guards) → Settles m → (Γ : Environment) (s : Values) → is_true Γ e s ≡ true
+    → (w ≡ ready → ⊥) → Offers g Γ s → Offers (and_guard e w m g) Γ s
 enabled_offers e w m g hm Γ s h unready k = record {
   events = events_of Γ s w ++ k.events;
   quiet = λ X av. (
@@ -265,12 +280,15 @@ enabled_offers e w m g hm Γ s h unready k = record {
   ];
 }
 
-enabled_starts : (e : Exp) (w : Waiting) (m : Meaning) (g : Guards) → Settles m → (Γ : Environment) (s : Values) → is_true Γ e s ≡ true → Settled (g.goes Γ s) [] ⊎ Offers g Γ s → Settled ((and_guard e w m g).goes Γ s) [] ⊎ Offers (and_guard e w m g) Γ s
+enabled_starts : (e : Exp) (w : Waiting) (m : Meaning) (g : Guards) → Settles m → (Γ : Environment) (s : Values) → is_true Γ e s ≡ true
+    → Settled (g.goes Γ s) [] ⊎ Offers g Γ s → Settled ((and_guard e w m g).goes Γ s) [] ⊎ Offers (and_guard e w m g) Γ s
 enabled_starts e ready m g hm Γ s h k = inl (guard_goes e ready m g Γ s s [] h (λ t. at_ready) [] (hm.starts Γ s))
 enabled_starts e (input c x) m g hm Γ s h k = elim k [ inl j ↦ inl (others_go e (input c x) m g Γ s [] j) | inr j ↦ inr (enabled_offers e (input c x) m g hm Γ s h (λ i. cc) j) ]
 enabled_starts e (output c z) m g hm Γ s h k = elim k [ inl j ↦ inl (others_go e (output c z) m g Γ s [] j) | inr j ↦ inr (enabled_offers e (output c z) m g hm Γ s h (λ i. cc) j) ]
 
-taken_fronts : (e : Exp) (w : Waiting) (m : Meaning) (g : Guards) → Settles m → (Γ : Environment) (s : Values) → is_true Γ e s ≡ true → (t : Trace) (u : Values) (r : Trace) (o : Outcome) → Taken Γ s w t u r → m.does Γ u r o → (a b : Trace) → t ≡ a ++ b → (a ≡ []) ⊎ Settled ((and_guard e w m g).goes Γ s) a
+taken_fronts : (e : Exp) (w : Waiting) (m : Meaning) (g : Guards) → Settles m → (Γ : Environment) (s : Values) → is_true Γ e s ≡ true
+    → (t : Trace) (u : Values) (r : Trace) (o : Outcome) → Taken Γ s w t u r → m.does Γ u r o → (a b : Trace) → t ≡ a ++ b
+    → (a ≡ []) ⊎ Settled ((and_guard e w m g).goes Γ s) a
 taken_fronts e w m g hm Γ s h t u r o (at_ready {t = l}) d a b i = inr (guard_goes e ready m g Γ s s [] h (λ j. at_ready) a (hm.fronts Γ s l o d a b i))
 taken_fronts e w m g hm Γ s h t u r o (at_event {w = y} {e = f} {u = z} {t = l} after) d [] b i = inl refl
 taken_fronts e w m g hm Γ s h t u r o (at_event {w = y} {e = f} {u = z} {t = l} after) d (x ∷ a) b i =
@@ -297,7 +315,8 @@ alternates_start g hg Γ s = elim (hg.starts Γ s) [
   | inr k ↦ waits k.events (λ X av. stable (k.quiet X av)) (λ e h. settled_all (g.goes Γ s) ((alternatives g).does Γ s) (λ t o d. taken d) (e ∷ []) (k.each e h))
 ]
 
-alternates_front : (g : Guards) → GuardsSettle g → (Γ : Environment) (s : Values) (t : Trace) (o : Outcome) → Alternates g Γ s t o → (a b : Trace) → t ≡ a ++ b → Settled ((alternatives g).does Γ s) a
+alternates_front : (g : Guards) → GuardsSettle g → (Γ : Environment) (s : Values) (t : Trace) (o : Outcome) → Alternates g Γ s t o
+    → (a b : Trace) → t ≡ a ++ b → Settled ((alternatives g).does Γ s) a
 alternates_front g hg Γ s t o (stable d) a b i = settled_at ((alternatives g).does Γ s) [] a (sym (no_front a b i)) (alternates_start g hg Γ s)
 alternates_front g hg Γ s t o (taken d) a b i = elim (hg.fronts Γ s t o d a b i) [
   | inl k ↦ settled_at ((alternatives g).does Γ s) [] a (sym k) (alternates_start g hg Γ s)
@@ -327,7 +346,8 @@ longer_both e a b c (of_first {e = f} {a = x} {b = y} {c = z} w) = of_first (lon
 longer_both e a b c (of_second {e = f} {a = x} {b = y} {c = z} w) = of_second (longer_both e x y z w)
 longer_both e a b c (unseen {e = f} {f = g} {a = x} {b = y} {c = z} i w) = unseen i (longer_both e x y z w)
 
-first_at_last : (m n : Meaning) (Γ : Environment) (s s1 : Values) (t1 : Trace) → m.does Γ s t1 (ended s1) → (t2 : Trace) → Settled (n.does Γ s) t2 → (t : Trace) → Weave t1 t2 t → Settled ((beside m n).does Γ s) t
+first_at_last : (m n : Meaning) (Γ : Environment) (s s1 : Values) (t1 : Trace) → m.does Γ s t1 (ended s1) → (t2 : Trace)
+    → Settled (n.does Γ s) t2 → (t : Trace) → Weave t1 t2 t → Settled ((beside m n).does Γ s) t
 first_at_last m n Γ s s1 t1 d1 t2 (at_last s2 d2) t w = at_last (join s s1 s2) (together t1 t2 (ended s1) (ended s2) w (both_ended refl) d1 d2)
 first_at_last m n Γ s s1 t1 d1 t2 (waits bs d2 k2) t w =
     waits bs (λ X av. together t1 t2 (ended s1) (refusing X) w first_ended d1 (d2 X av))
@@ -337,7 +357,8 @@ abbrev GoesOn : (m n : Meaning) (Γ : Environment) (s : Values) → List Event �
 GoesOn m n Γ s us t1 = (e : Event) → among us e ≡ true → (t2 : Trace) → Settled (n.does Γ s) t2 → (t : Trace) → Weave (t1 ++ e ∷ []) t2 t → Settled ((beside m n).does Γ s) t
 
 -- both refuse where no event that one accepts meets its counterpart of the other
-both_quiet : (m n : Meaning) (Γ : Environment) (s : Values) (us bs : List Event) (t1 t2 t : Trace) → Weave t1 t2 t → ((X : EventSet) → Avoids us X → m.does Γ s t1 (refusing X)) → ((X : EventSet) → Avoids bs X → n.does Γ s t2 (refusing X))
+both_quiet : (m n : Meaning) (Γ : Environment) (s : Values) (us bs : List Event) (t1 t2 t : Trace) → Weave t1 t2 t
+    → ((X : EventSet) → Avoids us X → m.does Γ s t1 (refusing X)) → ((X : EventSet) → Avoids bs X → n.does Γ s t2 (refusing X))
     → ((e : Event) → among us e ≡ true → among bs (counterpart e) ≡ false) → (X : EventSet) → Avoids (us ++ bs) X → Together m n Γ s t (refusing X)
 both_quiet m n Γ s us bs t1 t2 t w d1 d2 apart X av =
     let Y : EventSet = λ e. not (among us e) in
@@ -363,7 +384,8 @@ both_quiet m n Γ s us bs t1 t2 t w d1 d2 apart X av =
     met : (e : Event) → not (not (among us (counterpart e))) ≡ true → among bs e ≡ false
     met e h = let P : Event → Type 0 = λ f. among bs f ≡ false in subst P (turned e) (apart (counterpart e) (both_nots (among us (counterpart e)) h))
 
-second_turn : (m n : Meaning) (Γ : Environment) (s : Values) (us : List Event) (t1 : Trace) → ((X : EventSet) → Avoids us X → m.does Γ s t1 (refusing X)) → GoesOn m n Γ s us t1
+second_turn : (m n : Meaning) (Γ : Environment) (s : Values) (us : List Event) (t1 : Trace)
+    → ((X : EventSet) → Avoids us X → m.does Γ s t1 (refusing X)) → GoesOn m n Γ s us t1
     → (t2 : Trace) → Settled (n.does Γ s) t2 → (t : Trace) → Weave t1 t2 t → Settled ((beside m n).does Γ s) t
 second_turn m n Γ s us t1 d1 on t2 (at_last s2 d2) t w =
     waits us (λ X av. together t1 t2 (refusing X) (ended s2) w second_ended (d1 X av) d2) (λ e h. on e h t2 (at_last s2 d2) (t ++ e ∷ []) (longer_first e t1 t2 t w))
@@ -376,7 +398,8 @@ second_turn m n Γ s us t1 d1 on t2 (waits bs d2 k2) t w = elim (meeting us bs) 
       ])
 ]
 
-both_settled : (m n : Meaning) (Γ : Environment) (s : Values) (t1 : Trace) → Settled (m.does Γ s) t1 → (t2 : Trace) → Settled (n.does Γ s) t2 → (t : Trace) → Weave t1 t2 t → Settled ((beside m n).does Γ s) t
+both_settled : (m n : Meaning) (Γ : Environment) (s : Values) (t1 : Trace) → Settled (m.does Γ s) t1 → (t2 : Trace)
+    → Settled (n.does Γ s) t2 → (t : Trace) → Weave t1 t2 t → Settled ((beside m n).does Γ s) t
 both_settled m n Γ s t1 (at_last s1 d1) t2 k t w = first_at_last m n Γ s s1 t1 d1 t2 k t w
 both_settled m n Γ s t1 (waits us d1 k1) t2 k t w = second_turn m n Γ s us t1 d1 (λ e h. both_settled m n Γ s (t1 ++ e ∷ []) (k1 e h)) t2 k t w
 
@@ -409,7 +432,8 @@ woven_fronts t1 t2 t (unseen {e = e} {f = f} {a = x} {b = y} {c = z} j w) a b i 
     let k = woven_fronts x y z w a b i in
     record { a1 = e ∷ k.a1; b1 = k.b1; a2 = f ∷ k.a2; b2 = k.b2; first = ap (λ r. e ∷ r) k.first; second = ap (λ r. f ∷ r) k.second; woven = unseen j k.woven }
 
-together_fronts : (m n : Meaning) → Settles m → Settles n → (Γ : Environment) (s : Values) (t : Trace) (o : Outcome) → Together m n Γ s t o → (a b : Trace) → t ≡ a ++ b → Settled ((beside m n).does Γ s) a
+together_fronts : (m n : Meaning) → Settles m → Settles n → (Γ : Environment) (s : Values) (t : Trace) (o : Outcome) → Together m n Γ s t o
+    → (a b : Trace) → t ≡ a ++ b → Settled ((beside m n).does Γ s) a
 together_fronts m n hm hn Γ s t o (together t1 t2 o1 o2 w c d1 d2) a b i =
     let k = woven_fronts t1 t2 t w a b i in
     both_settled m n Γ s k.a1 (hm.fronts Γ s t1 o1 d1 k.a1 k.b1 k.first) k.a2 (hn.fronts Γ s t2 o2 d2 k.a2 k.b2 k.second) a k.woven
@@ -423,12 +447,14 @@ beside_all_settles (and_tree p ps) m n hm hn = beside_settles m n hm hn
 
 -- ---- declarations
 
-variable_settled : (x : ℕ) (w : Width) (m : Meaning) (Γ : Environment) (s : Values) (v : ℕ) → v < 2 ^ bits_of w → (t : Trace) → Settled (m.does (with_name Γ x (Var w)) (with_value s x v)) t → Settled ((over_variable x w m).does Γ s) t
+variable_settled : (x : ℕ) (w : Width) (m : Meaning) (Γ : Environment) (s : Values) (v : ℕ) → v < 2 ^ bits_of w → (t : Trace)
+    → Settled (m.does (with_name Γ x (Var w)) (with_value s x v)) t → Settled ((over_variable x w m).does Γ s) t
 variable_settled x w m Γ s v lt t k =
     settled_in (m.does (with_name Γ x (Var w)) (with_value s x v)) ((over_variable x w m).does Γ s)
     (λ r s1 d. (with_value s1 x (s x), WithVariable.at_end v s1 lt refl d)) (λ r X d. WithVariable.at_rest v lt d) t k
 
-variable_fronts : (x : ℕ) (w : Width) (m : Meaning) → Settles m → (Γ : Environment) (s : Values) (t : Trace) (o : Outcome) → WithVariable x w m Γ s t o → (a b : Trace) → t ≡ a ++ b → Settled ((over_variable x w m).does Γ s) a
+variable_fronts : (x : ℕ) (w : Width) (m : Meaning) → Settles m → (Γ : Environment) (s : Values) (t : Trace) (o : Outcome)
+    → WithVariable x w m Γ s t o → (a b : Trace) → t ≡ a ++ b → Settled ((over_variable x w m).does Γ s) a
 variable_fronts x w m hm Γ s t o (WithVariable.at_end v s1 lt e d) a b i = variable_settled x w m Γ s v lt a (hm.fronts (with_name Γ x (Var w)) (with_value s x v) t (ended s1) d a b i)
 variable_fronts x w m hm Γ s t o (WithVariable.at_rest {X = X} v lt d) a b i = variable_settled x w m Γ s v lt a (hm.fronts (with_name Γ x (Var w)) (with_value s x v) t (refusing X) d a b i)
 
@@ -478,7 +504,8 @@ silent_front : (c : ℕ) (a b : Trace) → is_silent c (a ++ b) ≡ true → is_
 silent_front c [] b h = refl
 silent_front c (e ∷ a) b h = let k = and_parts (not (e.chan.0 == c)) (is_silent c (a ++ b)) h in and_from (not (e.chan.0 == c)) (is_silent c a) k.0 (silent_front c a b k.1)
 
-channel_settled : (c : ℕ) (w : Width) (m : Meaning) (Γ : Environment) (s : Values) (t : Trace) → Settled (m.does (with_name Γ c (Chan w None)) s) t → is_silent c t ≡ true → Settled ((over_channel c w m).does Γ s) t
+channel_settled : (c : ℕ) (w : Width) (m : Meaning) (Γ : Environment) (s : Values) (t : Trace)
+    → Settled (m.does (with_name Γ c (Chan w None)) s) t → is_silent c t ≡ true → Settled ((over_channel c w m).does Γ s) t
 channel_settled c w m Γ s t (at_last s1 d) silent = at_last s1 (WithChannel.at_end silent d)
 channel_settled c w m Γ s t (waits us d k) silent =
     waits (without c us)
@@ -487,7 +514,8 @@ channel_settled c w m Γ s t (waits us d k) silent =
     false_from_ne_true (among us e) (λ i. clash (among (without c us) e) (into_without c us e (not-true (e.chan.0 == c) j.0) i) (av e j.1)))))
     (λ e h. let r = without_of c us e h in channel_settled c w m Γ s (t ++ e ∷ []) (k e r.0) (silent_longer c t e silent r.1))
 
-channel_fronts : (c : ℕ) (w : Width) (m : Meaning) → Settles m → (Γ : Environment) (s : Values) (t : Trace) (o : Outcome) → WithChannel c w m Γ s t o → (a b : Trace) → t ≡ a ++ b → Settled ((over_channel c w m).does Γ s) a
+channel_fronts : (c : ℕ) (w : Width) (m : Meaning) → Settles m → (Γ : Environment) (s : Values) (t : Trace) (o : Outcome)
+    → WithChannel c w m Γ s t o → (a b : Trace) → t ≡ a ++ b → Settled ((over_channel c w m).does Γ s) a
 channel_fronts c w m hm Γ s t o (WithChannel.at_end {s1 = r} silent d) a b i =
     channel_settled c w m Γ s a (hm.fronts (with_name Γ c (Chan w None)) s t (ended r) d a b i) (silent_front c a b (ap (is_silent c) (sym i) ∙ silent))
 channel_fronts c w m hm Γ s t o (WithChannel.at_rest {X = X} silent d) a b i =

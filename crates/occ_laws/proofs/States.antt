@@ -16,7 +16,8 @@ use Rattle.std.proofs.Common.{List, None, Option, Some, [], ap, inl, inr, is_non
 use Rattle.std.proofs.lemmas.Bool.{and_parts, ltb-true}
 use Rattle.std.proofs.lemmas.Bool.Decides.{eqb_tells}
 
-pub value_state : (Γ : Environment) (s : Values) (x v : ℕ) → IsState Γ s → ((w : Width) → variable_width Γ x ≡ Some w → v < 2 ^ bits_of w) → IsState Γ (with_value s x v)
+pub value_state : (Γ : Environment) (s : Values) (x v : ℕ) → IsState Γ s → ((w : Width) → variable_width Γ x ≡ Some w → v < 2 ^ bits_of w)
+    → IsState Γ (with_value s x v)
 value_state Γ s x v state fits y w h =
     let P : ℕ → Type 0 = λ n. n < 2 ^ bits_of w in
     elim (eqb_tells y x) [
@@ -25,7 +26,8 @@ value_state Γ s x v state fits y w h =
     ]
 
 -- the state of a variable's scope
-pub declared_state : (Γ : Environment) (s : Values) (x : ℕ) (w : Width) (v : ℕ) → v < 2 ^ bits_of w → IsState Γ s → IsState (with_name Γ x (Var w)) (with_value s x v)
+pub declared_state : (Γ : Environment) (s : Values) (x : ℕ) (w : Width) (v : ℕ) → v < 2 ^ bits_of w → IsState Γ s
+    → IsState (with_name Γ x (Var w)) (with_value s x v)
 declared_state Γ s x w v lt state y u h =
     let P : ℕ → Type 0 = λ n. n < 2 ^ bits_of u in
     elim (eqb_tells y x) [
@@ -35,7 +37,8 @@ declared_state Γ s x w v lt state y u h =
     ]
 
 -- and back: the value that is put back is that of a state
-pub undeclared_state : (Γ : Environment) (s s1 : Values) (x : ℕ) (w : Width) → IsState Γ s → IsState (with_name Γ x (Var w)) s1 → IsState Γ (with_value s1 x (s x))
+pub undeclared_state : (Γ : Environment) (s s1 : Values) (x : ℕ) (w : Width) → IsState Γ s → IsState (with_name Γ x (Var w)) s1
+    → IsState Γ (with_value s1 x (s x))
 undeclared_state Γ s s1 x w outer inner y u h =
     let P : ℕ → Type 0 = λ n. n < 2 ^ bits_of u in
     elim (eqb_tells y x) [
@@ -90,7 +93,8 @@ stop_end Γ t s' d = elim d [ ]
 stop_states : (Γ : Environment) → KeepsStates Γ never
 stop_states Γ = record { state = λ s t s' start d. stop_end Γ t s' d }
 
-pub assigned_state : (Γ : Environment) (s : Values) → IsState Γ s → (xs : List ℕ) (es : List Exp) → pairs_kept Γ xs es ≡ true → IsState Γ (assigned xs es Γ s)
+pub assigned_state : (Γ : Environment) (s : Values) → IsState Γ s → (xs : List ℕ) (es : List Exp) → pairs_kept Γ xs es ≡ true
+    → IsState Γ (assigned xs es Γ s)
 assigned_state Γ s start [] es h = start
 assigned_state Γ s start (x ∷ xs) [] h = start
 assigned_state Γ s start (x ∷ xs) (e ∷ es) h =
@@ -102,7 +106,8 @@ assigned_state Γ s start (x ∷ xs) (e ∷ es) h =
 assign_states : (Γ : Environment) (xs : List ℕ) (es : List Exp) → pairs_kept Γ xs es ≡ true → KeepsStates Γ (at_once (assigned xs es))
 assign_states Γ xs es h = record { state = λ s t s' start d. state_at Γ (assigned xs es Γ s) s' (end_is d.1) (assigned_state Γ s start xs es h) }
 
-followed_end : (Γ : Environment) (m n : Meaning) → KeepsStates Γ m → KeepsStates Γ n → (s : Values) (t : Trace) (s' : Values) → IsState Γ s → Followed m n Γ s t (ended s') → IsState Γ s'
+followed_end : (Γ : Environment) (m n : Meaning) → KeepsStates Γ m → KeepsStates Γ n → (s : Values) (t : Trace) (s' : Values) → IsState Γ s
+    → Followed m n Γ s t (ended s') → IsState Γ s'
 followed_end Γ m n hm hn s t s' start (in_second t1 t2 s1 e d1 d2) = hn.state s1 t2 s' (hm.state s t1 s1 start d1) d2
 
 pub followed_states : (Γ : Environment) (m n : Meaning) → KeepsStates Γ m → KeepsStates Γ n → KeepsStates Γ (followed m n)
@@ -112,7 +117,8 @@ chosen_states : (Γ : Environment) (e : Exp) (m n : Meaning) → KeepsStates Γ 
 chosen_states Γ e m n hm hn = record { state = λ s t s' start d. either (is_true Γ e s) (λ h. hm.state s t s' start h) (λ h. hn.state s t s' start h) d }
 
 -- the state behind a guard
-pub after_state : (Γ : Environment) (s : Values) (w : Waiting) (e : Event) (u : Values) → waiting_kept Γ w ≡ true → IsState Γ s → After Γ s w e u → IsState Γ u
+pub after_state : (Γ : Environment) (s : Values) (w : Waiting) (e : Event) (u : Values) → waiting_kept Γ w ≡ true → IsState Γ s
+    → After Γ s w e u → IsState Γ u
 after_state Γ s ready e u h start a = absurd a
 after_state Γ s (input c x) e u h start a =
     let k = (input_types Γ c x h).1 in
@@ -122,29 +128,34 @@ after_state Γ s (input c x) e u h start a =
     fits y w v is_y same has = let P : Option Width → Type 0 = λ o. has_width o v ≡ true in ltb-true v (2 ^ bits_of w) (subst P (is_y ∙ same) has)
 after_state Γ s (output c z) e u h start a = state_at Γ s u a.1 start
 
-pub taken_state : (Γ : Environment) (s : Values) (w : Waiting) (t : Trace) (u : Values) (a : Trace) → waiting_kept Γ w ≡ true → IsState Γ s → Taken Γ s w t u a → IsState Γ u
+pub taken_state : (Γ : Environment) (s : Values) (w : Waiting) (t : Trace) (u : Values) (a : Trace) → waiting_kept Γ w ≡ true → IsState Γ s
+    → Taken Γ s w t u a → IsState Γ u
 taken_state Γ s w t u a h start at_ready = start
 taken_state Γ s w t u a h start (at_event {w = b} {e = e} {u = r} k) = after_state Γ s b e r h start k
 
 no_guard_states : (Γ : Environment) → KeepStates Γ no_guard
 no_guard_states Γ = record { state = λ s t s' start d. absurd d }
 
-and_guard_states : (Γ : Environment) (e : Exp) (w : Waiting) (m : Meaning) (g : Guards) → waiting_kept Γ w ≡ true → KeepsStates Γ m → KeepStates Γ g → KeepStates Γ (and_guard e w m g)
+and_guard_states : (Γ : Environment) (e : Exp) (w : Waiting) (m : Meaning) (g : Guards) → waiting_kept Γ w ≡ true → KeepsStates Γ m
+    → KeepStates Γ g → KeepStates Γ (and_guard e w m g)
 and_guard_states Γ e w m g h hm hg = record {
   state = λ s t s' start d.
       elim d [ inl k ↦ hm.state k.1.0 k.1.1 s' (taken_state Γ s w t k.1.0 k.1.1 h start k.1.2) k.1.3 | inr k ↦ hg.state s t s' start k ];
 }
 
-alternates_end : (Γ : Environment) (g : Guards) → KeepStates Γ g → (s : Values) (t : Trace) (s' : Values) → IsState Γ s → Alternates g Γ s t (ended s') → IsState Γ s'
+alternates_end : (Γ : Environment) (g : Guards) → KeepStates Γ g → (s : Values) (t : Trace) (s' : Values) → IsState Γ s
+    → Alternates g Γ s t (ended s') → IsState Γ s'
 alternates_end Γ g hg s t s' start (taken d) = hg.state s t s' start d
 
 alternatives_states : (Γ : Environment) (g : Guards) → KeepStates Γ g → KeepsStates Γ (alternatives g)
 alternatives_states Γ g hg = record { state = alternates_end Γ g hg }
 
-combined_state : (Γ : Environment) (s : Values) (o1 o2 : Outcome) (s' : Values) → ((s1 : Values) → o1 ≡ ended s1 → IsState Γ s1) → ((s2 : Values) → o2 ≡ ended s2 → IsState Γ s2) → Combines Γ s o1 o2 (ended s') → IsState Γ s'
+combined_state : (Γ : Environment) (s : Values) (o1 o2 : Outcome) (s' : Values) → ((s1 : Values) → o1 ≡ ended s1 → IsState Γ s1)
+    → ((s2 : Values) → o2 ≡ ended s2 → IsState Γ s2) → Combines Γ s o1 o2 (ended s') → IsState Γ s'
 combined_state Γ s o1 o2 s' first second (both_ended {s1 = a} {s2 = b} {s' = r} e) = state_at Γ (join s a b) r e (joined_state Γ s a b (first a refl) (second b refl))
 
-together_end : (Γ : Environment) (m n : Meaning) → KeepsStates Γ m → KeepsStates Γ n → (s : Values) (t : Trace) (s' : Values) → IsState Γ s → Together m n Γ s t (ended s') → IsState Γ s'
+together_end : (Γ : Environment) (m n : Meaning) → KeepsStates Γ m → KeepsStates Γ n → (s : Values) (t : Trace) (s' : Values) → IsState Γ s
+    → Together m n Γ s t (ended s') → IsState Γ s'
 together_end Γ m n hm hn s t s' start (together t1 t2 o1 o2 woven c d1 d2) =
     combined_state Γ s o1 o2 s'
     (λ s1 e. hm.state s t1 s1 start (let P : Outcome → Type 0 = λ o. m.does Γ s t1 o in subst P e d1))
@@ -157,26 +168,36 @@ beside_all_states : (Γ : Environment) (ps : Trees) (m n : Meaning) → KeepsSta
 beside_all_states Γ no_tree m n hm hn = hm
 beside_all_states Γ (and_tree p ps) m n hm hn = beside_states Γ m n hm hn
 
-variable_end : (Γ : Environment) (x : ℕ) (w : Width) (m : Meaning) → KeepsStates (with_name Γ x (Var w)) m → (s : Values) (t : Trace) (s' : Values) → IsState Γ s → WithVariable x w m Γ s t (ended s') → IsState Γ s'
+variable_end : (Γ : Environment) (x : ℕ) (w : Width) (m : Meaning) → KeepsStates (with_name Γ x (Var w)) m
+    → (s : Values) (t : Trace) (s' : Values) → IsState Γ s → WithVariable x w m Γ s t (ended s') → IsState Γ s'
 variable_end Γ x w m hm s t s' start (WithVariable.at_end v s1 lt e d) =
     state_at Γ (with_value s1 x (s x)) s' e (undeclared_state Γ s s1 x w start (hm.state (with_value s x v) t s1 (declared_state Γ s x w v lt start) d))
 
-pub variable_states : (Γ : Environment) (x : ℕ) (w : Width) (m : Meaning) → KeepsStates (with_name Γ x (Var w)) m → KeepsStates Γ (over_variable x w m)
+pub variable_states : (Γ : Environment) (x : ℕ) (w : Width) (m : Meaning) → KeepsStates (with_name Γ x (Var w)) m
+    → KeepsStates Γ (over_variable x w m)
 variable_states Γ x w m hm = record { state = variable_end Γ x w m hm }
 
-channel_end : (Γ : Environment) (c : ℕ) (w : Width) (m : Meaning) → Γ c ≡ None → KeepsStates (with_name Γ c (Chan w None)) m → (s : Values) (t : Trace) (s' : Values) → IsState Γ s → WithChannel c w m Γ s t (ended s') → IsState Γ s'
+channel_end : (Γ : Environment) (c : ℕ) (w : Width) (m : Meaning) → Γ c ≡ None → KeepsStates (with_name Γ c (Chan w None)) m
+    → (s : Values) (t : Trace) (s' : Values) → IsState Γ s → WithChannel c w m Γ s t (ended s') → IsState Γ s'
 channel_end Γ c w m fresh hm s t s' start (WithChannel.at_end silent d) = unconnected_state Γ s' c w fresh (hm.state s t s' (connected_state Γ s c w start) d)
 
-pub channel_states : (Γ : Environment) (c : ℕ) (w : Width) (m : Meaning) → Γ c ≡ None → KeepsStates (with_name Γ c (Chan w None)) m → KeepsStates Γ (over_channel c w m)
+pub channel_states : (Γ : Environment) (c : ℕ) (w : Width) (m : Meaning) → Γ c ≡ None → KeepsStates (with_name Γ c (Chan w None)) m
+    → KeepsStates Γ (over_channel c w m)
 channel_states Γ c w m fresh hm = record { state = channel_end Γ c w m fresh hm }
 
-guard_alone : (Γ : Environment) (w : Waiting) → waiting_kept Γ w ≡ true → KeepsStates Γ (alternatives (and_guard (truth true) w (at_once (λ Δ s. s)) no_guard))
+guard_alone : (Γ : Environment) (w : Waiting) → waiting_kept Γ w ≡ true
+    → KeepsStates Γ (alternatives (and_guard (truth true) w (at_once (λ Δ s. s)) no_guard))
 guard_alone Γ w h = alternatives_states Γ (and_guard (truth true) w (at_once (λ Δ s. s)) no_guard) (and_guard_states Γ (truth true) w (at_once (λ Δ s. s)) no_guard h (skip_states Γ) (no_guard_states Γ))
 
-declared_states : (Γ : Environment) (x : ℕ) (w : Width) (p : Tree) → (can_declare Γ x w && types_kept p (with_name Γ x (Var w))) ≡ true → (types_kept p (with_name Γ x (Var w)) ≡ true → KeepsStates (with_name Γ x (Var w)) (meaning p)) → KeepsStates Γ (over_variable x w (meaning p))
+declared_states : (Γ : Environment) (x : ℕ) (w : Width) (p : Tree) → (can_declare Γ x w && types_kept p (with_name Γ x (Var w))) ≡ true
+    → (types_kept p (with_name Γ x (Var w)) ≡ true → KeepsStates (with_name Γ x (Var w)) (meaning p))
+    → KeepsStates Γ (over_variable x w (meaning p))
 declared_states Γ x w p h ih = variable_states Γ x w (meaning p) (ih (and_parts (can_declare Γ x w) (types_kept p (with_name Γ x (Var w))) h).1)
 
-connected_states : (Γ : Environment) (x : ℕ) (w : Width) (p : Tree) → (can_declare Γ x w && types_kept p (with_name Γ x (Chan w None))) ≡ true → (types_kept p (with_name Γ x (Chan w None)) ≡ true → KeepsStates (with_name Γ x (Chan w None)) (meaning p)) → KeepsStates Γ (over_channel x w (meaning p))
+connected_states : (Γ : Environment) (x : ℕ) (w : Width) (p : Tree)
+    → (can_declare Γ x w && types_kept p (with_name Γ x (Chan w None))) ≡ true
+    → (types_kept p (with_name Γ x (Chan w None)) ≡ true → KeepsStates (with_name Γ x (Chan w None)) (meaning p))
+    → KeepsStates Γ (over_channel x w (meaning p))
 connected_states Γ x w p h ih = let k = and_parts (can_declare Γ x w) (types_kept p (with_name Γ x (Chan w None))) h in channel_states Γ x w (meaning p) (fresh_name Γ x w k.0) (ih k.1)
 
 -- ---- the whole language

@@ -2,7 +2,7 @@
 use Rattle.occ_base.specs.declared.width.Width.{Width}
 use Rattle.occ_laws.proofs.Facts.{agreed, and_three, at_itself, clash, false_not_true, if_false, if_true}
 use Rattle.occ_laws.proofs.Typing.{bits_of_type}
-use Rattle.occ_laws.specs.Substitution.{substituted, value_for}
+use Rattle.occ_laws.specs.Substitution.{NamesNone, substituted, value_for}
 use Rattle.occ_syntax.specs.Eval.{applied, bits_in, bits_of_exp, eval, keeps_width}
 use Rattle.occ_syntax.specs.Meaning.{assigned}
 use Rattle.occ_syntax.specs.Names.{is_in, names, some_names}
@@ -13,11 +13,13 @@ use Rattle.std.proofs.Common.{Bool, List, Some, [], ap, false, if◌then◌else�
 use Rattle.std.proofs.lemmas.Bool.{cases_Bool, ne_eqb, or_cases, or_from, or_left, or_parts, or_right}
 use Rattle.std.proofs.lemmas.Bool.Decides.{eqb_tells}
 
-pair_types : (Γ : Environment) (x : ℕ) (xs : List ℕ) (e : Exp) (es : List Exp) → pairs_kept Γ (x ∷ xs) (e ∷ es) ≡ true → ((w : Width) × (variable_width Γ x ≡ Some w) × (type_of Γ e ≡ Some w)) × (pairs_kept Γ xs es ≡ true)
+pair_types : (Γ : Environment) (x : ℕ) (xs : List ℕ) (e : Exp) (es : List Exp) → pairs_kept Γ (x ∷ xs) (e ∷ es) ≡ true
+    → ((w : Width) × (variable_width Γ x ≡ Some w) × (type_of Γ e ≡ Some w)) × (pairs_kept Γ xs es ≡ true)
 pair_types Γ x xs e es h =
     let k = and_three (agree (variable_width Γ x) (type_of Γ e)) (not (is_in xs x)) (pairs_kept Γ xs es) h in (agreed (variable_width Γ x) (type_of Γ e) k.0, k.2)
 
-pub value_type : (Γ : Environment) (xs : List ℕ) (es : List Exp) → pairs_kept Γ xs es ≡ true → (y : ℕ) → type_of Γ (value_for xs es y) ≡ variable_width Γ y
+pub value_type : (Γ : Environment) (xs : List ℕ) (es : List Exp) → pairs_kept Γ xs es ≡ true → (y : ℕ)
+    → type_of Γ (value_for xs es y) ≡ variable_width Γ y
 value_type Γ [] [] h y = refl
 value_type Γ [] (e ∷ es) h y = refl
 value_type Γ (x ∷ xs) [] h y = refl
@@ -28,7 +30,8 @@ value_type Γ (x ∷ xs) (e ∷ es) h y =
       | inr i ↦ ap (type_of Γ) (if_false (y == x) e (value_for xs es y) i.0) ∙ value_type Γ xs es k.1 y
     ]
 
-pub value_bits : (Γ : Environment) (xs : List ℕ) (es : List Exp) → pairs_kept Γ xs es ≡ true → (y : ℕ) → bits_of_exp Γ (value_for xs es y) ≡ bits_of_exp Γ (variable y)
+pub value_bits : (Γ : Environment) (xs : List ℕ) (es : List Exp) → pairs_kept Γ xs es ≡ true → (y : ℕ)
+    → bits_of_exp Γ (value_for xs es y) ≡ bits_of_exp Γ (variable y)
 value_bits Γ [] [] h y = refl
 value_bits Γ [] (e ∷ es) h y = refl
 value_bits Γ (x ∷ xs) [] h y = refl
@@ -47,7 +50,8 @@ value_assigned Γ s (x ∷ xs) (e ∷ es) y = elim (cases_Bool (y == x)) [
   | inr i ↦ ap (λ z. eval Γ z s) (if_false (y == x) e (value_for xs es y) i) ∙ (value_assigned Γ s xs es y ∙ sym (if_false (y == x) (eval Γ e s) (assigned xs es Γ s y) i))
 ]
 
-pub substituted_type : (Γ : Environment) (xs : List ℕ) (es : List Exp) → pairs_kept Γ xs es ≡ true → (e : Exp) → type_of Γ (substituted xs es e) ≡ type_of Γ e
+pub substituted_type : (Γ : Environment) (xs : List ℕ) (es : List Exp) → pairs_kept Γ xs es ≡ true → (e : Exp)
+    → type_of Γ (substituted xs es e) ≡ type_of Γ e
 substituted_type Γ xs es h (variable y) = value_type Γ xs es h y
 substituted_type Γ xs es h (numeral bits value) = refl
 substituted_type Γ xs es h (truth b) = refl
@@ -56,7 +60,8 @@ substituted_type Γ xs es h (complement e) = ap if_word (substituted_type Γ xs 
 substituted_type Γ xs es h (operation op left right) =
     ap (λ a. type_of_two op a (type_of Γ (substituted xs es right))) (substituted_type Γ xs es h left) ∙ ap (λ b. type_of_two op (type_of Γ left) b) (substituted_type Γ xs es h right)
 
-pub substituted_bits : (Γ : Environment) (xs : List ℕ) (es : List Exp) → pairs_kept Γ xs es ≡ true → (e : Exp) → bits_of_exp Γ (substituted xs es e) ≡ bits_of_exp Γ e
+pub substituted_bits : (Γ : Environment) (xs : List ℕ) (es : List Exp) → pairs_kept Γ xs es ≡ true → (e : Exp)
+    → bits_of_exp Γ (substituted xs es e) ≡ bits_of_exp Γ e
 substituted_bits Γ xs es h (variable y) = value_bits Γ xs es h y
 substituted_bits Γ xs es h (numeral bits value) = refl
 substituted_bits Γ xs es h (truth b) = refl
@@ -64,7 +69,8 @@ substituted_bits Γ xs es h (negation e) = refl
 substituted_bits Γ xs es h (complement e) = substituted_bits Γ xs es h e
 substituted_bits Γ xs es h (operation op left right) = ap (λ n. if keeps_width op then n else 1) (substituted_bits Γ xs es h left)
 
-pub substituted_value : (Γ : Environment) (s : Values) (xs : List ℕ) (es : List Exp) → pairs_kept Γ xs es ≡ true → (e : Exp) → eval Γ (substituted xs es e) s ≡ eval Γ e (assigned xs es Γ s)
+pub substituted_value : (Γ : Environment) (s : Values) (xs : List ℕ) (es : List Exp) → pairs_kept Γ xs es ≡ true → (e : Exp)
+    → eval Γ (substituted xs es e) s ≡ eval Γ e (assigned xs es Γ s)
 substituted_value Γ s xs es h (variable y) = value_assigned Γ s xs es y
 substituted_value Γ s xs es h (numeral bits value) = refl
 substituted_value Γ s xs es h (truth b) = refl
@@ -88,7 +94,8 @@ value_names (z ∷ xs) (e ∷ es) x y off k = choice (y == z) e (value_for xs es
     choice false a c h i = i
 
 -- a name that stands neither in the expression nor in those put in doesn't come in
-pub substituted_names : (xs : List ℕ) (es : List Exp) (x : ℕ) → some_names es x ≡ false → (e : Exp) → names e x ≡ false → names (substituted xs es e) x ≡ false
+pub substituted_names : (xs : List ℕ) (es : List Exp) (x : ℕ) → some_names es x ≡ false → (e : Exp) → names e x ≡ false
+    → names (substituted xs es e) x ≡ false
 substituted_names xs es x k (variable y) h = value_names xs es x y h k
 substituted_names xs es x k (numeral bits value) h = refl
 substituted_names xs es x k (truth b) h = refl
@@ -97,7 +104,8 @@ substituted_names xs es x k (complement e) h = substituted_names xs es x k e h
 substituted_names xs es x k (operation op left right) h =
     let j = or_parts (names left x) (names right x) h in or_from (names (substituted xs es left) x) (names (substituted xs es right) x) (substituted_names xs es x k left j.0) (substituted_names xs es x k right j.1)
 
-value_gone : (Γ : Environment) (xs : List ℕ) (es : List Exp) → pairs_kept Γ xs es ≡ true → (x : ℕ) → is_in xs x ≡ true → some_names es x ≡ false → (y : ℕ) → names (value_for xs es y) x ≡ false
+value_gone : (Γ : Environment) (xs : List ℕ) (es : List Exp) → pairs_kept Γ xs es ≡ true → (x : ℕ) → is_in xs x ≡ true
+    → some_names es x ≡ false → (y : ℕ) → names (value_for xs es y) x ≡ false
 value_gone Γ [] es t x h k y = false_not_true h
 value_gone Γ (z ∷ xs) [] t x h k y = false_not_true t
 value_gone Γ (z ∷ xs) (e ∷ es) t x h k y =
@@ -113,7 +121,8 @@ value_gone Γ (z ∷ xs) (e ∷ es) t x h k y =
     ]
 
 -- a variable that is replaced is gone where no expression put in names it
-pub substituted_gone : (Γ : Environment) (xs : List ℕ) (es : List Exp) → pairs_kept Γ xs es ≡ true → (x : ℕ) → is_in xs x ≡ true → some_names es x ≡ false → (e : Exp) → names (substituted xs es e) x ≡ false
+pub substituted_gone : (Γ : Environment) (xs : List ℕ) (es : List Exp) → pairs_kept Γ xs es ≡ true → (x : ℕ) → is_in xs x ≡ true
+    → some_names es x ≡ false → (e : Exp) → names (substituted xs es e) x ≡ false
 substituted_gone Γ xs es t x h k (variable y) = value_gone Γ xs es t x h k y
 substituted_gone Γ xs es t x h k (numeral bits value) = refl
 substituted_gone Γ xs es t x h k (truth b) = refl
@@ -121,10 +130,6 @@ substituted_gone Γ xs es t x h k (negation e) = substituted_gone Γ xs es t x h
 substituted_gone Γ xs es t x h k (complement e) = substituted_gone Γ xs es t x h k e
 substituted_gone Γ xs es t x h k (operation op left right) =
     or_from (names (substituted xs es left) x) (names (substituted xs es right) x) (substituted_gone Γ xs es t x h k left) (substituted_gone Γ xs es t x h k right)
-
--- no variable that is replaced is named
-abbrev pub NamesNone : Exp → List ℕ → Type 0
-NamesNone e xs = (x : ℕ) → names e x ≡ true → is_in xs x ≡ false
 
 value_same : (xs : List ℕ) (es : List Exp) (y : ℕ) → is_in xs y ≡ false → value_for xs es y ≡ variable y
 value_same [] es y h = refl

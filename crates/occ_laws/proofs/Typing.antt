@@ -21,7 +21,8 @@ some_if : {A : Type 0} (b : Bool) (o : Option A) (a : A) → (if b then o else N
 some_if true o a h = (refl, h)
 some_if false o a h = none_not_some h
 
-pub two_types : (op : Op) (a b : Option Width) (w : Width) → type_of_two op a b ≡ Some w → (v : Width) × (a ≡ Some v) × (b ≡ Some v) × (type_given op v ≡ Some w)
+pub two_types : (op : Op) (a b : Option Width) (w : Width) → type_of_two op a b ≡ Some w
+    → (v : Width) × (a ≡ Some v) × (b ≡ Some v) × (type_given op v ≡ Some w)
 two_types op (Some a) (Some b) w h = let k = some_if (same_width a b) (type_given op a) w h in (a, refl, ap Some (sym (same_widths a b k.0)), k.1)
 two_types op (Some a) None w h = none_not_some h
 two_types op None b w h = none_not_some h
@@ -84,7 +85,8 @@ below_at n v w h e = let P : Width → Type 0 = λ u. n < 2 ^ bits_of u in subst
 and_below : (k a b : ℕ) → a < 2 ^ k → bit_and a b < 2 ^ k
 and_below k a b h = omega (arith, and_le_l a b)
 
-applied_below : (op : Op) (v w : Width) (a b : ℕ) → type_given op v ≡ Some w → a < 2 ^ bits_of v → b < 2 ^ bits_of v → applied op (bits_of v) a b < 2 ^ bits_of w
+applied_below : (op : Op) (v w : Width) (a b : ℕ) → type_given op v ≡ Some w → a < 2 ^ bits_of v → b < 2 ^ bits_of v
+    → applied op (bits_of v) a b < 2 ^ bits_of w
 applied_below Plus v w a b h la lb = below_at ((a + b) % 2 ^ bits_of v) v w (mod-lt (a + b) (pow_pos (bits_of v))) (some_is (of_words_type v (Some v) w h))
 applied_below Minus v w a b h la lb = below_at ((a + (2 ^ bits_of v - b)) % 2 ^ bits_of v) v w (mod-lt (a + (2 ^ bits_of v - b)) (pow_pos (bits_of v))) (some_is (of_words_type v (Some v) w h))
 applied_below BitAnd v w a b h la lb = below_at (bit_and a b) v w (and_below (bits_of v) a b la) (some_is (of_words_type v (Some v) w h))
@@ -142,10 +144,12 @@ condition_type Γ e h = let k = agreed (type_of Γ e) (Some TruthValue) h in k.1
 pub condition_in_scope : (Γ : Environment) (x : ℕ) → variable_width Γ x ≡ None → (e : Exp) → is_condition Γ e ≡ true → names e x ≡ false
 condition_in_scope Γ x k e h = names_in_scope Γ x k e TruthValue (condition_type Γ e h)
 
-pub variable_in_scope : (Γ : Environment) (x y : ℕ) (o : Option Width) → agree o (variable_width Γ y) ≡ true → variable_width Γ x ≡ None → (x == y) ≡ false
+pub variable_in_scope : (Γ : Environment) (x y : ℕ) (o : Option Width) → agree o (variable_width Γ y) ≡ true → variable_width Γ x ≡ None
+    → (x == y) ≡ false
 variable_in_scope Γ x y o h k = let j = agreed o (variable_width Γ y) h in no_such_name Γ x y j.0 j.2 k
 
-pub pairs_in_scope : (Γ : Environment) (x : ℕ) → variable_width Γ x ≡ None → (xs : List ℕ) (es : List Exp) → pairs_kept Γ xs es ≡ true → (is_in xs x ≡ false) × (some_names es x ≡ false)
+pub pairs_in_scope : (Γ : Environment) (x : ℕ) → variable_width Γ x ≡ None → (xs : List ℕ) (es : List Exp) → pairs_kept Γ xs es ≡ true
+    → (is_in xs x ≡ false) × (some_names es x ≡ false)
 pairs_in_scope Γ x k [] [] h = (refl, refl)
 pairs_in_scope Γ x k (y ∷ xs) (e ∷ es) h =
     let j = and_three (agree (variable_width Γ y) (type_of Γ e)) (not (is_in xs y)) (pairs_kept Γ xs es) h in
@@ -155,8 +159,10 @@ pairs_in_scope Γ x k (y ∷ xs) (e ∷ es) h =
 pairs_in_scope Γ x k [] (e ∷ es) h = false_not_true h
 pairs_in_scope Γ x k (y ∷ xs) [] h = false_not_true h
 
-pub input_types : (Γ : Environment) (c x : ℕ) → input_kept Γ c x ≡ true → (allows (Γ c) Input ≡ true) × ((w : Width) × (channel_width Γ c ≡ Some w) × (variable_width Γ x ≡ Some w))
+pub input_types : (Γ : Environment) (c x : ℕ) → input_kept Γ c x ≡ true
+    → (allows (Γ c) Input ≡ true) × ((w : Width) × (channel_width Γ c ≡ Some w) × (variable_width Γ x ≡ Some w))
 input_types Γ c x h = let k = and_parts (allows (Γ c) Input) (agree (channel_width Γ c) (variable_width Γ x)) h in (k.0, agreed (channel_width Γ c) (variable_width Γ x) k.1)
 
-pub output_types : (Γ : Environment) (c : ℕ) (e : Exp) → output_kept Γ c e ≡ true → (allows (Γ c) Output ≡ true) × ((w : Width) × (channel_width Γ c ≡ Some w) × (type_of Γ e ≡ Some w))
+pub output_types : (Γ : Environment) (c : ℕ) (e : Exp) → output_kept Γ c e ≡ true
+    → (allows (Γ c) Output ≡ true) × ((w : Width) × (channel_width Γ c ≡ Some w) × (type_of Γ e ≡ Some w))
 output_types Γ c e h = let k = and_parts (allows (Γ c) Output) (agree (channel_width Γ c) (type_of Γ e)) h in (k.0, agreed (channel_width Γ c) (type_of Γ e) k.1)

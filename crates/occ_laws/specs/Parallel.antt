@@ -3,6 +3,12 @@ use Rattle.occ_syntax.specs.Names.{written}
 use Rattle.occ_syntax.specs.Tree.{Tree, Trees, and_tree, no_tree, par}
 use Rattle.std.specs.Prelude.{false, ℕ, ◌≡◌, ◌⊎◌}
 
+abbrev pub one : Tree → Trees
+one p = and_tree p no_tree
+
+abbrev pub two : Tree → Tree → Trees
+two p q = and_tree p (one q)
+
 -- the parts of two lists in one
 abbrev pub all_of : Trees → Trees → Trees
 all_of no_tree qs = qs

@@ -1,13 +1,13 @@
 //! PAR: its parts in other groups and orders, and SKIP and STOP among them.
 
-ghost use Rattle.occ_laws.specs.Parallel.{EachWritesApart, Reordered, WriteApart, all_of};
-ghost use Rattle.occ_syntax.specs.Names.{free, is_in};
+ghost use Rattle.occ_laws.specs.Foundation.{IsFreeOf};
+ghost use Rattle.occ_laws.specs.Parallel.{EachWritesApart, Reordered, WriteApart, all_of, two};
 ghost use Rattle.occ_syntax.specs.Same.{SAME};
 ghost use Rattle.occ_syntax.specs.Scopes.{Environment};
-ghost use Rattle.occ_syntax.specs.Tree.{Exp, Tree, Trees, and_tree, assign, no_tree, par, seq, skip, stop};
+ghost use Rattle.occ_syntax.specs.Tree.{Exp, Tree, Trees, and_tree, assign, par, seq, skip, stop};
 ghost use Rattle.occ_syntax.specs.Types.{all_types_kept, types_kept};
 ghost use Rattle.occ_syntax.specs.Usage.{AreSeparate, Keeps};
-ghost use Rattle.std.specs.Prelude.{List, false, true, ℕ, ◌≡◌};
+ghost use Rattle.std.specs.Prelude.{List, true, ℕ, ◌≡◌};
 
 /// A PAR among the parts of a PAR gives its parts in its place. It holds of all parts.
 pub fn par_in_par_is_flat()
@@ -16,7 +16,7 @@ pub fn par_in_par_is_flat()
 
 /// PAR of two parts may be grouped either way.
 pub fn par_is_associative()
-    ensures { (Γ : Environment) (p q r : Tree) → SAME Γ (par (and_tree (par (and_tree p (and_tree q no_tree))) (and_tree r no_tree))) (par (and_tree p (and_tree (par (and_tree q (and_tree r no_tree))) no_tree))) }
+    ensures { (Γ : Environment) (p q r : Tree) → SAME Γ (par (two (par (two p q)) r)) (par (two p (par (two q r)))) }
 {}
 
 /// SKIP among the parts of a PAR may be left out. It holds of all parts.
@@ -26,17 +26,20 @@ pub fn skip_in_par_is_nothing()
 
 /// A part beside STOP is that part followed by STOP.
 pub fn par_with_stop_stops_at_its_end()
-    ensures { (Γ : Environment) (p : Tree) → SAME Γ (par (and_tree p (and_tree stop no_tree))) (seq (and_tree p (and_tree stop no_tree))) }
+    ensures { (Γ : Environment) (p : Tree) → SAME Γ (par (two p stop)) (seq (two p stop)) }
 {}
 
 /// STOP beside a part is that part followed by STOP.
 pub fn stop_with_a_part_stops_at_its_end()
-    ensures { (Γ : Environment) (p : Tree) → SAME Γ (par (and_tree stop (and_tree p no_tree))) (seq (and_tree p (and_tree stop no_tree))) }
+    ensures { (Γ : Environment) (p : Tree) → SAME Γ (par (two stop p)) (seq (two p stop)) }
 {}
 
-/// An assignment at the beginning of one part may stand in front of the PAR, where the other part names none of its variables.
+/// An assignment at the beginning of one part may stand in front of the PAR, where the other part names none of its
+/// variables.
 pub fn assignments_may_leave_a_par()
-    ensures { (Γ : Environment) (xs : List ℕ) (es : List Exp) (ps : Trees) (q : Tree) → types_kept q Γ ≡ true → ((x : ℕ) → is_in xs x ≡ true → free q x ≡ false) → SAME Γ (par (and_tree (seq (and_tree (assign xs es) ps)) (and_tree q no_tree))) (seq (and_tree (assign xs es) (and_tree (par (and_tree (seq ps) (and_tree q no_tree))) no_tree))) }
+    ensures { (Γ : Environment) (xs : List ℕ) (es : List Exp) (ps : Trees) (q : Tree) → types_kept q Γ ≡ true →
+        IsFreeOf q xs →
+        SAME Γ (par (two (seq (and_tree (assign xs es) ps)) q)) (seq (two (assign xs es) (par (two (seq ps) q)))) }
 {}
 
 /// Parts that keep the usage rule write no variable in common.
@@ -46,7 +49,7 @@ pub fn separate_parts_write_apart()
 
 /// Two well-typed parts that write no variable in common may change places.
 pub fn two_parts_may_change_places()
-    ensures { (Γ : Environment) (p q : Tree) → types_kept p Γ ≡ true → types_kept q Γ ≡ true → WriteApart p q → SAME Γ (par (and_tree p (and_tree q no_tree))) (par (and_tree q (and_tree p no_tree))) }
+    ensures { (Γ : Environment) (p q : Tree) → types_kept p Γ ≡ true → types_kept q Γ ≡ true → WriteApart p q → SAME Γ (par (two p q)) (par (two q p)) }
 {}
 
 /// Well-typed parts that write no variable in common may stand in any order.

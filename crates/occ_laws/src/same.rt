@@ -1,11 +1,10 @@
 //! SAME is an equivalence, and is kept in every context.
 
-ghost use Rattle.occ_base.specs.declared.event.Event.{Event};
 ghost use Rattle.occ_base.specs.declared.width.Width.{Width};
 ghost use Rattle.occ_laws.specs.Context.{EachBranchSame, EachChoiceSame, EachSame, environment_at, part_at, put};
-ghost use Rattle.occ_syntax.specs.Meaning.{ends, fails};
+ghost use Rattle.occ_laws.specs.Foundation.{SameOverInterface};
 ghost use Rattle.occ_syntax.specs.Same.{HasTrace, SAME};
-ghost use Rattle.occ_syntax.specs.Scopes.{Environment, EventSet, IsState, Trace, Values, in_interface, with_name};
+ghost use Rattle.occ_syntax.specs.Scopes.{Environment, IsState, Trace, Values, with_name};
 ghost use Rattle.occ_syntax.specs.Tree.{Branches, Cases, Tree, Trees, alt, connect, declare, par, select, seq};
 ghost use Rattle.occ_syntax.specs.Types.{all_types_kept, branches_kept, types_kept};
 ghost use Rattle.occ_syntax.specs.declared.scope.Kind.TheVariants.{Chan, Var};
@@ -31,9 +30,10 @@ pub fn same_parts_have_the_same_traces()
     ensures { (Γ : Environment) (p q : Tree) → SAME Γ p q → (s : Values) (t : Trace) → IsState Γ s → HasTrace Γ p s t ↔ HasTrace Γ q s t }
 {}
 
-/// Two well-typed parts are the same where they have the same ends, and the same failures with sets of events of the interface.
+/// Two well-typed parts are the same where they have the same ends, and the same failures with sets of events of
+/// the interface.
 pub fn same_over_the_interface()
-    ensures { (Γ : Environment) (p q : Tree) → types_kept p Γ ≡ true → types_kept q Γ ≡ true → ((s : Values) (t : Trace) (X : EventSet) → IsState Γ s → ((e : Event) → X e ≡ true → in_interface Γ e ≡ true) → fails Γ p s t X ↔ fails Γ q s t X) → ((s : Values) (t : Trace) (s' : Values) → IsState Γ s → ends Γ p s t s' ↔ ends Γ q s t s') → SAME Γ p q }
+    ensures { (Γ : Environment) (p q : Tree) → types_kept p Γ ≡ true → types_kept q Γ ≡ true → SameOverInterface Γ p q → SAME Γ p q }
 {}
 
 /// SEQ of parts that are the same one by one. The parts on one side are well typed.
@@ -66,17 +66,21 @@ pub fn same_under_a_channel()
     ensures { (Γ : Environment) (c : ℕ) (w : Width) (p q : Tree) → SAME (with_name Γ c (Chan w None)) p q → SAME Γ (connect c w p) (connect c w q) }
 {}
 
-/// Where the part at a path is the same as another in the environment there, the whole is the same with that one put in.
+/// Where the part at a path is the same as another in the environment there, the whole is the same with that one
+/// put in.
 pub fn same_parts_may_be_put_in()
-    ensures { (path : List ℕ) (Γ : Environment) (p q r : Tree) → types_kept p Γ ≡ true → part_at path p ≡ Some q → SAME (environment_at path Γ p) q r → SAME Γ p (put path p r) }
+    ensures { (path : List ℕ) (Γ : Environment) (p q r : Tree) → types_kept p Γ ≡ true → part_at path p ≡ Some q →
+        SAME (environment_at path Γ p) q r → SAME Γ p (put path p r) }
 {}
 
 /// After a part is put in at a path, it is the part there, in the environment that was there before.
 pub fn what_is_put_in_is_there()
-    ensures { (path : List ℕ) (Γ : Environment) (p q r : Tree) → part_at path p ≡ Some q → (part_at path (put path p r) ≡ Some r) × (environment_at path Γ (put path p r) ≡ environment_at path Γ p) }
+    ensures { (path : List ℕ) (Γ : Environment) (p q r : Tree) → part_at path p ≡ Some q →
+        (part_at path (put path p r) ≡ Some r) × (environment_at path Γ (put path p r) ≡ environment_at path Γ p) }
 {}
 
 /// A part that is well typed in the environment at a path may be put in there: the whole stays well typed.
 pub fn typed_parts_may_be_put_in()
-    ensures { (path : List ℕ) (Γ : Environment) (p q r : Tree) → types_kept p Γ ≡ true → part_at path p ≡ Some q → types_kept r (environment_at path Γ p) ≡ true → types_kept (put path p r) Γ ≡ true }
+    ensures { (path : List ℕ) (Γ : Environment) (p q r : Tree) → types_kept p Γ ≡ true → part_at path p ≡ Some q →
+        types_kept r (environment_at path Γ p) ≡ true → types_kept (put path p r) Γ ≡ true }
 {}

@@ -1,9 +1,9 @@
 //! Which names a part has, and which don't matter to it.
 
 ghost use Rattle.occ_base.specs.declared.event.Dir.{Dir};
-ghost use Rattle.occ_laws.specs.Foundation.{AgreeOff, IsNoVariable, with_result};
+ghost use Rattle.occ_laws.specs.Foundation.{AgreeOff, Does, IsNoVariable, with_result};
 ghost use Rattle.occ_laws.specs.Rename.{stands};
-ghost use Rattle.occ_syntax.specs.Meaning.{Outcome, meaning};
+ghost use Rattle.occ_syntax.specs.Meaning.{Outcome};
 ghost use Rattle.occ_syntax.specs.Names.{free, uses_end, written};
 ghost use Rattle.occ_syntax.specs.Same.{SAME};
 ghost use Rattle.occ_syntax.specs.Scopes.{Environment, Trace, Values, allows, variable_width, with_value};
@@ -41,17 +41,24 @@ pub fn what_stands_nowhere_is_not_free()
     ensures { (p : Tree) (x : ℕ) → stands p x ≡ false → free p x ≡ false }
 {}
 
-/// A part does the same in two environments that differ at a name alone which isn't free in it: whether that name is in scope, and as what, doesn't matter.
+/// A part does the same in two environments that differ at a name alone which isn't free in it: whether that name
+/// is in scope, and as what, doesn't matter. The part is well typed in some environment; the law holds in each.
 pub fn other_names_in_scope_do_not_matter()
-    ensures { (Θ : Environment) (p : Tree) → types_kept p Θ ≡ true → (x : ℕ) → free p x ≡ false → (Γ Δ : Environment) → AgreeOff x Γ Δ → (s : Values) (t : Trace) (o : Outcome) → (meaning p).does Γ s t o ↔ (meaning p).does Δ s t o }
+    ensures { (Θ : Environment) (p : Tree) → types_kept p Θ ≡ true → (x : ℕ) → free p x ≡ false → (Γ Δ : Environment) →
+        AgreeOff x Γ Δ → (s : Values) (t : Trace) (o : Outcome) → Does Γ p s t o ↔ Does Δ p s t o }
 {}
 
-/// A part does the same whatever a name holds that is no variable of it, and leaves that value as it is.
+/// A part does the same whatever a name holds that is no variable of it, and leaves that value as it is. The part
+/// is well typed in some environment; the law holds in each.
 pub fn other_values_do_not_matter()
-    ensures { (Θ : Environment) (p : Tree) → types_kept p Θ ≡ true → (x : ℕ) → IsNoVariable Θ p x → (Γ : Environment) (s : Values) (v : ℕ) (t : Trace) (o : Outcome) → (meaning p).does Γ s t o → (meaning p).does Γ (with_value s x v) t (with_result x v o) }
+    ensures { (Θ : Environment) (p : Tree) → types_kept p Θ ≡ true → (x : ℕ) → IsNoVariable Θ p x →
+        (Γ : Environment) (s : Values) (v : ℕ) (t : Trace) (o : Outcome) → Does Γ p s t o →
+        Does Γ p (with_value s x v) t (with_result x v o) }
 {}
 
-/// Whether two parts are the same doesn't depend on a name that is free in neither: on whether it is in scope, and as what.
+/// Whether two parts are the same doesn't depend on a name that is free in neither: on whether it is in scope, and
+/// as what. Both are well typed in some environment.
 pub fn same_whatever_other_names_are_in_scope()
-    ensures { (p q : Tree) (Θ Ψ : Environment) → types_kept p Θ ≡ true → types_kept q Ψ ≡ true → (x : ℕ) → free p x ≡ false → free q x ≡ false → (Γ Δ : Environment) → AgreeOff x Γ Δ → SAME Γ p q → SAME Δ p q }
+    ensures { (p q : Tree) (Θ Ψ : Environment) → types_kept p Θ ≡ true → types_kept q Ψ ≡ true → (x : ℕ) → free p x ≡ false →
+        free q x ≡ false → (Γ Δ : Environment) → AgreeOff x Γ Δ → SAME Γ p q → SAME Δ p q }
 {}

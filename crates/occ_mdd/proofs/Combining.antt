@@ -1,4 +1,4 @@
-use Rattle.std.proofs.Common.{◌≡◌, ◌⊎◌, ℕ, ◌+◌, ◌-◌, ◌<◌, ◌≤◌, ◌==◌, List, length, max, Option, Some, slice_get, cond, refl, sym, ap, ◌∙◌, subst, ⊎_elim, arith, IfSome}
+use Rattle.std.proofs.Common.{◌≡◌, ℕ, ◌<◌, ◌≤◌, List, length, max, Option, Some, None, slice_get, cond, sym, ap, ◌∙◌, subst, ⊎_elim, arith, IfSome}
 use Rattle.std.specs.Int.{bit_at}
 use Rattle.std.proofs.lemmas.Option.{IfSome_then, slice_get_within}
 use Rattle.occ_diagram.proofs.Bits.{bit_cases, is_one, is_zero}
@@ -145,3 +145,6 @@ joined_later ns₀ ns₁ ns₂ ns₃ k₁ k₂ k₃ g₀ g₁ g₂ R S later a b
     (subst (λ n. bit < max n (depth_of ns₃ b)) (sym (depth-keeps ns₀ ns₃ k a ha)) (subst (λ n. bit < max (depth_of ns₀ a) n) (sym (depth-keeps ns₀ ns₃ k b hb)) (subst (λ n. bit < n) e top)))
     (part-keeps ns₀ ns₃ k g₀ a₀ a bit 0 ha pa₀) (part-keeps ns₀ ns₃ k g₀ b₀ b bit 0 hb pb₀) (part-keeps ns₀ ns₃ k g₀ a₁ a bit 1 ha pa₁) (part-keeps ns₀ ns₃ k g₀ b₁ b bit 1 hb pb₁)
     (combined_later ns₁ ns₃ (keeps_trans ns₁ ns₂ ns₃ k₂ k₃) g₁ R S later a₀ b₀ low lows) (combined_later ns₂ ns₃ k₃ g₂ S S (λ x y z h. h) a₁ b₁ high highs) split
+
+pub no_combined : {L : Type 0} (ns : List (Node (Option L))) (R : Option L → Option L → Option L → Type 0) (memo : Memo) → ((k : Call) → recalled memo k ≡ None) → AreCombined ns R memo
+no_combined ns R memo none call r e = let both : None ≡ Some r = sym (none call) ∙ e in cc

@@ -1,10 +1,10 @@
-use Rattle.std.proofs.Common.{◌≡◌, ◌⊎◌, ℕ, ◌+◌, ◌<◌, ◌≤◌, ◌%◌, ◌^◌, List, length, Option, Some, None, slice_get, unwrap_or, refl, sym, ap, ◌∙◌, subst, arith, IfSome}
+use Rattle.std.proofs.Common.{◌≡◌, ℕ, ◌<◌, ◌≤◌, ◌%◌, ◌^◌, Bool, true, false, cond, List, length, Option, Some, None, slice_get, unwrap_or, refl, sym, ap, ◌∙◌, subst, arith, IfSome}
 use Rattle.std.specs.Int.{bit_at}
 use Rattle.std.proofs.lemmas.Nat.{div-add-mod'}
 use Rattle.std.proofs.lemmas.Nat.Bits.{bit_at_cat_low}
-use Rattle.std.proofs.lemmas.Option.{same_Some, slice_get_within}
+use Rattle.std.proofs.lemmas.Option.{slice_get_within}
 use Rattle.occ_diagram.proofs.DiagramLemmas.{depth-le, end-in, end-leaf, end_terminal, one_terminal, label-leaf, end_agree, canonical}
-use Rattle.occ_diagram.proofs.Growth.{end-keeps, label-keeps, known-keeps}
+use Rattle.occ_diagram.proofs.Growth.{end-keeps, label-keeps}
 use Rattle.occ_diagram.specs.Assignment.{turned}
 use Rattle.occ_diagram.specs.Diagram.{depth_of, end_of, label_of, IsDiagram, IsTurned}
 use Rattle.occ_diagram.specs.Diagram.{Keeps as KeepsNodes}
@@ -14,6 +14,11 @@ use Rattle.occ_diagram.specs.declared.node.Node.TheVariants.{Leaf}
 use Rattle.occ_mdd.specs.Value.{value_at}
 use Rattle.occ_mdd.specs.Combined.{PassAt, IsCombined}
 use Rattle.occ_mdd.specs.Maps.{maps_of, IsKnown, value, Keeps, IsMap, HasLabels, IsRelated, IsCanonical}
+use Rattle.occ_dd.specs.Store.{has}
+use Rattle.occ_dd.specs.Store.{IsKnown as IsSetKnown, Keeps as KeepsSets}
+use Rattle.occ_dd.specs.declared.set.SetId.{SetId}
+use Rattle.occ_dd.specs.declared.store.Store.{Store}
+use Rattle.occ_mdd.specs.Chosen.{IsChosen}
 use Rattle.occ_mdd.specs.declared.map.MapId.{MapId}
 use Rattle.occ_mdd.specs.declared.maps.Maps.{Maps}
 
@@ -75,7 +80,7 @@ module _ {L : Type 0} {e : _} {h : _} (m : Maps L e h) where
   canonical_maps = record {
     one = λ a b ha hb same.
         let e = one_function (nodes_of m.table) m.table.diagram a.0 b.0 (known_size a ha) (known_size b hb) (λ x h. sym (value_is a x) ∙ same x h ∙ value_is b x) in
-        λ i. record { 0 = e i; };
+        λ i. record { 0 = e i };
   }
 
   pub pass_at : (a : MapId) (P : L → Type 0) → HasLabels m a P → PassAt (nodes_of m.table) a.0 P
@@ -90,26 +95,40 @@ module _ {L : Type 0} {e : _} {h : _} (old new : Maps L e h) (k : KeepsNodes (no
 
   pub keeps_maps : Keeps old new
   unfolding maps_of
-  keeps_maps = record { more = k.more; same = λ a x h. value_is new a x ∙ old_value a x h; }
+  keeps_maps = record { more = k.more; same = λ a x h. value_is new a x ∙ old_value a x h }
 
-  pub turned_map : (a : MapId) (bit r : ℕ) → IsKnown old a → IsTurned (nodes_of new.table) a.0 bit r → IsMap new (record { 0 = r; }) (λ x. value old a (turned x bit))
+  pub turned_map : (a : MapId) (bit r : ℕ) → IsKnown old a → IsTurned (nodes_of new.table) a.0 bit r → IsMap new (record { 0 = r }) (λ x. value old a (turned x bit))
   turned_map a bit r ha is = record {
-    known = size_known new (record { 0 = r; }) is.known;
-    values = λ x. value_is new (record { 0 = r; }) x ∙ value-ends (nodes_of new.table) r a.0 x (turned x bit) (is.ends x) ∙ old_value a (turned x bit) ha;
+    known = size_known new (record { 0 = r }) is.known;
+    values = λ x. value_is new (record { 0 = r }) x ∙ value-ends (nodes_of new.table) r a.0 x (turned x bit) (is.ends x) ∙ old_value a (turned x bit) ha;
   }
 
-  pub related_map : (a b : MapId) (r : ℕ) (R : Option L → Option L → Option L → Type 0) → IsKnown old a → IsKnown old b → IsCombined (nodes_of new.table) R a.0 b.0 r → IsRelated old new a b (record { 0 = r; }) R
+  pub related_map : (a b : MapId) (r : ℕ) (R : Option L → Option L → Option L → Type 0) → IsKnown old a → IsKnown old b → IsCombined (nodes_of new.table) R a.0 b.0 r → IsRelated old new a b (record { 0 = r }) R
   related_map a b r R ha hb is = record {
-    known = size_known new (record { 0 = r; }) is.known;
-    related = λ x. subst (λ v. R v (value old b x) (value new (record { 0 = r; }) x)) (old_value a x ha)
-        (subst (λ v. R (value_at (nodes_of new.table) a.0 x) v (value new (record { 0 = r; }) x)) (old_value b x hb)
-        (subst (λ v. R (value_at (nodes_of new.table) a.0 x) (value_at (nodes_of new.table) b.0 x) v) (sym (value_is new (record { 0 = r; }) x)) (is.related x)));
+    known = size_known new (record { 0 = r }) is.known;
+    related = λ x. subst (λ v. R v (value old b x) (value new (record { 0 = r }) x)) (old_value a x ha)
+        (subst (λ v. R (value_at (nodes_of new.table) a.0 x) v (value new (record { 0 = r }) x)) (old_value b x hb)
+        (subst (λ v. R (value_at (nodes_of new.table) a.0 x) (value_at (nodes_of new.table) b.0 x) v) (sym (value_is new (record { 0 = r }) x)) (is.related x)));
   }
 
-pub constant_map : {L : Type 0} {e : _} {h : _} (m : Maps L e h) (r : ℕ) (v : Option L) → slice_get (nodes_of m.table) r ≡ Some (Leaf v) → IsMap m (record { 0 = r; }) (λ x. v)
+module _ {L : Type 0} {e : _} {h : _} (old new : Maps L e h) (k : KeepsNodes (nodes_of old.table) (nodes_of new.table)) (s t : Store) (l : KeepsSets s t) where
+  chosen_value : (v : Bool) (i j r x : ℕ) → end_of (nodes_of new.table) r x ≡ cond v (end_of (nodes_of new.table) i x) (end_of (nodes_of new.table) j x) → value_at (nodes_of new.table) r x ≡ cond v (value_at (nodes_of new.table) i x) (value_at (nodes_of new.table) j x)
+  chosen_value true i j r x e = value-ends (nodes_of new.table) r i x x e
+  chosen_value false i j r x e = value-ends (nodes_of new.table) r j x x e
+
+  pub chosen_map : (set : SetId) (a b : MapId) (r : ℕ) → IsSetKnown s set → IsKnown old a → IsKnown old b → IsChosen (nodes_of new.table) t set.0 a.0 b.0 r
+      → IsMap new (record { 0 = r }) (λ x. cond (has s set x) (value old a x) (value old b x))
+  chosen_map set a b r hs ha hb is = record {
+    known = size_known new (record { 0 = r }) is.known;
+    values = λ x. value_is new (record { 0 = r }) x ∙ chosen_value (has t set x) a.0 b.0 r x (is.ends x)
+        ∙ ap (λ v. cond v (value_at (nodes_of new.table) a.0 x) (value_at (nodes_of new.table) b.0 x)) (l.same set x hs)
+        ∙ ap (λ o. cond (has s set x) o (value_at (nodes_of new.table) b.0 x)) (old_value old new k a x ha) ∙ ap (λ o. cond (has s set x) (value old a x) o) (old_value old new k b x hb);
+  }
+
+pub constant_map : {L : Type 0} {e : _} {h : _} (m : Maps L e h) (r : ℕ) (v : Option L) → slice_get (nodes_of m.table) r ≡ Some (Leaf v) → IsMap m (record { 0 = r }) (λ x. v)
 constant_map m r v e = record {
-  known = size_known m (record { 0 = r; }) (slice_get_within (nodes_of m.table) r _ e);
-  values = λ x. value_is m (record { 0 = r; }) x ∙ value-leaf (nodes_of m.table) m.table.diagram r x v e;
+  known = size_known m (record { 0 = r }) (slice_get_within (nodes_of m.table) r _ e);
+  values = λ x. value_is m (record { 0 = r }) x ∙ value-leaf (nodes_of m.table) m.table.diagram r x v e;
 }
 
 pub no_maps : {L : Type 0} {e : _} {h : _} (m : Maps L e h) → length (nodes_of m.table) ≡ 0 → maps_of m ≡ 0

@@ -1,3 +1,4 @@
+pub mod Chosen
 pub mod Combined
 pub mod Maps
 pub mod Value

@@ -9,7 +9,9 @@ use occ_diagram::Label;
 /// What passes the test or stands in the relation does so at every later state.
 pub trait Both<L: Label> {
     ghost accepts: { Self → L → Type 0 };
+
     ghost relates: { Self → Option L → Option L → Option L → Type 0 };
+
     ghost leads: { Self → Self → Type 0 };
 
     /// The label for two labels, which pass the test. After want of memory too, the state is a later one.
@@ -20,7 +22,10 @@ pub trait Both<L: Label> {
         ensures relates { IfOk result (λ r. relates self.new a b r) };
 
     ghost leads_refl: { (f : Self) → leads f f };
+
     ghost leads_trans: { (f g h : Self) → leads f g → leads g h → leads f h };
+
     ghost accepts_later: { (f g : Self) (x : L) → leads f g → accepts f x → accepts g x };
+
     ghost relates_later: { (f g : Self) (x y z : Option L) → leads f g → relates f x y z → relates g x y z };
 }

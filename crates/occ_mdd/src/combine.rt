@@ -57,7 +57,11 @@ pub fn combine<L: Label, F: Both<L>>(
     ensures right { AreCombined (nodes_of table.new) (F.relates f.new) memo.new }
     ensures combined { IfOk result (λ r. IsCombined (nodes_of table.new) (F.relates f.new) a b r) }
 {
-    let call = Call { first: a, second: b, third: 0 };
+    let call = Call {
+        first: a,
+        second: b,
+        third: 0,
+    };
     if let Some(combined) = memo.get(call) {
         return Ok(combined);
     }

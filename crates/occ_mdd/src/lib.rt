@@ -2,10 +2,13 @@
 #![tactic(auto)]
 
 mod both;
+mod choose;
 mod combine;
 mod law;
 mod map;
 mod maps;
+#[cfg(test)]
+mod tests;
 
 pub use both::Both;
 pub use law::maps_have_one_number;

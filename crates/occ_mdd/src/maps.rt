@@ -1,9 +1,13 @@
 ghost use Rattle.std.specs.Prelude.{◌≡◌, ℕ, ◌<◌, ◌^◌, IfOk, if◌then◌else◌};
 ghost use Rattle.occ_diagram.specs.Assignment.{turned};
+ghost use Rattle.occ_dd.specs.Store.{has};
+ghost use Rattle.occ_dd.specs.Store.{IsKnown as IsSetKnown, Keeps as KeepsSets};
 
+use crate::choose::choose;
 use crate::combine::combine;
 use crate::{Both, MapId};
 use occ_base::Memory;
+use occ_dd::{SetId, Store};
 use occ_diagram::{Label, Memo, Table};
 use std::alloc::Global;
 use std::hash::Hash;
@@ -58,6 +62,26 @@ impl<L: Label> Maps<L> {
         ensures map { IfOk result (λ r. IsMap self.new r (λ x. value self.old a (turned x bit))) }
     {
         Ok(MapId(self.table.flip(a.0, bit)?))
+    }
+
+    /// The function that is `a` on the set and `b` elsewhere.
+    pub fn ite(
+        &mut self,
+        store: &mut Store,
+        set: SetId,
+        a: MapId,
+        b: MapId,
+    ) -> Result<MapId, Memory>
+        requires set { IsSetKnown store.old set }
+        requires a { IsKnown self.old a }
+        requires b { IsKnown self.old b }
+        ensures sets { KeepsSets store.old store.new }
+        ensures keeps { Keeps self.old self.new }
+        ensures map { IfOk result (λ r. IsMap self.new r
+            (λ x. if has store.old set x then value self.old a x else value self.old b x)) }
+    {
+        let mut memo = Memo::new(self.alloc);
+        Ok(MapId(choose(&mut self.table, store, set, a.0, b.0, &mut memo)?))
     }
 
     /// The function whose value at each assignment is what `f` gives for the values of the two.

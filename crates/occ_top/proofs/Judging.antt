@@ -2,8 +2,8 @@
 use Rattle.std.proofs.Common.{◌≡◌, ◌≢◌, ℕ, List, [], Option, Some, None, Result, Ok, Err, IfOk, refl, sym, subst}
 use Rattle.occ_base.specs.declared.memory.Memory.{Memory}
 use Rattle.occ_syntax.specs.declared.scope.Program.{Program}
-use Rattle.stub_parse.specs.declared.ParseFault.{ParseFault}
-use Rattle.stub_parse.specs.declared.ParseFault.TheVariants.{Memory as NoMemory}
+use Rattle.occ_parse.specs.declared.fault.ParseFault.{ParseFault}
+use Rattle.occ_parse.specs.declared.fault.ParseFault.TheVariants.{Memory as NoMemory}
 use Rattle.occ_behaviour.specs.declared.behaviour.Side.TheVariants.{First, Second}
 use Rattle.occ_top.specs.declared.answer.Answer.{Answer}
 use Rattle.occ_top.specs.declared.answer.Answer.TheVariants.{Usage, Refused, InterfacesDiffer, Compared}
@@ -13,10 +13,10 @@ use Rattle.occ_top.specs.Files.{IsLoaded}
 use Rattle.occ_top.specs.Answers.{IsAccepted, IsRefused, too_long, no_form, RefusesFirst, RefusesSecond, AcceptsBoth, DifferInInterface, AreCompared, Settles}
 use Rattle.occ_top.specs.Judged.{IsReadFrom, IsRefusedFrom, IsComparison, IsKept}
 
-refused_file : (l : Loaded) (fault : ParseFault) (file : Option (List ℕ)) → IsRefusedFrom l fault → IsLoaded file l → IsRefused file fault
-refused_file (Bytes text) fault file r h = no_form text.items h.0 h.1 r.1 r.0
-refused_file TooLong fault None r h = absurd h
-refused_file TooLong fault (Some bytes) r h = too_long bytes refl h r
+refused_file : (l : Loaded) (old : List (List ℕ)) (fault : ParseFault) (file : Option (List ℕ)) → IsRefusedFrom l old fault → IsLoaded file l → IsRefused file old fault
+refused_file (Bytes text) old fault file r h = no_form text.items h.0 h.1 r.1 r.0
+refused_file TooLong old fault None r h = absurd h
+refused_file TooLong old fault (Some bytes) r h = too_long bytes refl h r
 
 there : (l : Loaded) (file : Option (List ℕ)) → IsLoaded file l → (bytes : List ℕ) × (file ≡ Some bytes)
 there (Bytes text) file h = (text.items, h.0)
@@ -36,18 +36,18 @@ abbrev SettlesAll : Loaded → Loaded → Answer → Type 0
 SettlesAll first second answer = (one two : Option (List ℕ)) → IsLoaded one first → IsLoaded two second → Settles one two answer
 
 pub refuse_first : (r : Result Answer Memory) (fault : ParseFault) (first second : Loaded) → IfOk r (λ a. a ≡ Refused First fault) → IfOk r (λ _. fault ≢ NoMemory)
-    → (fault ≢ NoMemory → IsRefusedFrom first fault) → IfOk r (SettlesAll first second)
+    → (fault ≢ NoMemory → IsRefusedFrom first [] fault) → IfOk r (SettlesAll first second)
 refuse_first (Err m) fault first second is real why = tt
 refuse_first (Ok a) fault first second is real why = λ one two l k.
     let seen = there second two k in
-    subst (Settles one two) (sym is) (record { refused = refused_file first fault one (why real) l; bytes = seen.0; there = seen.1 })
+    subst (Settles one two) (sym is) (record { refused = refused_file first [] fault one (why real) l; bytes = seen.0; there = seen.1 })
 
 pub refuse_second : (r : Result Answer Memory) (fault : ParseFault) (first second : Loaded) (names : List (List ℕ)) (p : Program)
     → IsReadFrom first [] names p → IfOk r (λ a. a ≡ Refused Second fault) → IfOk r (λ _. fault ≢ NoMemory)
-    → (fault ≢ NoMemory → IsRefusedFrom second fault) → IfOk r (SettlesAll first second)
+    → (fault ≢ NoMemory → IsRefusedFrom second names fault) → IfOk r (SettlesAll first second)
 refuse_second (Err m) fault first second names p read is real why = tt
 refuse_second (Ok a) fault first second names p read is real why = λ one two l k.
-    subst (Settles one two) (sym is) (record { names = names; program = p; accepted = accepted_file first one [] names p read l; refused = refused_file second fault two (why real) k })
+    subst (Settles one two) (sym is) (record { names = names; program = p; accepted = accepted_file first one [] names p read l; refused = refused_file second names fault two (why real) k })
 
 settled : (a : Answer) (first second : Loaded) (between names : List (List ℕ)) (p q : Program) → IsReadFrom first [] between p → IsReadFrom second between names q
     → IsComparison names p q a → SettlesAll first second a
@@ -79,3 +79,6 @@ settle (Ok answer) first second between names p q a b c = settled answer first s
 
 pub from_none : (l : Loaded) (old new : List (List ℕ)) (p : Program) → old ≡ [] → IsReadFrom l old new p → IsReadFrom l [] new p
 from_none l old new p e r = let P : List (List ℕ) → Type 0 = λ t. IsReadFrom l t new p in subst P e r
+
+pub from_start : (l : Loaded) (old : List (List ℕ)) (fault : ParseFault) → old ≡ [] → (fault ≢ NoMemory → IsRefusedFrom l old fault) → fault ≢ NoMemory → IsRefusedFrom l [] fault
+from_start l old fault e why real = let P : List (List ℕ) → Type 0 = λ t. IsRefusedFrom l t fault in subst P e (why real)

@@ -3,3 +3,4 @@ pub mod Judging
 pub mod Leaving
 pub mod OneReading
 pub mod OneAnswer
+pub mod Straightness

@@ -5,8 +5,8 @@ use Rattle.occ_syntax.specs.declared.scope.Program.{Program}
 use Rattle.occ_syntax.specs.declared.scope.Kind.{Kind}
 use Rattle.occ_syntax.specs.Tree.{Tree}
 use Rattle.occ_syntax.specs.View.{tree}
-use Rattle.stub_parse.specs.Read.{IsRead, ReadsNowhere}
-use Rattle.stub_parse.specs.declared.ParseFault.{ParseFault}
+use Rattle.occ_parse.specs.Reading.{IsRead}
+use Rattle.occ_parse.specs.declared.fault.ParseFault.{ParseFault}
 use Rattle.occ_behaviour.specs.declared.behaviour.Side.TheVariants.{First, Second}
 use Rattle.occ_behaviour.specs.declared.behaviour.Verdict.{Verdict}
 use Rattle.occ_behaviour.specs.Members.{IsRight}
@@ -18,7 +18,7 @@ use Rattle.occ_top.specs.Words.{Job, same, job_of}
 use Rattle.occ_top.specs.Files.{Files, most_bytes}
 use Rattle.occ_top.specs.Texts.{status_of, text_of}
 use Rattle.occ_top.specs.Answers.{IsAccepted, IsRefused, too_long, no_form, RefusesFirst, RefusesSecond, AcceptsBoth, DifferInInterface, AreCompared, Settles, IsAnswer, usage, comparison, Answers}
-use Rattle.occ_top.proofs.OneReading.{IsOneReading, nowhere}
+use Rattle.occ_top.proofs.OneReading.{IsOneReading}
 
 some_is : {X : Type 0} (x y : X) → Some x ≡ Some y → x ≡ y
 some_is x y e = cc
@@ -28,7 +28,7 @@ same_bytes : (file : Option (List ℕ)) (a b : List ℕ) → file ≡ Some a →
 same_bytes file a b e f = some_is a b (sym e ∙ f)
 
 -- a text isn't both accepted and refused
-not_both : (file : Option (List ℕ)) (old new : List (List ℕ)) (program : Program) (fault : ParseFault) → IsAccepted file old new program → IsRefused file fault → ⊥
+not_both : (file : Option (List ℕ)) (old new : List (List ℕ)) (program : Program) (fault : ParseFault) → IsAccepted file old new program → IsRefused file old fault → ⊥
 not_both file old new program fault a (too_long bytes e long f) =
     let same : a.bytes ≡ bytes = same_bytes file a.bytes bytes a.there e in
     let lengths = ap length same in
@@ -36,18 +36,18 @@ not_both file old new program fault a (too_long bytes e long f) =
 not_both file old new program fault a (no_form bytes e short none f) =
     let same : a.bytes ≡ bytes = same_bytes file a.bytes bytes a.there e in
     let P : List ℕ → Type 0 = λ t. IsRead t old new program a.lines in
-    nowhere bytes none old new program a.lines (subst P same a.read)
+    none new program a.lines (subst P same a.read)
 
--- a text is refused for one fault
-one_fault : (file : Option (List ℕ)) (f g : ParseFault) → IsRefused file f → IsRefused file g → f ≡ g
-one_fault file f g (too_long a e long x) (too_long b d other y) = x ∙ sym y
-one_fault file f g (too_long a e long x) (no_form b d short none y) =
+-- a text is refused for one fault, whatever names are found so far
+one_fault : (file : Option (List ℕ)) (m n : List (List ℕ)) (f g : ParseFault) → IsRefused file m f → IsRefused file n g → f ≡ g
+one_fault file m n f g (too_long a e long x) (too_long b d other y) = x ∙ sym y
+one_fault file m n f g (too_long a e long x) (no_form b d short none y) =
     let lengths = ap length (same_bytes file a b e d) in
     absurd (omega (arith, lengths, long, short))
-one_fault file f g (no_form a e short none x) (too_long b d long y) =
+one_fault file m n f g (no_form a e short none x) (too_long b d long y) =
     let lengths = ap length (same_bytes file a b e d) in
     absurd (omega (arith, lengths, long, short))
-one_fault file f g (no_form a e short none x) (no_form b d other nothing y) = x ∙ sym y
+one_fault file m n f g (no_form a e short none x) (no_form b d other nothing y) = x ∙ sym y
 
 -- what follows stands on the reading of a text being one
 module _ (one_reading : (text : List ℕ) (old m n : List (List ℕ)) (p q : Program) (ls ks : List ℕ) → IsRead text old m p ls → IsRead text old n q ks → IsOneReading m n p q) where
@@ -56,6 +56,13 @@ module _ (one_reading : (text : List ℕ) (old m n : List (List ℕ)) (p q : Pro
       let same : b.bytes ≡ a.bytes = same_bytes file b.bytes a.bytes b.there a.there in
       let P : List ℕ → Type 0 = λ t. IsRead t old n q b.lines in
       one_reading a.bytes old m n p q a.lines b.lines a.read (subst P same b.read)
+
+  -- a second text isn't both accepted and refused behind the same first
+  not_after : (one two : Option (List ℕ)) (m between n : List (List ℕ)) (p r s : Program) (fault : ParseFault) → IsAccepted one [] m p → IsAccepted one [] between r → IsAccepted two between n s → IsRefused two m fault → ⊥
+  not_after one two m between n p r s fault a b c refused =
+      let same = one_program one [] m between p r a b in
+      let P : List (List ℕ) → Type 0 = λ t. IsRefused two t fault in
+      not_both two between n s fault c (subst P same.names refused)
 
   -- Both texts, read in order, are two programs.
   record AreOne (m n : List (List ℕ)) (p q r s : Program) : Type 0 where
@@ -98,23 +105,23 @@ module _ (one_reading : (text : List ℕ) (old m n : List (List ℕ)) (p q : Pro
   one_settled : (one two : Option (List ℕ)) (a b : Answer) → Settles one two a → Settles one two b → a ≡ b
   one_settled one two Usage b s t = absurd s
   one_settled one two (Refused First f) Usage s t = absurd t
-  one_settled one two (Refused First f) (Refused First g) s t = ap (Refused First) (one_fault one f g s.refused t.refused)
+  one_settled one two (Refused First f) (Refused First g) s t = ap (Refused First) (one_fault one [] [] f g s.refused t.refused)
   one_settled one two (Refused First f) (Refused Second g) s t = absurd (not_both one [] t.names t.program f t.accepted s.refused)
   one_settled one two (Refused First f) InterfacesDiffer s t = absurd (not_both one [] t.accepted.between t.p f t.accepted.first s.refused)
   one_settled one two (Refused First f) (Compared n w) s t = absurd (not_both one [] t.accepted.between t.p f t.accepted.first s.refused)
   one_settled one two (Refused Second f) Usage s t = absurd t
   one_settled one two (Refused Second f) (Refused First g) s t = absurd (not_both one [] s.names s.program g s.accepted t.refused)
-  one_settled one two (Refused Second f) (Refused Second g) s t = ap (Refused Second) (one_fault two f g s.refused t.refused)
-  one_settled one two (Refused Second f) InterfacesDiffer s t = absurd (not_both two t.accepted.between t.names t.q f t.accepted.second s.refused)
-  one_settled one two (Refused Second f) (Compared n w) s t = absurd (not_both two t.accepted.between n t.q f t.accepted.second s.refused)
+  one_settled one two (Refused Second f) (Refused Second g) s t = ap (Refused Second) (one_fault two s.names t.names f g s.refused t.refused)
+  one_settled one two (Refused Second f) InterfacesDiffer s t = absurd (not_after one two s.names t.accepted.between t.names s.program t.p t.q f s.accepted t.accepted.first t.accepted.second s.refused)
+  one_settled one two (Refused Second f) (Compared n w) s t = absurd (not_after one two s.names t.accepted.between n s.program t.p t.q f s.accepted t.accepted.first t.accepted.second s.refused)
   one_settled one two InterfacesDiffer Usage s t = absurd t
   one_settled one two InterfacesDiffer (Refused First g) s t = absurd (not_both one [] s.accepted.between s.p g s.accepted.first t.refused)
-  one_settled one two InterfacesDiffer (Refused Second g) s t = absurd (not_both two s.accepted.between s.names s.q g s.accepted.second t.refused)
+  one_settled one two InterfacesDiffer (Refused Second g) s t = absurd (not_after one two t.names s.accepted.between s.names t.program s.p s.q g t.accepted s.accepted.first s.accepted.second t.refused)
   one_settled one two InterfacesDiffer InterfacesDiffer s t = refl
   one_settled one two InterfacesDiffer (Compared n w) s t = absurd (interfaces one two n w s t)
   one_settled one two (Compared m v) Usage s t = absurd t
   one_settled one two (Compared m v) (Refused First g) s t = absurd (not_both one [] s.accepted.between s.p g s.accepted.first t.refused)
-  one_settled one two (Compared m v) (Refused Second g) s t = absurd (not_both two s.accepted.between m s.q g s.accepted.second t.refused)
+  one_settled one two (Compared m v) (Refused Second g) s t = absurd (not_after one two t.names s.accepted.between m t.program s.p s.q g t.accepted s.accepted.first s.accepted.second t.refused)
   one_settled one two (Compared m v) InterfacesDiffer s t = absurd (interfaces one two m v t s)
   one_settled one two (Compared m v) (Compared n w) s t = let e = verdicts one two m n v w s t in ap₂ Compared e.0 e.1
 

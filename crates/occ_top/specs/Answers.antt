@@ -3,10 +3,10 @@ use Rattle.std.specs.Prelude.{ℕ, ◌≡◌, ◌≤◌, ◌<◌, List, [], leng
 use Rattle.occ_base.specs.declared.event.Event.{Event}
 use Rattle.occ_syntax.specs.declared.scope.Program.{Program}
 use Rattle.occ_syntax.specs.View.{tree}
-use Rattle.stub_parse.specs.Read.{IsRead, ReadsNowhere}
-use Rattle.stub_parse.specs.declared.Which.TheVariants.{Bytes}
-use Rattle.stub_parse.specs.declared.ParseFault.{ParseFault}
-use Rattle.stub_parse.specs.declared.ParseFault.TheVariants.{Form, Limit}
+use Rattle.occ_parse.specs.Reading.{IsRead, ReadsNowhere}
+use Rattle.occ_parse.specs.declared.fault.Which.TheVariants.{Bytes}
+use Rattle.occ_parse.specs.declared.fault.ParseFault.{ParseFault}
+use Rattle.occ_parse.specs.declared.fault.ParseFault.TheVariants.{Form, Limit}
 use Rattle.occ_behaviour.specs.declared.behaviour.Side.TheVariants.{First, Second}
 use Rattle.occ_behaviour.specs.declared.behaviour.Verdict.{Verdict}
 use Rattle.occ_behaviour.specs.Members.{IsRight}
@@ -25,14 +25,14 @@ pub record IsAccepted (file : Option (List ℕ)) (old new : List (List ℕ)) (pr
   pub lines : List ℕ
   pub read : IsRead bytes old new program lines
 
--- The file holds a text that is refused: it is too long, or reads as no program.
-pub data IsRefused (file : Option (List ℕ)) (fault : ParseFault) : Type 0 where
-  too_long : (bytes : List ℕ) → file ≡ Some bytes → most_bytes < length bytes → fault ≡ Limit Bytes 1 → IsRefused file fault
-  no_form : (bytes : List ℕ) → file ≡ Some bytes → length bytes ≤ most_bytes → ReadsNowhere bytes → fault ≡ Form 1 → IsRefused file fault
+-- The file holds a text that is refused: it is too long, or reads as no program. The names found so far are `old`.
+pub data IsRefused (file : Option (List ℕ)) (old : List (List ℕ)) (fault : ParseFault) : Type 0 where
+  too_long : (bytes : List ℕ) → file ≡ Some bytes → most_bytes < length bytes → fault ≡ Limit Bytes 1 → IsRefused file old fault
+  no_form : (bytes : List ℕ) → file ≡ Some bytes → length bytes ≤ most_bytes → ReadsNowhere bytes old → fault ≡ Form 1 → IsRefused file old fault
 
 -- the first text is refused, and the second is there
 pub record RefusesFirst (one two : Option (List ℕ)) (fault : ParseFault) : Type 0 where
-  pub refused : IsRefused one fault
+  pub refused : IsRefused one [] fault
   pub bytes : List ℕ
   pub there : two ≡ Some bytes
 
@@ -41,7 +41,7 @@ pub record RefusesSecond (one two : Option (List ℕ)) (fault : ParseFault) : Ty
   pub names : List (List ℕ)
   pub program : Program
   pub accepted : IsAccepted one [] names program
-  pub refused : IsRefused two fault
+  pub refused : IsRefused two names fault
 
 -- both texts are accepted, the first one first
 pub record AcceptsBoth (one two : Option (List ℕ)) (names : List (List ℕ)) (p q : Program) : Type 0 where

@@ -9,10 +9,10 @@ use Rattle.occ_straight.specs.Straight.{is_straight}
 use Rattle.occ_straight.specs.Least.{IsLeast}
 use Rattle.occ_behaviour.specs.Members.{IsRight}
 use Rattle.occ_behaviour.specs.declared.behaviour.Verdict.{Verdict}
-use Rattle.stub_parse.specs.Read.{IsRead, ReadsNowhere}
-use Rattle.stub_parse.specs.declared.Which.TheVariants.{Bytes as AllBytes}
-use Rattle.stub_parse.specs.declared.ParseFault.{ParseFault}
-use Rattle.stub_parse.specs.declared.ParseFault.TheVariants.{Form, Limit}
+use Rattle.occ_parse.specs.Reading.{IsRead, ReadsNowhere}
+use Rattle.occ_parse.specs.declared.fault.Which.TheVariants.{Bytes as AllBytes}
+use Rattle.occ_parse.specs.declared.fault.ParseFault.{ParseFault}
+use Rattle.occ_parse.specs.declared.fault.ParseFault.TheVariants.{Form, Limit}
 use Rattle.occ_top.specs.declared.answer.Answer.{Answer}
 use Rattle.occ_top.specs.declared.answer.Answer.TheVariants.{Usage, Refused, InterfacesDiffer, Compared}
 use Rattle.occ_top.specs.declared.load.Loaded.{Loaded}
@@ -34,9 +34,9 @@ abbrev pub IsReadFrom : Loaded → List (List ℕ) → List (List ℕ) → Progr
 IsReadFrom (Bytes text) old new program = IsReadAs text.items old new program
 IsReadFrom TooLong old new program = ⊥
 
-abbrev pub IsRefusedFrom : Loaded → ParseFault → Type 0
-IsRefusedFrom (Bytes text) fault = (fault ≡ Form 1) × ReadsNowhere text.items
-IsRefusedFrom TooLong fault = fault ≡ Limit AllBytes 1
+abbrev pub IsRefusedFrom : Loaded → List (List ℕ) → ParseFault → Type 0
+IsRefusedFrom (Bytes text) old fault = (fault ≡ Form 1) × ReadsNowhere text.items old
+IsRefusedFrom TooLong old fault = fault ≡ Limit AllBytes 1
 
 pub record IsVerdictOn (p q : Program) (verdict : Verdict) : Type 0 where
   pub one_interface : p.params ≡ q.params

@@ -2,10 +2,10 @@
 use Rattle.std.specs.Prelude.{ℕ, ◌≢◌, List, [], ◌++◌, codes, decimal}
 use Rattle.occ_lex.specs.declared.fault.LineFault.{LineFault}
 use Rattle.occ_lex.specs.declared.fault.LineFault.TheVariants.{Tab, OddIndent, Char, Number, Name}
-use Rattle.stub_parse.specs.declared.Which.{Which}
-use Rattle.stub_parse.specs.declared.Which.TheVariants.{Bytes, Levels, Tokens, Parameters, Count, Controls, InterfaceBits, ScopeBits}
-use Rattle.stub_parse.specs.declared.ParseFault.{ParseFault}
-use Rattle.stub_parse.specs.declared.ParseFault.TheVariants.{Line, Form, Undeclared, Redeclared, Index, TypeClash, NoType, Direction, Limit, Memory}
+use Rattle.occ_parse.specs.declared.fault.Which.{Which}
+use Rattle.occ_parse.specs.declared.fault.Which.TheVariants.{Bytes, Levels, Tokens, Parameters, Count, Controls, InterfaceBits, ScopeBits}
+use Rattle.occ_parse.specs.declared.fault.ParseFault.{ParseFault}
+use Rattle.occ_parse.specs.declared.fault.ParseFault.TheVariants.{Line, Form, Undeclared, Redeclared, Index, TypeClash, NoType, Direction, Limit, Memory}
 use Rattle.occ_behaviour.specs.declared.behaviour.Side.{Side}
 use Rattle.occ_behaviour.specs.declared.behaviour.Side.TheVariants.{First, Second}
 use Rattle.occ_behaviour.specs.declared.behaviour.Verdict.{Verdict}

@@ -6,7 +6,7 @@ use occ_base::{Memory, Names};
 use occ_behaviour::{Side, Verdict, verdict_text};
 use occ_lex::LineFault;
 use std::alloc::Global;
-use stub_parse::{ParseFault, Which};
+use occ_parse::{ParseFault, Which};
 
 /// What a command line is answered with, where all files could be read and memory was found.
 #[derive(Drop)]

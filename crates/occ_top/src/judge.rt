@@ -11,7 +11,7 @@ use occ_behaviour::Side;
 use occ_straight::compare_straight;
 use occ_syntax::{Kind, Program};
 use std::alloc::Global;
-use stub_parse::{Bound, ParseFault, Which, parse};
+use occ_parse::{ParseFault, Which, parse};
 
 /// The answer to two files whose programs are to be compared. The texts are read in order, and the first that is refused
 /// decides.
@@ -35,11 +35,11 @@ pub fn judge(alloc: Global, first: &Loaded, second: &Loaded) -> Result<Answer, M
 /// Reads a program.
 fn accept(alloc: Global, names: &mut Names, loaded: &Loaded) -> Result<Program, ParseFault>
     ensures accepted { IfOk result (IsReadFrom loaded.now names.old names.new) }
-    ensures refused { IfErr result (λ fault. fault ≢ ParseFault.Memory → IsRefusedFrom loaded.now fault) }
+    ensures refused { IfErr result (λ fault. fault ≢ ParseFault.Memory → IsRefusedFrom loaded.now names.old fault) }
 {
     match loaded {
         Loaded::Bytes(text) => {
-            let read = parse(alloc, names, text.as_slice(), Bound::Program)?;
+            let read = parse(alloc, names, text.as_slice())?;
             Ok(read.program)
         }
         Loaded::TooLong => Err(ParseFault::Limit {

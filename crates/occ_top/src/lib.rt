@@ -3,10 +3,12 @@
 
 mod answer;
 mod judge;
+mod law;
 mod load;
 #[cfg(test)]
 mod tests;
 mod top;
 mod words;
 
+pub use law::one_answer;
 pub use top::run;

@@ -4,7 +4,7 @@ use Rattle.occ_diagram.proofs.Growth.{known-keeps}
 use Rattle.occ_dd.specs.Choices.{greatest_depth}
 use Rattle.occ_dd.proofs.Choosing.{choice_learnt}
 use Rattle.occ_dd.proofs.Sets.{deep, grows_refl, grows_trans}
-use Rattle.occ_dd.proofs.Steps.{choice_either, choice_empty, choice_side, choices_joined, second_smaller}
+use Rattle.occ_dd.proofs.Steps.{choice_either, choice_empty, choice_itself, choice_side, choices_joined, second_smaller}
 use Rattle.occ_dd.proofs.store.Store.+choose.Goals as goal
 
 pub returns-then-test-self-clause-chosen : goal.returns-then-test-self-clause-chosen
@@ -12,6 +12,9 @@ returns-then-test-self-clause-chosen t c = choice_either c.args.self.now c.args.
 
 pub returns-then-test-self-2-clause-chosen : goal.returns-then-test-self-2-clause-chosen
 returns-then-test-self-2-clause-chosen t c = choice_empty c.args.self.now c.args.test c.args.yes c.args.no c.requires.test c.requires.yes c.requires.no c.if-test-self-2.true
+
+pub returns-then-no-self-clause-chosen : goal.returns-then-no-self-clause-chosen
+returns-then-no-self-clause-chosen t c = choice_itself c.args.self.now c.args.test c.args.yes c.args.no c.requires.test c.requires.yes c.requires.no c.if-yes-self.true c.if-no-self.true
 
 pub returns-in-Some-clause-chosen : goal.returns-in-Some-clause-chosen
 returns-in-Some-clause-chosen t c = c.args.self.now.choices_right (record { first = c.args.test; second = c.args.yes; third = c.args.no }) c.in-Some.chosen (sym c.in-Some.ensures)

@@ -1,0 +1,6 @@
+use Rattle.occ_diagram.specs.Table.{nodes_of}
+use Rattle.occ_mdd.specs.Chosen.{greatest_depth}
+use Rattle.occ_mdd.proofs.choose.+choose.Given as goal
+
+abbrev pub decreases-choose : goal.decreases-choose
+decreases-choose g l = greatest_depth (nodes_of l.table.now) l.store.now l.set.0 l.a l.b

@@ -1,0 +1,10 @@
+pub mod Closing
+pub mod Exits
+pub mod Framing
+pub mod Headers
+pub mod Kept
+pub mod Once
+pub mod Sound
+pub mod Spelled
+pub mod Splitting
+pub mod Words

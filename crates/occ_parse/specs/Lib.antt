@@ -1,0 +1,10 @@
+pub mod Framed
+pub mod Gives
+pub mod Limits
+pub mod Lines
+pub mod Parts
+pub mod Reading
+pub mod Source
+pub mod Step
+pub mod Trees
+pub mod Typed

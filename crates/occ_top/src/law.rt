@@ -1,0 +1,9 @@
+ghost use Rattle.std.specs.Prelude.{ℕ, ◌≡◌, List};
+ghost use Rattle.occ_top.specs.Files.{Files};
+ghost use Rattle.occ_top.specs.Answers.{Answers};
+
+/// A command line over the same files has one answer, with one status and one text.
+pub fn one_answer()
+    ensures { (files : Files) (words : List (List ℕ)) (s t : ℕ) (a b : List ℕ)
+        → Answers files words s a → Answers files words t b → (s ≡ t) × (a ≡ b) }
+{}
