@@ -1,5 +1,5 @@
 -- What a header and a body in a frame say of a program.
-use Rattle.std.proofs.Common.{◌≡◌, ℕ, true, false, leb, ◌&&◌, List, [], ◌∷◌, ◌++◌, length, None, Result, Ok, Err, IfOk, IfErr, refl, sym, ap, subst, ◌∙◌, arith}
+use Rattle.std.proofs.Common.{◌≡◌, ℕ, true, false, leb, ◌&&◌, List, [], ◌∷◌, ◌++◌, length, None, Result, Ok, Err, IfErr, refl, sym, ap, subst, ◌∙◌, arith}
 use Rattle.std.proofs.lemmas.Bool.{and_from, both_ways, le-leb}
 use Rattle.std.proofs.lemmas.List.{append-nil, append_cancel_right, length-map}
 use Rattle.occ_base.specs.declared.names.Name.{Name}
@@ -23,8 +23,8 @@ use Rattle.occ_parse.specs.Limits.{are_lines_within, is_within}
 use Rattle.occ_parse.specs.Lines.{header_of}
 use Rattle.occ_parse.specs.Parts.{IsPart, NoPart, OnForm}
 use Rattle.occ_parse.specs.Reading.{IsProgram, NoProgram, ReadsNowhere, between, closing}
-use Rattle.occ_parse.specs.Source.{Source, Sources, simple, sequence, no_source, and_source, skip_line, stop_line, assignment, header_words, shape, shapes, spell}
-use Rattle.occ_parse.specs.Trees.{tree_of, trees_of, is_straight, all_straight}
+use Rattle.occ_parse.specs.Source.{Source, header_words, shape, shapes, spell}
+use Rattle.occ_parse.specs.Trees.{tree_of}
 use Rattle.occ_parse.proofs.Exits.{shape_is}
 use Rattle.occ_parse.proofs.Headers.{header_back, header_is, header_sound, some_header}
 use Rattle.occ_parse.proofs.Spelled.{line_is, one_source}
@@ -135,21 +135,6 @@ too_large rows middle n ps b spelled large = no
         both_ways (is_within rows ps b) large (subst (λ qs. is_within rows qs b ≡ true) (sym s.params) (subst (λ b. is_within rows qs b ≡ true) (sym s.body) (within rows m qs c ks is)))
 
 -- ---- texts
-
-mutual
-  straight : (Γ : Environment) (s : Source) → is_straight (tree_of Γ s) ≡ true
-  straight Γ (simple skip_line) = refl
-  straight Γ (simple stop_line) = refl
-  straight Γ (simple (assignment x xs p ps)) = refl
-  straight Γ (sequence parts) = straight_all Γ parts
-
-  straight_all : (Γ : Environment) (ss : Sources) → all_straight (trees_of Γ ss) ≡ true
-  straight_all Γ no_source = refl
-  straight_all Γ (and_source s ss) = and_from (is_straight (tree_of Γ s)) (all_straight (trees_of Γ ss)) (straight Γ s) (straight_all Γ ss)
-
-pub reads_straight : (rows : List Row) (result : Result Text Fault) → IfOk result (λ text. IsProgram rows text.program.name text.program.params (tree text.program.body) text.lines) → IfOk result (λ text. is_straight (tree text.program.body) ≡ true)
-reads_straight rows (Ok text) is = ap is_straight is.body_is ∙ straight (environment text.program.params) is.source
-reads_straight rows (Err f) is = tt
 
 abbrev pub ok : List Line → Result (List Line) (ℕ × LineFault)
 ok lines = Ok lines

@@ -1,11 +1,11 @@
 -- The trees that straight programs are read as. A bare numeral has the width of the variable that is assigned.
-use Rattle.std.specs.Prelude.{ℕ, Bool, true, false, ◌&&◌, List, [], ◌∷◌, Option, Some, None}
+use Rattle.std.specs.Prelude.{ℕ, true, false, List, [], ◌∷◌, Option, Some, None}
 use Rattle.occ_base.specs.declared.names.Name.{Name}
 use Rattle.occ_base.specs.declared.width.Width.{Width}
 use Rattle.occ_base.specs.Width.{bits_of}
 use Rattle.occ_syntax.specs.declared.expr.Op.TheVariants as op
 use Rattle.occ_syntax.specs.Scopes.{Environment, variable_width}
-use Rattle.occ_syntax.specs.Tree.{Exp, variable, numeral, truth, operation, Tree, skip, stop, assign, receive, send, seq, par, select, alt, declare, connect, Trees, no_tree, and_tree}
+use Rattle.occ_syntax.specs.Tree.{Exp, variable, numeral, truth, operation, Tree, skip, stop, assign, seq, Trees, no_tree, and_tree}
 use Rattle.occ_syntax.specs.View.{numbers}
 use Rattle.occ_parse.specs.declared.phrase.Operand.{Operand}
 use Rattle.occ_parse.specs.declared.phrase.Operand.TheVariants as operand
@@ -47,22 +47,3 @@ abbrev mutual
   pub trees_of : Environment → Sources → Trees
   trees_of Γ no_source = no_tree
   trees_of Γ (and_source s parts) = and_tree (tree_of Γ s) (trees_of Γ parts)
-
--- SKIP, STOP, assignments and SEQ of such
-abbrev mutual
-  pub is_straight : Tree → Bool
-  is_straight skip = true
-  is_straight stop = true
-  is_straight (assign xs es) = true
-  is_straight (seq ps) = all_straight ps
-  is_straight (receive c x) = false
-  is_straight (send c e) = false
-  is_straight (par ps) = false
-  is_straight (select cs) = false
-  is_straight (alt bs) = false
-  is_straight (declare x w p) = false
-  is_straight (connect c w p) = false
-
-  pub all_straight : Trees → Bool
-  all_straight no_tree = true
-  all_straight (and_tree p ps) = is_straight p && all_straight ps

@@ -1,9 +1,7 @@
-ghost use Rattle.std.specs.Prelude.{◌≡◌, ◌⊎◌, ◌<◌, length, true, IfOk, IfErr};
-ghost use Rattle.occ_syntax.specs.View.{tree};
+ghost use Rattle.std.specs.Prelude.{◌≡◌, ◌⊎◌, ◌<◌, length, IfOk, IfErr};
 ghost use Rattle.occ_symbol.specs.Symbols.{Extends};
 ghost use Rattle.occ_parse.specs.Parts.{OnForm};
 ghost use Rattle.occ_parse.specs.Reading.{IsRead, ReadsNowhere};
-ghost use Rattle.occ_parse.specs.Trees.{is_straight};
 
 use crate::fault::{Fault, ParseFault};
 use crate::program::{Text, program};
@@ -20,7 +18,6 @@ const MOST_BYTES: usize = 65_536;
 /// form of each other text is refused on line 1.
 pub fn parse(alloc: Global, names: &mut Names, text: &[u8]) -> Result<Text, ParseFault>
     ensures found { IfOk result (λ read. IsRead text.now names.old names.new read.program read.lines) }
-    ensures straight { IfOk result (λ read. is_straight (tree read.program.body) ≡ true) }
     ensures refused { IfErr result (λ fault. ((fault ≡ ParseFault.Form 1) × ReadsNowhere text.now names.old) ⊎ (fault ≡ ParseFault.Memory)) }
     ensures extends { Extends names.old names.new }
 {
@@ -33,7 +30,6 @@ pub fn parse(alloc: Global, names: &mut Names, text: &[u8]) -> Result<Text, Pars
 
 fn read(alloc: Global, names: &mut Names, text: &[u8]) -> Result<Text, Fault>
     ensures found { IfOk result (λ read. IsRead text.now names.old names.new read.program read.lines) }
-    ensures straight { IfOk result (λ read. is_straight (tree read.program.body) ≡ true) }
     ensures form { IfErr result (λ fault. OnForm fault (ReadsNowhere text.now names.old)) }
     ensures extends { Extends names.old names.new }
 {

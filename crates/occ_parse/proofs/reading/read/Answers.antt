@@ -6,14 +6,11 @@ use Rattle.occ_symbol.specs.Symbols.{rows_of}
 use Rattle.occ_parse.specs.Parts.{OnForm}
 use Rattle.occ_parse.specs.Reading.{NoProgram}
 use Rattle.occ_symbol.proofs.Placed.{lines_placed}
-use Rattle.occ_parse.proofs.Framing.{reads_straight, on_fault}
+use Rattle.occ_parse.proofs.Framing.{on_fault}
 use Rattle.occ_parse.proofs.reading.read.Goals as goal
 
 pub rows-requires : goal.rows-requires
 rows-requires c = subst (AllByRecursion (IsLineOf c.args.text.now)) (sym c.as_slice.ensures.value) (lines_placed _ _ c.in-Ok.ensures)
-
-pub returns-clause-straight : goal.returns-clause-straight
-returns-clause-straight c = reads_straight _ _ c.program.ensures.found
 
 pub returns-clause-form : goal.returns-clause-form
 returns-clause-form c =
