@@ -4,3 +4,4 @@ pub mod Leaving
 pub mod OneReading
 pub mod OneAnswer
 pub mod Straightness
+pub mod Accepting
