@@ -1,15 +1,17 @@
-use Rattle.std.proofs.Common.{◌≡◌, ℕ, ◌<◌, ◌≤◌, ◌%◌, ◌^◌, ◌==◌, Bool, List, refl, sym, ap, ◌∙◌, arith}
+use Rattle.std.proofs.Common.{◌≡◌, ◌⊎◌, ℕ, zero, suc, ◌<◌, ◌≤◌, ◌%◌, ◌^◌, ◌==◌, Bool, true, false, List, refl, sym, ap, ◌∙◌, inl, inr, ⊎_elim, arith}
 use Rattle.std.specs.List.{All}
+use Rattle.std.proofs.lemmas.Bool.{cases_eq}
 use Rattle.std.proofs.lemmas.Nat.{div-add-mod'}
 use Rattle.std.proofs.lemmas.Nat.Bits.{bit_at_cat_low}
 use Rattle.std.specs.Int.{bit_at}
 use Rattle.occ_diagram.proofs.DiagramLemmas.{depth-le, end_agree, end-turned_free}
 use Rattle.occ_diagram.specs.Assignment.{turned}
+use Rattle.occ_diagram.specs.Diagram.{depth_of}
 use Rattle.occ_diagram.specs.Table.{nodes_of}
-use Rattle.occ_dd.specs.Store.{sets_of, IsKnown, has, depth, Keeps, IsSet}
+use Rattle.occ_dd.specs.Store.{sets_of, IsKnown, has, depth, IsConstant, IsEmpty, IsFull, Keeps, IsSet}
 use Rattle.occ_dd.specs.declared.set.SetId.{SetId}
 use Rattle.occ_dd.specs.declared.store.Store.{Store}
-use Rattle.occ_dd.proofs.Sets.{has_end}
+use Rattle.occ_dd.proofs.Sets.{has_end, one_number, empty_set, full_set, depth-empty, depth-full}
 
 -- What callers of a store cite.
 
@@ -47,3 +49,30 @@ has-low s a x = has_end s a (x % 2 ^ 64) ∙ ap (λ n. n == s.full) (end_agree (
 pub has-free : (s : Store) (a : SetId) (b x : ℕ) → depth s a ≤ b → has s a (turned x b) ≡ has s a x
 unfolding depth
 has-free s a b x h = has_end s a (turned x b) ∙ ap (λ n. n == s.full) (end-turned_free (nodes_of s.table) s.table.diagram a.0 b x h) ∙ sym (has_end s a x)
+
+-- ---- the constant sets
+pub depth-constant : (s : Store) (a : SetId) → IsKnown s a → IsConstant s a → depth s a ≡ 0
+unfolding depth
+depth-constant s a h w = ⊎_elim
+    (λ (empty : IsEmpty s a). ap (depth_of (nodes_of s.table)) (one_number s a _ h (empty_set s).known (λ x _. empty x ∙ sym ((empty_set s).members x))) ∙ depth-empty s)
+    (λ (full : IsFull s a). ap (depth_of (nodes_of s.table)) (one_number s a _ h (full_set s).known (λ x _. full x ∙ sym ((full_set s).members x))) ∙ depth-full s)
+    w
+
+-- a test of the numbers below n passes at one of them or at none
+some_or_none : (test : ℕ → Bool) (n : ℕ) → ((x : ℕ) × (x < n) × (test x ≡ true)) ⊎ ((x : ℕ) → x < n → test x ≡ false)
+some_or_none test zero = inr (λ x h. absurd (omega arith))
+some_or_none test (suc n) = ⊎_elim
+    (λ (w : (x : ℕ) × (x < n) × (test x ≡ true)). let h : w.0 < n = w.1 in inl (w.0, omega (arith, h), w.2))
+    (λ (none : (x : ℕ) → x < n → test x ≡ false). last (test n) none refl)
+    (some_or_none test n)
+  where
+    last : (b : Bool) → ((x : ℕ) → x < n → test x ≡ false) → test n ≡ b → ((x : ℕ) × (x < suc n) × (test x ≡ true)) ⊎ ((x : ℕ) → x < suc n → test x ≡ false)
+    last true none e = inl (n, omega arith, e)
+    last false none e = inr (λ x h. ⊎_elim (λ (k : x ≡ n). ap test k ∙ e) (λ (k : x ≡ n → ⊥). none x (omega (arith, k, h))) (cases_eq x n))
+
+-- a set that isn't the empty one has a member
+pub member-other : (s : Store) (a none : SetId) → IsKnown s a → IsSet s none (λ x. false) → (a.0 ≡ none.0 → ⊥) → (x : ℕ) × (x < 2 ^ 64) × (has s a x ≡ true)
+member-other s a none h is other = ⊎_elim
+    (λ (w : (x : ℕ) × (x < 2 ^ 64) × (has s a x ≡ true)). w)
+    (λ (all : (x : ℕ) → x < 2 ^ 64 → has s a x ≡ false). absurd (other (one_number s a none h is.known (λ x below. all x below ∙ sym (is.members x)))))
+    (some_or_none (has s a) (2 ^ 64))

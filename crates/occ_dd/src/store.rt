@@ -52,6 +52,13 @@ impl Store {
         })
     }
 
+    /// How many sets the store has given numbers to. It takes no memory.
+    pub fn sets(&self) -> usize
+        ensures { result ≡ sets_of self.now }
+    {
+        self.table.size()
+    }
+
     /// The set without members. It takes no memory.
     pub fn empty(&self) -> SetId
         ensures { IsSet self.now result (λ x. false) }

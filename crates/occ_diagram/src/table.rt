@@ -42,6 +42,13 @@ impl<T: Label> Table<T> {
         }
     }
 
+    /// How many nodes the table has. Each lower number is that of a function. It takes no memory.
+    pub fn size(&self) -> usize
+        ensures { result ≡ length (nodes_of self.now) }
+    {
+        self.nodes.len()
+    }
+
     /// The constant function of a label.
     pub fn leaf(&mut self, label: T) -> Result<usize, Memory>
         ensures keeps { Keeps (nodes_of self.old) (nodes_of self.new) }

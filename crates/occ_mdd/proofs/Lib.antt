@@ -1,3 +1,4 @@
 pub mod Values
 pub mod Combining
 pub mod Choosing
+pub mod Collecting

@@ -1,5 +1,11 @@
-use Rattle.std.specs.Prelude.{ℕ, ◌<◌, ◌≤◌, ◌≡◌, ◌^◌, Option, IfSome, length}
+use Rattle.std.specs.Prelude.{ℕ, ◌<◌, ◌≤◌, ◌≡◌, ◌^◌, true, List, Option, Some, IfSome, length}
+use Rattle.std.specs.List.{Contains}
+use Rattle.std.specs.List.Sorted.{IsStrictlySortedBy}
+use Rattle.std.specs.declared.cmp.Ordering.{Ordering}
 use Rattle.occ_diagram.specs.Table.{nodes_of}
+use Rattle.occ_dd.specs.Store.{has}
+use Rattle.occ_dd.specs.declared.set.SetId.{SetId}
+use Rattle.occ_dd.specs.declared.store.Store.{Store}
 use Rattle.occ_mdd.specs.Value.{value_at}
 use Rattle.occ_mdd.specs.declared.map.MapId.{MapId}
 use Rattle.occ_mdd.specs.declared.maps.Maps.{Maps}
@@ -34,6 +40,16 @@ HasLabels m a passes = (x : ℕ) → x < 2 ^ 64 → IfSome (value m a x) passes
 pub record IsRelated {L : Type 0} {e : _} {h : _} (old new : Maps L e h) (a b r : MapId) (relates : Option L → Option L → Option L → Type 0) : Type 0 where
   pub known : IsKnown new r
   pub related : (x : ℕ) → relates (value old a x) (value old b x) (value new r x)
+
+-- a function has the label at some member of a set
+abbrev pub IsLabelOn : {L : Type 0} {e : _} {h : _} → Maps L e h → MapId → Store → SetId → L → Type 0
+IsLabelOn m a s set l = (x : ℕ) × (x < 2 ^ 64) × (has s set x ≡ true) × (value m a x ≡ Some l)
+
+-- the labels of a function on a set, each once, in increasing order
+pub record AreLabelsOn {L : Type 0} {e : _} {h : _} (m : Maps L e h) (a : MapId) (s : Store) (set : SetId) (cmp : L → L → Ordering) (labels : List L) : Type 0 where
+  pub met : (l : L) → Contains labels l → IsLabelOn m a s set l
+  pub all : (l : L) → IsLabelOn m a s set l → Contains labels l
+  pub increasing : IsStrictlySortedBy cmp labels
 
 -- equal functions have equal numbers
 pub record IsCanonical {L : Type 0} {e : _} {h : _} (m : Maps L e h) : Type 0 where

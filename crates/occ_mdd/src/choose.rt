@@ -11,7 +11,7 @@ use occ_dd::{SetId, Store};
 use occ_diagram::{Call, Label, Memo, Table};
 
 // The greatest bit that matters to a set, whose own is `top`, or to one of two functions.
-fn top_bit<L: Label>(table: &Table<Option<L>>, top: u32, a: usize, b: usize) -> u32
+pub fn top_bit<L: Label>(table: &Table<Option<L>>, top: u32, a: usize, b: usize) -> u32
     requires top { top < 64 }
     requires a { a < length (nodes_of table.now) }
     requires b { b < length (nodes_of table.now) }
@@ -21,7 +21,7 @@ fn top_bit<L: Label>(table: &Table<Option<L>>, top: u32, a: usize, b: usize) -> 
 }
 
 // The parts of a set at a bit, from its split at the greatest bit on which it depends.
-fn sides(store: &Store, set: SetId, split: (u32, SetId, SetId), bit: u32) -> (SetId, SetId)
+pub fn sides(store: &Store, set: SetId, split: (u32, SetId, SetId), bit: u32) -> (SetId, SetId)
     requires known { IsKnown store.now set }
     requires split { Splits store.now set split.0 split.1 split.2 }
     requires top { split.0 ≤ bit }
@@ -43,7 +43,6 @@ fn is_full(store: &Store, set: SetId) -> bool
 }
 
 // The function that is `a` on the set and `b` elsewhere.
-
 pub fn choose<L: Label>(
     table: &mut Table<Option<L>>,
     store: &mut Store,

@@ -3,6 +3,7 @@
 
 mod both;
 mod choose;
+mod collect;
 mod combine;
 mod law;
 mod map;

@@ -4,6 +4,7 @@ ghost use Rattle.occ_dd.specs.Store.{has};
 ghost use Rattle.occ_dd.specs.Store.{IsKnown as IsSetKnown, Keeps as KeepsSets};
 
 use crate::choose::choose;
+use crate::collect::collect;
 use crate::combine::combine;
 use crate::{Both, MapId};
 use occ_base::Memory;
@@ -26,7 +27,7 @@ where
 }
 
 impl<L: Label> Maps<L> {
-    ghost use Rattle.occ_mdd.specs.Maps.{value, IsKnown, IsMap, IsRelated, HasLabels, Keeps, maps_of};
+    ghost use Rattle.occ_mdd.specs.Maps.{value, IsKnown, IsMap, IsRelated, HasLabels, AreLabelsOn, Keeps, maps_of};
 
     /// A table without maps. It takes no memory.
     pub fn new(alloc: Global) -> Maps<L>
@@ -36,6 +37,13 @@ impl<L: Label> Maps<L> {
             table: Table::new(alloc),
             alloc,
         }
+    }
+
+    /// How many maps the table has given numbers to. It takes no memory.
+    pub fn maps(&self) -> usize
+        ensures { result ≡ maps_of self.now }
+    {
+        self.table.size()
     }
 
     /// The function that has one value at every assignment.
@@ -97,5 +105,21 @@ impl<L: Label> Maps<L> {
     {
         let mut memo = Memo::new(self.alloc);
         Ok(MapId(combine(&mut self.table, a.0, b.0, f, &mut memo)?))
+    }
+
+    /// The labels that the function has on the set, each once, in increasing order. Where its value is
+    /// None it has no label. After want of memory too, the store has only grown.
+    pub fn leaves_under(&self, store: &mut Store, a: MapId, set: SetId) -> Result<Vec<L>, Memory>
+        requires a { IsKnown self.now a }
+        requires set { IsSetKnown store.old set }
+        ensures sets { KeepsSets store.old store.new }
+        ensures labels { IfOk result (λ labels. AreLabelsOn self.now a store.old set L.cmp labels.items) }
+    {
+        let mut found = Vec::new(self.alloc);
+        let mut seen = Memo::new(self.alloc);
+        collect(&self.table, store, set, a.0, &mut found, &mut seen)?;
+        found.sort_unstable();
+        found.dedup();
+        Ok(found)
     }
 }

@@ -96,3 +96,18 @@ fn a_set_of_forty_bits_chooses(rt: HostRuntime) -> Result<(), Memory> {
     assert_eq!(rt; maps.get(map, 0), None);
     Ok(())
 }
+
+#[test]
+fn one_label_on_a_bit(rt: HostRuntime) -> Result<(), Memory> {
+    let mut store = Store::new(rt.alloc())?;
+    let mut maps = Maps::new(rt.alloc());
+    let bit = store.bit(0)?;
+    let label = maps.constant(Some(true))?;
+    let none = maps.constant(None)?;
+    let map = maps.ite(&mut store, bit, label, none)?;
+    assert_eq!(rt;
+        maps.leaves_under(&mut store, map, bit)?.as_slice(),
+        [true].as_slice()
+    );
+    Ok(())
+}

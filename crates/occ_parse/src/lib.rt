@@ -11,6 +11,8 @@ mod phrase;
 mod program;
 mod reading;
 mod step;
+#[cfg(test)]
+mod tests;
 mod typed;
 
 pub use fault::{ParseFault, Which};

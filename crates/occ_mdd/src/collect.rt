@@ -1,0 +1,117 @@
+ghost use Rattle.std.specs.Prelude.{◌≡◌, ℕ, ◌<◌, ◌≤◌, ◌⊎◌, OnOk, IfOk, Contains, length, true};
+ghost use Rattle.std.specs.Bool.{OnTrue, OnFalse};
+ghost use Rattle.occ_diagram.specs.Diagram.{depth_of};
+ghost use Rattle.occ_diagram.specs.Table.{nodes_of};
+ghost use Rattle.occ_dd.specs.Store.{IsKnown, IsEmpty, Keeps, has};
+ghost use Rattle.occ_mdd.specs.Met.{AreHalves, AreSeen, IsSeen, Visits};
+
+use crate::choose::{sides, top_bit};
+use occ_base::Memory;
+use occ_dd::{SetId, Store};
+use occ_diagram::{Call, Label, Memo, Table};
+
+// A set and a function where a bit is 0, and where it is 1.
+#[derive(Clone, Copy)]
+struct Halves {
+    bit: u32,
+    set_low: SetId,
+    set_high: SetId,
+    low: usize,
+    high: usize,
+}
+
+// Whether a set has no members.
+fn is_empty(store: &Store, set: SetId) -> bool
+    requires { IsKnown store.now set }
+    ensures empty { OnTrue result (IsEmpty store.now set) }
+    ensures filled { OnFalse result ((x : ℕ) × (has store.now set x ≡ true)) }
+{
+    set == store.empty()
+}
+
+// Adds a label, where there is one.
+fn note<L: Label>(label: Option<L>, found: &mut Vec<L>) -> Result<(), Memory>
+    ensures kept { (l : L) → Contains found.old.items l → Contains found.new.items l }
+    ensures only { (l : L) → Contains found.new.items l → Contains found.old.items l ⊎ (label ≡ Some l) }
+    ensures all { OnOk result ((l : L) → label ≡ Some l → Contains found.new.items l) }
+{
+    if let Some(label) = label {
+        found.push(label)?;
+    }
+    Ok(())
+}
+
+// The halves of a set and a function at the greatest bit that matters to one of them.
+fn halve<L: Label>(
+    table: &Table<Option<L>>,
+    store: &mut Store,
+    set: SetId,
+    a: usize,
+) -> Result<Halves, Memory>
+    requires set { IsKnown store.old set }
+    requires a { a < length (nodes_of table.now) }
+    requires deep { 0 < depth_of (nodes_of table.now) a }
+    ensures keeps { Keeps store.old store.new }
+    ensures halves { IfOk result (AreHalves (nodes_of table.now) store.new set a) }
+{
+    let parts = store.split(set)?;
+    let Some(split) = parts else {
+        let bit = table.depth(a) - 1;
+        let (low, high) = table.parts(a, bit);
+        return Ok(Halves {
+            bit,
+            set_low: set,
+            set_high: set,
+            low,
+            high,
+        });
+    };
+    let bit = top_bit(table, split.0, a, a);
+    let (set_low, set_high) = sides(store, set, split, bit);
+    let (low, high) = table.parts(a, bit);
+    Ok(Halves {
+        bit,
+        set_low,
+        set_high,
+        low,
+        high,
+    })
+}
+
+// Adds the labels that a function has on a set. A pair that was visited adds none.
+pub fn collect<L: Label>(
+    table: &Table<Option<L>>,
+    store: &mut Store,
+    set: SetId,
+    a: usize,
+    found: &mut Vec<L>,
+    seen: &mut Memo,
+) -> Result<(), Memory>
+    requires set { IsKnown store.old set }
+    requires a { a < length (nodes_of table.now) }
+    requires right { AreSeen (nodes_of table.now) store.old found.old.items seen.old }
+    ensures after { Visits (nodes_of table.now) store.old store.new found.old.items found.new.items seen.new set.0 a }
+    ensures all { OnOk result (IsSeen (nodes_of table.now) store.new found.new.items set.0 a) }
+{
+    if is_empty(store, set) {
+        return Ok(());
+    }
+    let call = Call {
+        first: set.0,
+        second: a,
+        third: 0,
+    };
+    if seen.get(call).is_some() {
+        return Ok(());
+    }
+    if table.depth(a) == 0 {
+        note(table.label(a, 0), found)?;
+        seen.insert(call, 0)?;
+        return Ok(());
+    }
+    let halves = halve(table, store, set, a)?;
+    collect(table, store, halves.set_low, halves.low, found, seen)?;
+    collect(table, store, halves.set_high, halves.high, found, seen)?;
+    seen.insert(call, 0)?;
+    Ok(())
+}
