@@ -78,7 +78,7 @@ layout_of scope h few = record {
 
 -- ---- finding a variable
 
-same_pair : (p q : Width × ℕ) → Some p ≡ Some q → p ≡ q
+pub same_pair : (p q : Width × ℕ) → Some p ≡ Some q → p ≡ q
 same_pair p q e = cc
 
 pub found_width : (entries : List (Name × Width × ℕ)) (y : ℕ) (w : Width) (f : ℕ) → entry_of entries y ≡ Some (w, f) → variable_width (environment_in entries) y ≡ Some w

@@ -4,3 +4,6 @@ pub mod Laid
 pub mod Steps
 pub mod Ends
 pub mod Values
+pub mod Parts
+pub mod States
+pub mod Compared
