@@ -108,12 +108,16 @@ fn a_sum_under_a_condition(rt: HostRuntime) -> Result<(), Memory> {
     Ok(())
 }
 
+// Three words of 8 bits are the 24 bits that a comparison may name.
 #[test]
-fn sums_of_sixteen_bits_commute(rt: HostRuntime) -> Result<(), Memory> {
+fn a_sum_of_three_words_in_another_order(rt: HostRuntime) -> Result<(), Memory> {
     let alloc = rt.alloc();
-    let scope = x_and_y(alloc, Width::Word(8))?;
-    let sum = two(alloc, Op::Plus, Expr::Var(X), Expr::Var(Y))?;
-    let turned = two(alloc, Op::Plus, Expr::Var(Y), Expr::Var(X))?;
+    let mut scope = x_and_y(alloc, Width::Word(8))?;
+    scope.push((Name(2), Kind::Var(Width::Word(8))))?;
+    let x_y = two(alloc, Op::Plus, Expr::Var(X), Expr::Var(Y))?;
+    let sum = two(alloc, Op::Plus, x_y, Expr::Var(Name(2)))?;
+    let y_x = two(alloc, Op::Plus, Expr::Var(Y), Expr::Var(X))?;
+    let turned = two(alloc, Op::Plus, Expr::Var(Name(2)), y_x)?;
     let mut store = Store::new(alloc)?;
     assert!(rt; equal_under(alloc, &mut store, &scope, &[], &sum, &turned)?);
     Ok(())
