@@ -1,0 +1,9 @@
+pub mod Arithmetic
+pub mod Numbers
+pub mod Laid
+pub mod Steps
+pub mod Ends
+pub mod Values
+pub mod Parts
+pub mod States
+pub mod Compared

@@ -1,0 +1,4 @@
+pub mod Circuits
+pub mod Layout
+pub mod Named
+pub mod Words

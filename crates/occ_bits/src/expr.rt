@@ -1,0 +1,58 @@
+ghost use Rattle.std.specs.Prelude.{◌≡◌, true, IfOk, IsSome};
+ghost use Rattle.occ_dd.specs.Store.{IsSet, Keeps};
+ghost use Rattle.occ_syntax.specs.View.{exp};
+ghost use Rattle.occ_syntax.specs.Eval.{is_true};
+ghost use Rattle.occ_syntax.specs.Types.{is_condition, type_of};
+ghost use Rattle.occ_bits.specs.Layout.{IsLayout, environment_in, state_of};
+ghost use Rattle.occ_bits.specs.Words.{IsValue};
+
+use crate::circuits::{apply, flip};
+use crate::digits::{Digits, numeral, variable};
+use crate::{Layout, WordBits};
+use occ_base::{Memory, Name, Width};
+use occ_dd::{SetId, Store};
+use occ_syntax::Expr;
+
+/// The set of the assignments in whose state a condition is TRUE. The expression is a BOOL in the layout.
+pub fn condition(store: &mut Store, layout: &Layout, expr: &Expr) -> Result<SetId, Memory>
+    requires typed { is_condition (environment_in layout.now) (exp expr.now) ≡ true }
+    ensures keeps { Keeps store.old store.new }
+    ensures set { IfOk result (λ r. IsSet store.new r
+        (λ x. is_true (environment_in layout.now) (exp expr.now) (state_of layout.now x))) }
+{
+    let digits = value(store, layout.items(), expr)?;
+    Ok(digits.sets()[0])
+}
+
+/// The binary digits of an expression's value, the lowest first: for each the set of the assignments in whose state it
+/// is 1. The expression has a type in the layout; a BOOL has one digit.
+pub fn word(store: &mut Store, layout: &Layout, expr: &Expr) -> Result<WordBits, Memory>
+    requires typed { IsSome (type_of (environment_in layout.now) (exp expr.now)) }
+    ensures keeps { Keeps store.old store.new }
+    ensures value { IfOk result (λ word. IsValue store.new layout.now (exp expr.now) word) }
+{
+    let digits = value(store, layout.items(), expr)?;
+    Ok(WordBits::new(digits))
+}
+
+fn value(store: &mut Store, entries: &[(Name, Width, u32)], expr: &Expr) -> Result<Digits, Memory>
+    requires laid { IsLayout entries.now }
+    requires typed { IsSome (type_of (environment_in entries.now) (exp expr.now)) }
+    ensures keeps { Keeps store.old store.new }
+    ensures value { IfOk result (λ word. IsValue store.new entries.now (exp expr.now) word) }
+{
+    match expr {
+        Expr::Var(name) => variable(store, entries, *name),
+        Expr::Word { bits, value } => Ok(numeral(store, *bits, *value)),
+        Expr::Bool(truth) => Ok(numeral(store, 1, u8::from(*truth))),
+        Expr::Not(operand) | Expr::Flip(operand) => {
+            let digits = value(store, entries, operand)?;
+            flip(store, digits.sets())
+        }
+        Expr::Two(op, left, right) => {
+            let left_digits = value(store, entries, left)?;
+            let right_digits = value(store, entries, right)?;
+            apply(store, *op, left_digits.sets(), right_digits.sets())
+        }
+    }
+}
