@@ -13,7 +13,8 @@ use occ_base::{Memory, Name, Width};
 use occ_dd::{SetId, Store};
 use occ_syntax::Expr;
 
-/// The set of the assignments in whose state a condition is TRUE. The expression is a BOOL in the layout.
+/// The set of the assignments in whose state a condition is TRUE. The expression is a BOOL in the layout. Each number
+/// that the store gave keeps its set, also after want of memory.
 pub fn condition(store: &mut Store, layout: &Layout, expr: &Expr) -> Result<SetId, Memory>
     requires typed { is_condition (environment_in layout.now) (exp expr.now) ≡ true }
     ensures keeps { Keeps store.old store.new }
@@ -25,7 +26,8 @@ pub fn condition(store: &mut Store, layout: &Layout, expr: &Expr) -> Result<SetI
 }
 
 /// The binary digits of an expression's value, the lowest first: for each the set of the assignments in whose state it
-/// is 1. The expression has a type in the layout; a BOOL has one digit.
+/// is 1. The expression has a type in the layout; a BOOL has one digit. Each number that the store gave keeps its set,
+/// also after want of memory. Sums and differences go digit by digit, as in the full adder and subtractor of hardware.
 pub fn word(store: &mut Store, layout: &Layout, expr: &Expr) -> Result<WordBits, Memory>
     requires typed { IsSome (type_of (environment_in layout.now) (exp expr.now)) }
     ensures keeps { Keeps store.old store.new }
