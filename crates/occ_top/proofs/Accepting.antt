@@ -1,12 +1,12 @@
 -- What the parser says of a file that was read.
-use Rattle.std.proofs.Common.{◌≡◌, ◌≢◌, ◌⊎◌, inl, inr, ℕ, List, refl, sym, subst}
+use Rattle.std.proofs.Common.{◌≡◌, ◌≢◌, ◌⊎◌, inl, inr, ℕ, List, sym, subst}
 use Rattle.std.proofs.Common.{Vec, Global}
 use Rattle.occ_syntax.specs.declared.scope.Program.{Program}
 use Rattle.occ_parse.specs.Reading.{IsRead, ReadsNowhere}
 use Rattle.occ_parse.specs.declared.fault.ParseFault.{ParseFault}
 use Rattle.occ_parse.specs.declared.fault.ParseFault.TheVariants.{Form, Memory}
 use Rattle.occ_top.specs.declared.load.Loaded.{Loaded}
-use Rattle.occ_top.specs.declared.load.Loaded.TheVariants.{Bytes, TooLong}
+use Rattle.occ_top.specs.declared.load.Loaded.TheVariants.{Bytes}
 use Rattle.occ_top.specs.Judged.{IsReadFrom, IsRefusedFrom}
 use Rattle.occ_top.proofs.Straightness.{read_kept}
 

@@ -10,7 +10,7 @@ use Rattle.occ_top.specs.declared.answer.Answer.TheVariants.{Usage, Refused, Int
 use Rattle.occ_top.specs.declared.load.Loaded.{Loaded}
 use Rattle.occ_top.specs.declared.load.Loaded.TheVariants.{Bytes, TooLong}
 use Rattle.occ_top.specs.Files.{IsLoaded}
-use Rattle.occ_top.specs.Answers.{IsAccepted, IsRefused, too_long, no_form, RefusesFirst, RefusesSecond, AcceptsBoth, DifferInInterface, AreCompared, Settles}
+use Rattle.occ_top.specs.Answers.{IsAccepted, IsRefused, too_long, no_form, AreCompared, Settles}
 use Rattle.occ_top.specs.Judged.{IsReadFrom, IsRefusedFrom, IsComparison, IsKept}
 
 refused_file : (l : Loaded) (old : List (List ℕ)) (fault : ParseFault) (file : Option (List ℕ)) → IsRefusedFrom l old fault → IsLoaded file l → IsRefused file old fault

@@ -1,18 +1,15 @@
 -- What is left behind: the names that were asked for, and what was written.
-use Rattle.std.proofs.Common.{◌≡◌, ◌≢◌, ◌≤◌, ◌<◌, ◌+◌, ◌⊎◌, ℕ, List, [], ◌∷◌, ◌++◌, length, take, Option, Some, None, Result, Ok, Err, IfSome, IfOk, refl, sym, ◌∙◌, ap, ap₂, subst, arith, option_map, append_assoc, append-nil, zero, suc, pred, String, Global, map, string_bytes}
+use Rattle.std.proofs.Common.{◌≡◌, ◌≤◌, ◌+◌, ℕ, List, [], ◌∷◌, length, take, Option, Some, None, Result, Ok, Err, IfSome, IfOk, refl, sym, ◌∙◌, ap, subst, arith, append_assoc, append-nil, zero, suc}
 use Rattle.std.specs.Prelude.{IsErrAnd}
 use Rattle.occ_desk.specs.Desk.{with_more, IsCutShort}
-use Rattle.occ_top.specs.declared.words.Command.{Command}
-use Rattle.occ_top.specs.declared.words.Command.TheVariants.{Same}
 use Rattle.occ_top.specs.declared.load.Loaded.{Loaded}
 use Rattle.occ_top.specs.declared.load.Stop.{Stop}
 use Rattle.occ_top.specs.declared.load.Stop.TheVariants.{Read, Memory}
 use Rattle.occ_top.specs.declared.answer.Answer.{Answer}
-use Rattle.occ_top.specs.declared.answer.Answer.TheVariants.{Usage}
-use Rattle.occ_top.specs.Words.{Job, same, job, job_of, files_of, file_words, file_words_of}
+use Rattle.occ_top.specs.Words.{Job, same, job_of, file_words, file_words_of}
 use Rattle.occ_top.specs.Files.{Files, AsksFront, AsksFor, IsLoaded}
 use Rattle.occ_top.specs.Texts.{status_of, text_of}
-use Rattle.occ_top.specs.Answers.{IsAnswer, usage, comparison, Answers, Settles}
+use Rattle.occ_top.specs.Answers.{IsAnswer, comparison, Answers, Settles}
 use Rattle.occ_top.specs.Ran.{Ran, answered, cut_short}
 
 abbrev Asks : Type 0

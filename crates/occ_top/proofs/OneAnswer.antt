@@ -1,5 +1,5 @@
 -- A command line over the same files has one answer.
-use Rattle.std.proofs.Common.{◌≡◌, ◌≤◌, ◌<◌, ℕ, List, [], length, Option, None, Some, refl, sym, ◌∙◌, ap, ap₂, subst, arith}
+use Rattle.std.proofs.Common.{◌≡◌, ℕ, List, [], length, Option, Some, refl, sym, ◌∙◌, ap, ap₂, subst, arith}
 use Rattle.occ_base.specs.declared.names.Name.{Name}
 use Rattle.occ_syntax.specs.declared.scope.Program.{Program}
 use Rattle.occ_syntax.specs.declared.scope.Kind.{Kind}
@@ -14,10 +14,10 @@ use Rattle.occ_straight.specs.Least.{IsLeast}
 use Rattle.occ_straight.proofs.Unique.{one_verdict}
 use Rattle.occ_top.specs.declared.answer.Answer.{Answer}
 use Rattle.occ_top.specs.declared.answer.Answer.TheVariants.{Usage, Refused, InterfacesDiffer, Compared}
-use Rattle.occ_top.specs.Words.{Job, same, job_of}
-use Rattle.occ_top.specs.Files.{Files, most_bytes}
+use Rattle.occ_top.specs.Words.{same}
+use Rattle.occ_top.specs.Files.{Files}
 use Rattle.occ_top.specs.Texts.{status_of, text_of}
-use Rattle.occ_top.specs.Answers.{IsAccepted, IsRefused, too_long, no_form, RefusesFirst, RefusesSecond, AcceptsBoth, DifferInInterface, AreCompared, Settles, IsAnswer, usage, comparison, Answers}
+use Rattle.occ_top.specs.Answers.{IsAccepted, IsRefused, too_long, no_form, AcceptsBoth, DifferInInterface, AreCompared, Settles, IsAnswer, usage, comparison, Answers}
 use Rattle.occ_top.proofs.OneReading.{IsOneReading}
 
 some_is : {X : Type 0} (x y : X) → Some x ≡ Some y → x ≡ y

@@ -3,12 +3,11 @@ use Rattle.std.proofs.Common.{◌≡◌, ℕ, true, List, refl, ap, ◌∙◌}
 use Rattle.std.proofs.lemmas.Bool.{and_from}
 use Rattle.occ_syntax.specs.Scopes.{Environment, environment}
 use Rattle.occ_syntax.specs.declared.scope.Program.{Program}
-use Rattle.occ_syntax.specs.View.{tree}
 use Rattle.occ_parse.specs.Reading.{IsRead}
 use Rattle.occ_parse.specs.Source.{Source, Sources, simple, sequence, no_source, and_source, skip_line, stop_line, assignment}
 use Rattle.occ_parse.specs.Trees.{tree_of, trees_of}
 use Rattle.occ_straight.specs.Straight.{is_straight, all_straight}
-use Rattle.occ_top.specs.Judged.{IsKept, IsReadAs}
+use Rattle.occ_top.specs.Judged.{IsReadAs}
 
 mutual
   straight : (Γ : Environment) (s : Source) → is_straight (tree_of Γ s) ≡ true

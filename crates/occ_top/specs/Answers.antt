@@ -1,6 +1,5 @@
 -- Which answer a command line has over the files.
 use Rattle.std.specs.Prelude.{ℕ, ◌≡◌, ◌≤◌, ◌<◌, List, [], length, Option, None, Some}
-use Rattle.occ_base.specs.declared.event.Event.{Event}
 use Rattle.occ_syntax.specs.declared.scope.Program.{Program}
 use Rattle.occ_syntax.specs.View.{tree}
 use Rattle.occ_parse.specs.Reading.{IsRead, ReadsNowhere}

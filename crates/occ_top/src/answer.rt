@@ -5,8 +5,8 @@ use itoa::Buffer;
 use occ_base::{Memory, Names};
 use occ_behaviour::{Side, Verdict, verdict_text};
 use occ_lex::LineFault;
-use std::alloc::Global;
 use occ_parse::{ParseFault, Which};
+use std::alloc::Global;
 
 /// What a command line is answered with, where all files could be read and memory was found.
 #[derive(Drop)]

@@ -8,10 +8,10 @@ use crate::answer::Answer;
 use crate::load::Loaded;
 use occ_base::{Memory, Name, Names};
 use occ_behaviour::Side;
+use occ_parse::{ParseFault, Which, parse};
 use occ_straight::compare_straight;
 use occ_syntax::{Kind, Program};
 use std::alloc::Global;
-use occ_parse::{ParseFault, Which, parse};
 
 /// The answer to two files whose programs are to be compared. The texts are read in order, and the first that is refused
 /// decides.

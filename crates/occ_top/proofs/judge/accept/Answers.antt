@@ -1,6 +1,4 @@
-use Rattle.std.proofs.Common.{sym, subst}
 use Rattle.std.proofs.lemmas.Result.{err_from_is_err_and}
-use Rattle.occ_parse.specs.Reading.{IsRead}
 use Rattle.occ_top.proofs.Accepting.{refused_from, accepted_from}
 use Rattle.occ_top.proofs.judge.accept.Goals as goal
 
