@@ -4,9 +4,8 @@
 
 mod tasks;
 
-use std::env;
-use std::io;
 use std::time::Instant;
+use std::{env, io};
 
 fn main(rt: HostRuntime) -> io::Result<()> {
     let timed = env::args(&rt)?.count() > 1;

@@ -90,8 +90,8 @@ fn sum_in_either_order(alloc: Global) -> Result<usize, Memory> {
 fn chain(alloc: Global, first: Name, second: Name, third: Name) -> Result<Expr, Memory>
     ensures { IfOk result (λ e. exp e ≡
         operation op.Plus (operation op.Plus (operation op.Plus (operation op.Plus (operation op.Plus (operation op.Plus (operation op.Plus (operation op.Plus
-            (variable first.0) (variable second.0)) (variable third.0)) (variable first.0)) (variable second.0)) (variable third.0))
-            (variable first.0)) (variable second.0)) (variable third.0)) }
+        (variable first.0) (variable second.0)) (variable third.0)) (variable first.0)) (variable second.0)) (variable third.0))
+        (variable first.0)) (variable second.0)) (variable third.0)) }
 {
     let one = plus(alloc, Expr::Var(first), Expr::Var(second))?;
     let two = plus(alloc, one, Expr::Var(third))?;
