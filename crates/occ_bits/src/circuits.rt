@@ -9,6 +9,7 @@ use crate::digits::{Digits, single};
 use occ_base::Memory;
 use occ_dd::{SetId, Store};
 use occ_syntax::Op;
+use std::alloc::Global;
 
 // Truth tables. Of the three inputs of eight rows, the first two are the digits of the operands, and the last is what
 // the lower digits hand on.
@@ -55,6 +56,7 @@ const _: () = prove!(
 
 /// What the operator makes of two words of one length.
 pub(crate) fn apply(
+    alloc: Global,
     store: &mut Store,
     op: Op,
     left: &[SetId],
@@ -69,17 +71,17 @@ pub(crate) fn apply(
         (λ x. applied op (length left.now) (number_at store.old left.now x) (number_at store.old right.now x))) }
 {
     match op {
-        Op::Plus => plus(store, left, right),
-        Op::Minus => minus(store, left, right),
-        Op::And | Op::BitAnd => gates(store, &AND, left, right),
-        Op::Or | Op::BitOr => gates(store, &OR, left, right),
-        Op::BitXor => gates(store, &XOR, left, right),
-        Op::Equal => Ok(single(equal(store, left, right)?)),
-        Op::Differ => Ok(single(differ(store, left, right)?)),
-        Op::Less => Ok(single(less(store, left, right)?)),
-        Op::Greater => Ok(single(less(store, right, left)?)),
-        Op::AtMost => Ok(single(at_most(store, left, right)?)),
-        Op::AtLeast => Ok(single(at_most(store, right, left)?)),
+        Op::Plus => plus(alloc, store, left, right),
+        Op::Minus => minus(alloc, store, left, right),
+        Op::And | Op::BitAnd => gates(alloc, store, &AND, left, right),
+        Op::Or | Op::BitOr => gates(alloc, store, &OR, left, right),
+        Op::BitXor => gates(alloc, store, &XOR, left, right),
+        Op::Equal => Ok(single(alloc, equal(store, left, right)?)),
+        Op::Differ => Ok(single(alloc, differ(store, left, right)?)),
+        Op::Less => Ok(single(alloc, less(alloc, store, left, right)?)),
+        Op::Greater => Ok(single(alloc, less(alloc, store, right, left)?)),
+        Op::AtMost => Ok(single(alloc, at_most(alloc, store, left, right)?)),
+        Op::AtLeast => Ok(single(alloc, at_most(alloc, store, right, left)?)),
     }
 }
 
@@ -122,7 +124,7 @@ fn take_digits(
 }
 
 /// The sum, modulo two to the length.
-fn plus(store: &mut Store, left: &[SetId], right: &[SetId]) -> Result<Digits, Memory>
+fn plus(alloc: Global, store: &mut Store, left: &[SetId], right: &[SetId]) -> Result<Digits, Memory>
     requires left { All (IsKnown store.old) left.now }
     requires right { All (IsKnown store.old) right.now }
     requires same { length left.now ≡ length right.now }
@@ -131,7 +133,7 @@ fn plus(store: &mut Store, left: &[SetId], right: &[SetId]) -> Result<Digits, Me
     ensures sum { IfOk result (λ word. IsWord store.new (length left.now) word
         (λ x. (number_at store.old left.now x + number_at store.old right.now x) % 2 ^ length left.now)) }
 {
-    let mut sum = Digits::new();
+    let mut sum = Digits::new(alloc);
     let mut carry = store.empty();
     for k in 0..left.len() {
         let (digit, next) = add_digits(store, left[k], right[k], carry)?;
@@ -142,7 +144,12 @@ fn plus(store: &mut Store, left: &[SetId], right: &[SetId]) -> Result<Digits, Me
 }
 
 /// The difference, modulo two to the length, and its last borrow: whether the first word is less.
-fn subtract(store: &mut Store, left: &[SetId], right: &[SetId]) -> Result<(Digits, SetId), Memory>
+fn subtract(
+    alloc: Global,
+    store: &mut Store,
+    left: &[SetId],
+    right: &[SetId],
+) -> Result<(Digits, SetId), Memory>
     requires left { All (IsKnown store.old) left.now }
     requires right { All (IsKnown store.old) right.now }
     requires same { length left.now ≡ length right.now }
@@ -150,7 +157,7 @@ fn subtract(store: &mut Store, left: &[SetId], right: &[SetId]) -> Result<(Digit
     ensures keeps { Keeps store.old store.new }
     ensures difference { IfOk result (λ r. IsDifference store.old store.new left.now right.now r.0 r.1) }
 {
-    let mut difference = Digits::new();
+    let mut difference = Digits::new(alloc);
     let mut borrow = store.empty();
     for k in 0..left.len() {
         let (digit, next) = take_digits(store, left[k], right[k], borrow)?;
@@ -161,7 +168,12 @@ fn subtract(store: &mut Store, left: &[SetId], right: &[SetId]) -> Result<(Digit
 }
 
 /// The difference, modulo two to the length.
-fn minus(store: &mut Store, left: &[SetId], right: &[SetId]) -> Result<Digits, Memory>
+fn minus(
+    alloc: Global,
+    store: &mut Store,
+    left: &[SetId],
+    right: &[SetId],
+) -> Result<Digits, Memory>
     requires left { All (IsKnown store.old) left.now }
     requires right { All (IsKnown store.old) right.now }
     requires same { length left.now ≡ length right.now }
@@ -170,12 +182,12 @@ fn minus(store: &mut Store, left: &[SetId], right: &[SetId]) -> Result<Digits, M
     ensures difference { IfOk result (λ word. IsWord store.new (length left.now) word
         (λ x. (number_at store.old left.now x + (2 ^ length left.now - number_at store.old right.now x)) % 2 ^ length left.now)) }
 {
-    let (difference, _) = subtract(store, left, right)?;
+    let (difference, _) = subtract(alloc, store, left, right)?;
     Ok(difference)
 }
 
 /// Where the first word is less than the second: the last borrow of their difference.
-fn less(store: &mut Store, left: &[SetId], right: &[SetId]) -> Result<SetId, Memory>
+fn less(alloc: Global, store: &mut Store, left: &[SetId], right: &[SetId]) -> Result<SetId, Memory>
     requires left { All (IsKnown store.old) left.now }
     requires right { All (IsKnown store.old) right.now }
     requires same { length left.now ≡ length right.now }
@@ -184,12 +196,17 @@ fn less(store: &mut Store, left: &[SetId], right: &[SetId]) -> Result<SetId, Mem
     ensures less { IfOk result (λ r. IsSet store.new r
         (λ x. nat_lt (number_at store.old left.now x) (number_at store.old right.now x))) }
 {
-    let (_, borrow) = subtract(store, left, right)?;
+    let (_, borrow) = subtract(alloc, store, left, right)?;
     Ok(borrow)
 }
 
 /// Where the first word is at most the second.
-fn at_most(store: &mut Store, left: &[SetId], right: &[SetId]) -> Result<SetId, Memory>
+fn at_most(
+    alloc: Global,
+    store: &mut Store,
+    left: &[SetId],
+    right: &[SetId],
+) -> Result<SetId, Memory>
     requires left { All (IsKnown store.old) left.now }
     requires right { All (IsKnown store.old) right.now }
     requires same { length left.now ≡ length right.now }
@@ -198,7 +215,7 @@ fn at_most(store: &mut Store, left: &[SetId], right: &[SetId]) -> Result<SetId, 
     ensures at_most { IfOk result (λ r. IsSet store.new r
         (λ x. nat_le (number_at store.old left.now x) (number_at store.old right.now x))) }
 {
-    let greater = less(store, right, left)?;
+    let greater = less(alloc, store, right, left)?;
     store.not(greater)
 }
 
@@ -235,6 +252,7 @@ pub(crate) fn equal(store: &mut Store, left: &[SetId], right: &[SetId]) -> Resul
 
 /// A table of four rows at each two digits of two words.
 fn gates(
+    alloc: Global,
     store: &mut Store,
     rows: &[bool; 4],
     left: &[SetId],
@@ -248,7 +266,7 @@ fn gates(
     ensures gates { IfOk result (λ word. HasBits store.new (length left.now) word
         (row_at store.old rows.now left.now right.now)) }
 {
-    let mut word = Digits::new();
+    let mut word = Digits::new(alloc);
     for k in 0..left.len() {
         let digit = store.truth(rows, &[left[k], right[k]])?;
         word.push(digit);
@@ -257,14 +275,14 @@ fn gates(
 }
 
 /// Each digit turned.
-pub(crate) fn flip(store: &mut Store, digits: &[SetId]) -> Result<Digits, Memory>
+pub(crate) fn flip(alloc: Global, store: &mut Store, digits: &[SetId]) -> Result<Digits, Memory>
     requires digits { All (IsKnown store.old) digits.now }
     requires few { length digits.now ≤ 8 }
     ensures keeps { Keeps store.old store.new }
     ensures flipped { IfOk result (λ word. IsWord store.new (length digits.now) word
         (λ x. 2 ^ length digits.now - 1 - number_at store.old digits.now x)) }
 {
-    let mut word = Digits::new();
+    let mut word = Digits::new(alloc);
     for digit in digits {
         let turned = store.not(*digit)?;
         word.push(turned);

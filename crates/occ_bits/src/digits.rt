@@ -8,34 +8,34 @@ ghost use Rattle.occ_bits.specs.Words.{IsWord};
 use crate::layout::find;
 use occ_base::{Memory, Name, Width};
 use occ_dd::{SetId, Store};
+use smallvec::SmallVec;
+use std::alloc::Global;
 use std::marker::Model;
 
-/// The digits of a word while it is made, the lowest first: at most 8.
+/// The digits of a word while it is made, the lowest first: at most 8, which stand in the value itself.
 #[derive(Drop)]
 pub(crate) struct Digits {
-    sets: [SetId; 8],
-    count: usize,
+    sets: SmallVec<SetId, 8>,
 }
 
 impl Model for Digits {
-    ghost use Rattle.std.specs.Prelude.{List, ◌≤◌, take};
+    ghost use Rattle.std.specs.Prelude.{List, ◌≡◌, ◌≤◌, length};
     ghost use Rattle.occ_dd.specs.declared.set.SetId.{SetId};
 
     ghost Value = { List SetId };
 
-    ghost view = { λ digits. take digits.count digits.sets };
+    ghost view = { λ digits. digits.sets.items };
 
-    ghost invariant = { λ digits. digits.count ≤ 8 };
+    ghost invariant = { λ digits. (digits.sets.capacity ≡ 8) × (length digits.sets.items ≤ 8) };
 }
 
 impl Digits {
     /// No digits yet.
-    pub(crate) fn new() -> Digits
+    pub(crate) fn new(alloc: Global) -> Digits
         ensures { result ≡ [] }
     {
         Digits {
-            sets: [SetId(0); 8],
-            count: 0,
+            sets: SmallVec::new(alloc),
         }
     }
 
@@ -44,8 +44,7 @@ impl Digits {
         requires { length self.old < 8 }
         ensures { self.new ≡ self.old ++ digit ∷ [] }
     {
-        self.sets[self.count] = digit;
-        self.count += 1;
+        self.sets.push_reserved(digit);
     }
 
     /// The digits so far.
@@ -53,7 +52,7 @@ impl Digits {
         ensures sets { result.now ≡ self.now }
         ensures few { length self.now ≤ 8 }
     {
-        &self.sets[..self.count]
+        self.sets.as_slice()
     }
 }
 
@@ -95,21 +94,21 @@ impl WordBits {
 }
 
 /// A word of one digit.
-pub(crate) fn single(digit: SetId) -> Digits
+pub(crate) fn single(alloc: Global, digit: SetId) -> Digits
     ensures { result ≡ digit ∷ [] }
 {
-    let mut word = Digits::new();
+    let mut word = Digits::new(alloc);
     word.push(digit);
     word
 }
 
 /// A numeral: each digit is 1 everywhere or nowhere.
-pub(crate) fn numeral(store: &Store, bits: u8, value: u8) -> Digits
+pub(crate) fn numeral(alloc: Global, store: &Store, bits: u8, value: u8) -> Digits
     requires bits { bits ≤ 8 }
     requires value { value < 2 ^ bits }
     ensures { IsWord store.now bits result (λ x. value) }
 {
-    let mut word = Digits::new();
+    let mut word = Digits::new(alloc);
     for k in 0..bits {
         let digit = if (value >> k) & 1 == 1 {
             store.full()
@@ -123,6 +122,7 @@ pub(crate) fn numeral(store: &Store, bits: u8, value: u8) -> Digits
 
 /// The value of a variable: its bits.
 pub(crate) fn variable(
+    alloc: Global,
     store: &mut Store,
     entries: &[(Name, Width, u32)],
     name: Name,
@@ -134,19 +134,19 @@ pub(crate) fn variable(
         word (λ x. state_of entries.now x name.0)) }
 {
     match find(entries, name) {
-        Some((width, first)) => bits_from(store, first, width.bits()),
+        Some((width, first)) => bits_from(alloc, store, first, width.bits()),
         None => unreachable!(),
     }
 }
 
 /// Some bits in a row as a word.
-fn bits_from(store: &mut Store, first: u32, count: u8) -> Result<Digits, Memory>
+fn bits_from(alloc: Global, store: &mut Store, first: u32, count: u8) -> Result<Digits, Memory>
     requires within { first + count ≤ 64 }
     requires few { count ≤ 8 }
     ensures keeps { Keeps store.old store.new }
     ensures word { IfOk result (λ word. IsWord store.new count word (λ x. x / 2 ^ first % 2 ^ count)) }
 {
-    let mut word = Digits::new();
+    let mut word = Digits::new(alloc);
     for k in 0..u32::from(count) {
         let digit = store.bit(first + k)?;
         word.push(digit);

@@ -38,13 +38,18 @@ pub fn equal_under(
 {
     let part = named_scope(alloc, scope, left, right, under)?;
     let layout = Layout::of(alloc, &part)?;
-    let premise = all_hold(store, &layout, under)?;
-    let same = same_value(store, &layout, left, right)?;
+    let premise = all_hold(alloc, store, &layout, under)?;
+    let same = same_value(alloc, store, &layout, left, right)?;
     store.subset(premise, same)
 }
 
 /// The set of the assignments in whose state all conditions are TRUE.
-fn all_hold(store: &mut Store, layout: &Layout, under: &[Expr]) -> Result<SetId, Memory>
+fn all_hold(
+    alloc: Global,
+    store: &mut Store,
+    layout: &Layout,
+    under: &[Expr],
+) -> Result<SetId, Memory>
     requires { are_conditions (environment_in layout.now) (exps under.now) ≡ true }
     ensures keeps { Keeps store.old store.new }
     ensures set { IfOk result (λ r. IsSet store.new r
@@ -52,7 +57,7 @@ fn all_hold(store: &mut Store, layout: &Layout, under: &[Expr]) -> Result<SetId,
 {
     let mut all = store.full();
     for expr in under {
-        let holds = condition(store, layout, expr)?;
+        let holds = condition(alloc, store, layout, expr)?;
         all = store.and(all, holds)?;
     }
     Ok(all)
@@ -60,6 +65,7 @@ fn all_hold(store: &mut Store, layout: &Layout, under: &[Expr]) -> Result<SetId,
 
 /// The set of the assignments in whose state two expressions of one type have one value.
 fn same_value(
+    alloc: Global,
     store: &mut Store,
     layout: &Layout,
     left: &Expr,
@@ -70,7 +76,7 @@ fn same_value(
     ensures set { IfOk result (λ r. IsSet store.new r
         (λ x. value_at layout.now (exp left.now) x == value_at layout.now (exp right.now) x)) }
 {
-    let left_bits = word(store, layout, left)?;
-    let right_bits = word(store, layout, right)?;
+    let left_bits = word(alloc, store, layout, left)?;
+    let right_bits = word(alloc, store, layout, right)?;
     equal(store, left_bits.bits(), right_bits.bits())
 }

@@ -12,49 +12,65 @@ use crate::{Layout, WordBits};
 use occ_base::{Memory, Name, Width};
 use occ_dd::{SetId, Store};
 use occ_syntax::Expr;
+use std::alloc::Global;
 
 /// The set of the assignments in whose state a condition is TRUE. The expression is a BOOL in the layout. Each number
 /// that the store gave keeps its set, also after want of memory.
-pub fn condition(store: &mut Store, layout: &Layout, expr: &Expr) -> Result<SetId, Memory>
+pub fn condition(
+    alloc: Global,
+    store: &mut Store,
+    layout: &Layout,
+    expr: &Expr,
+) -> Result<SetId, Memory>
     requires typed { is_condition (environment_in layout.now) (exp expr.now) ≡ true }
     ensures keeps { Keeps store.old store.new }
     ensures set { IfOk result (λ r. IsSet store.new r
         (λ x. is_true (environment_in layout.now) (exp expr.now) (state_of layout.now x))) }
 {
-    let digits = value(store, layout.items(), expr)?;
+    let digits = value(alloc, store, layout.items(), expr)?;
     Ok(digits.sets()[0])
 }
 
 /// The binary digits of an expression's value, the lowest first: for each the set of the assignments in whose state it
 /// is 1. The expression has a type in the layout; a BOOL has one digit. Each number that the store gave keeps its set,
 /// also after want of memory. Sums and differences go digit by digit, as in the full adder and subtractor of hardware.
-pub fn word(store: &mut Store, layout: &Layout, expr: &Expr) -> Result<WordBits, Memory>
+pub fn word(
+    alloc: Global,
+    store: &mut Store,
+    layout: &Layout,
+    expr: &Expr,
+) -> Result<WordBits, Memory>
     requires typed { IsSome (type_of (environment_in layout.now) (exp expr.now)) }
     ensures keeps { Keeps store.old store.new }
     ensures value { IfOk result (λ word. IsValue store.new layout.now (exp expr.now) word) }
 {
-    let digits = value(store, layout.items(), expr)?;
+    let digits = value(alloc, store, layout.items(), expr)?;
     Ok(WordBits::new(digits))
 }
 
-fn value(store: &mut Store, entries: &[(Name, Width, u32)], expr: &Expr) -> Result<Digits, Memory>
+fn value(
+    alloc: Global,
+    store: &mut Store,
+    entries: &[(Name, Width, u32)],
+    expr: &Expr,
+) -> Result<Digits, Memory>
     requires laid { IsLayout entries.now }
     requires typed { IsSome (type_of (environment_in entries.now) (exp expr.now)) }
     ensures keeps { Keeps store.old store.new }
     ensures value { IfOk result (λ word. IsValue store.new entries.now (exp expr.now) word) }
 {
     match expr {
-        Expr::Var(name) => variable(store, entries, *name),
-        Expr::Word { bits, value } => Ok(numeral(store, *bits, *value)),
-        Expr::Bool(truth) => Ok(numeral(store, 1, u8::from(*truth))),
+        Expr::Var(name) => variable(alloc, store, entries, *name),
+        Expr::Word { bits, value } => Ok(numeral(alloc, store, *bits, *value)),
+        Expr::Bool(truth) => Ok(numeral(alloc, store, 1, u8::from(*truth))),
         Expr::Not(operand) | Expr::Flip(operand) => {
-            let digits = value(store, entries, operand)?;
-            flip(store, digits.sets())
+            let digits = value(alloc, store, entries, operand)?;
+            flip(alloc, store, digits.sets())
         }
         Expr::Two(op, left, right) => {
-            let left_digits = value(store, entries, left)?;
-            let right_digits = value(store, entries, right)?;
-            apply(store, *op, left_digits.sets(), right_digits.sets())
+            let left_digits = value(alloc, store, entries, left)?;
+            let right_digits = value(alloc, store, entries, right)?;
+            apply(alloc, store, *op, left_digits.sets(), right_digits.sets())
         }
     }
 }

@@ -53,7 +53,7 @@ fn a_condition_on_two_words(rt: HostRuntime) -> Result<(), Memory> {
     let layout = Layout::of(alloc, &scope)?;
     let mut store = Store::new(alloc)?;
     let less = two(alloc, Op::Less, Expr::Var(X), Expr::Var(Y))?;
-    let set = condition(&mut store, &layout, &less)?;
+    let set = condition(alloc, &mut store, &layout, &less)?;
     // x is in the bits 0 and 1, y in the bits 2 and 3
     for (bits, is_member) in [
         (0b0100, true),
@@ -73,7 +73,7 @@ fn the_digits_of_a_difference(rt: HostRuntime) -> Result<(), Memory> {
     let layout = Layout::of(alloc, &scope)?;
     let mut store = Store::new(alloc)?;
     let minus = two(alloc, Op::Minus, Expr::Var(X), Expr::Var(Y))?;
-    let digits = word(&mut store, &layout, &minus)?;
+    let digits = word(alloc, &mut store, &layout, &minus)?;
     assert_eq!(rt; digits.bits().len(), 2);
     // 1 MINUS 2 is 3, and 2 MINUS 0 is 2
     for (bits, low, high) in [(0b1001, true, true), (0b0010, false, true)] {
