@@ -1,0 +1,8 @@
+ghost use Rattle.occ_node.specs.Exact.{exact_node};
+
+use crate::NodeId;
+use occ_diagram::Label;
+
+impl Label for NodeId {
+    ghost exact = { exact_node };
+}

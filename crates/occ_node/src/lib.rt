@@ -1,0 +1,22 @@
+//! Behaviours as rows: a node stands for the failures and the ends of a process, and one behaviour
+//! has one node.
+#![tactic(auto)]
+
+mod compared;
+mod find;
+mod label;
+mod law;
+mod node;
+mod offers;
+mod root;
+mod row;
+#[cfg(test)]
+mod tests;
+mod world;
+
+pub use law::{behaviours_have_one_number, rows_are_recovered};
+pub use node::NodeId;
+pub use offers::Offers;
+pub use root::Root;
+pub use row::Row;
+pub use world::World;
