@@ -1,0 +1,11 @@
+use occ_base::Event;
+use occ_node::NodeId;
+
+/// An enabled branch of an ALT, with the behaviours of its process.
+#[derive(Clone, Copy, Debug, PartialEq, Eq)]
+pub enum Branch {
+    /// Its guard is SKIP.
+    Skip(NodeId),
+    /// Its guard is that event.
+    Event(Event, NodeId),
+}

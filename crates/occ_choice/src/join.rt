@@ -1,0 +1,50 @@
+ghost use Rattle.std.specs.Prelude.{◌≡◌, ◌||◌, IfOk};
+ghost use Rattle.occ_accept.specs.Accept.{in_set};
+ghost use Rattle.occ_base.specs.declared.event.Event.{Event};
+ghost use Rattle.occ_node.specs.Offers.{is_offered};
+ghost use Rattle.occ_node.specs.World.{IsNode, Leads, row_of, fails, ends, row_fails, row_ends};
+ghost use Rattle.occ_choice.specs.Joined.{AreReached, IsSound};
+ghost use Rattle.occ_choice.specs.Union.{IsAdded};
+
+use occ_accept::AcceptSet;
+use occ_base::Memory;
+use occ_node::{NodeId, Offers, Row, World};
+use std::alloc::Global;
+
+// The events of either of two lists of offers.
+pub(crate) fn either_events(alloc: Global, p: &Offers, q: &Offers) -> Result<AcceptSet, Memory>
+    ensures { IfOk result (λ r. (e : Event) → in_set r e ≡ (is_offered p.now e || is_offered q.now e)) }
+{
+    p.events(alloc)?.union(alloc, &q.events(alloc)?)
+}
+
+// The node of a row and a node together, once their offers are joined. What they had is that of an earlier
+// world.
+pub(crate) fn join(
+    alloc: Global,
+    world: &mut World,
+    row: &Row,
+    b: NodeId,
+    events: &AcceptSet,
+    offers: Offers,
+) -> Result<NodeId, Memory>
+    requires row { IsSound world.old row.now }
+    requires b { IsNode world.old b }
+    requires events { (e : Event) → in_set events.now e ≡ (is_offered row.now.offers e || is_offered (row_of world.old b).offers e) }
+    requires offers { AreReached world.old offers events.now
+        (λ t X. row_fails world.old row.now t X || fails world.old b t X)
+        (λ t x. row_ends world.old row.now t x || ends world.old b t x) }
+    ensures leads { Leads world.old world.new }
+    ensures added { IfOk result (IsAdded world.old world.new row.now b) }
+{
+    let other = world.row(b);
+    let other_ends = other.ends;
+    let accepts = occ_accept::join(alloc, &row.accepts, &other.accepts)?;
+    let _events = events.items();
+    let ends = world.store.or(row.ends, other_ends)?;
+    world.make(Row {
+        ends,
+        accepts,
+        offers,
+    })
+}

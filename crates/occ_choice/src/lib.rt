@@ -1,0 +1,17 @@
+//! Choice on behaviours: unions, inputs and outputs, and the ALT of enabled branches.
+#![tactic(auto)]
+
+mod alternatives;
+mod branch;
+mod join;
+mod prefix;
+#[cfg(test)]
+mod tests;
+mod unions;
+mod unite;
+
+pub use alternatives::{alt, alt_with};
+pub use branch::Branch;
+pub use prefix::{prefix_in, prefix_out};
+pub use unions::Unions;
+pub use unite::{add, union, union_with};
