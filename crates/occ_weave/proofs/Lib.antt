@@ -1,0 +1,11 @@
+pub mod Unfolding
+pub mod Growth
+pub mod Freeing
+pub mod Alive
+pub mod Assembled
+pub mod Accepting
+pub mod Public
+pub mod Merging
+pub mod Stepping
+pub mod States
+pub mod Keeping

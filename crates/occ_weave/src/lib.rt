@@ -1,0 +1,18 @@
+//! Two processes side by side: the node of what both do, where they communicate with each other unseen.
+#![tactic(auto)]
+
+mod calls;
+mod closed;
+mod ends;
+mod law;
+mod merge;
+mod resting;
+mod step;
+#[cfg(test)]
+mod tests;
+mod weaves;
+mod weaving;
+
+pub use calls::{weave, weave_with};
+pub use law::joined_ends_are_joined_states;
+pub use weaves::Weaves;
