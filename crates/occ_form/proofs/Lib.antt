@@ -1,0 +1,14 @@
+mod Apart
+mod Basics
+mod Chains
+mod Complete
+mod Cutting
+mod Declarations
+mod Distinct
+mod Forms
+mod Fronts
+mod Lists
+mod SoundExpressions
+mod SoundItems
+mod Splitting
+mod Statements

@@ -1,0 +1,6 @@
+pub mod Gives
+pub mod Lines
+pub mod Reading
+pub mod Shape
+pub mod Symbols
+pub mod Written
