@@ -1,0 +1,7 @@
+pub mod Forest
+pub mod Places
+pub mod Judging
+pub mod Names
+pub mod Types
+pub mod Limits
+pub mod Unrolled
