@@ -1,0 +1,9 @@
+mod Facts
+mod Taken
+mod Typed
+mod Declared
+mod Lines
+mod Kept
+mod Params
+mod Small
+mod Forms
