@@ -1,0 +1,6 @@
+pub mod Rooms
+pub mod Behind
+pub mod Forests
+pub mod Once
+pub mod Levels
+pub mod Framed

@@ -1,0 +1,4 @@
+pub mod Layout
+pub mod Scan
+pub mod Nesting
+pub mod Whole
