@@ -1,0 +1,4 @@
+pub mod Taken
+pub mod Chain
+pub mod Reaching
+pub mod Checking
