@@ -1,0 +1,4 @@
+pub mod Turns
+pub mod Asking
+pub mod Lines
+pub mod Walking
