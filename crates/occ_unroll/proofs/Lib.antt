@@ -1,0 +1,14 @@
+pub mod Lines
+pub mod Faults
+pub mod Others
+pub mod Sized
+pub mod Steps
+pub mod Wide
+pub mod Tables
+pub mod Known
+pub mod Declaring
+pub mod Results
+pub mod Words
+pub mod Assigned
+pub mod Pieces
+pub mod Numbered

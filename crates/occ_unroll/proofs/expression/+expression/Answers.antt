@@ -1,0 +1,15 @@
+use Rattle.std.proofs.Common.{length, sym, subst, ap, arith}
+use Rattle.occ_form.specs.Shape.{said}
+use Rattle.occ_symbol.proofs.Interned.{longer}
+use Rattle.occ_unroll.specs.Known.{IsKnownSaid}
+use Rattle.occ_unroll.proofs.Known.{said_known}
+use Rattle.occ_unroll.proofs.Words.{words}
+use Rattle.occ_unroll.proofs.expression.+expression.Goals as goal
+
+pub expression-requires-in-Two-2 : goal.expression-requires-in-Two-2
+expression-requires-in-Two-2 t c =
+    let both = subst (λ p. IsKnownSaid (length c.args.names.now) (said p)) c.in-Two.is c.requires in
+    let right = subst (λ p. IsKnownSaid (length c.args.names.now) (said p)) (sym c.deref-in-Two-4.ensures) both.1 in
+    let e = ap (λ p. words (said p)) c.in-Two.is in
+    let d = ap (λ p. words (said p)) c.deref-in-Two-4.ensures in
+    (omega (arith, e, d, c.decreases), said_known _ _ (said c.deref-in-Two-4.result.now) (longer _ _ c.in_ok-left-in-Two.ensures.extends) right)

@@ -1,0 +1,14 @@
+use Rattle.std.proofs.Common.{◌≡◌, ◌++◌, ℕ, List, drop, map}
+use Rattle.occ_syntax.specs.View.{numbers}
+use Rattle.occ_symbol.specs.Symbols.{Extends}
+use Rattle.occ_draft.specs.Unrolled.{item_number}
+use Rattle.occ_unroll.specs.Numbers.{number_in}
+use Rattle.occ_unroll.specs.Present.{values_of}
+use Rattle.occ_unroll.proofs.expression.left_names.Given as goal
+
+-- the names so far and those of the items that are left are all
+abbrev pub invariant-loop-item : goal.invariant-loop-item
+invariant-loop-item l = record {
+  whole : (t : List (List ℕ)) → Extends l.names t → numbers l.list ++ map (item_number (number_in t) (values_of l.context.values)) (drop l.item-index l.items) ≡ map (item_number (number_in t) (values_of l.context.values)) l.items;
+  grown : Extends l.fn.names l.names;
+}

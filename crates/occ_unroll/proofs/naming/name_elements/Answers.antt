@@ -1,0 +1,16 @@
+use Rattle.std.proofs.Common.{◌≡◌, ◌+◌, ◌-◌, Some, ap, ◌∙◌, arith}
+use Rattle.occ_symbol.proofs.Interned.{extends_trans}
+use Rattle.occ_unroll.specs.Numbers.{number_in}
+use Rattle.occ_unroll.proofs.Declaring.{one_element}
+use Rattle.occ_unroll.proofs.naming.name_elements.Goals as goal
+
+pub loop-k-preserved : goal.loop-k-preserved
+loop-k-preserved c =
+    let n : c.args.count - c.loop-k.k ≡ c.args.count - (c.loop-k.k + 1) + 1 = omega arith in
+    record {
+      whole = λ t f.
+          one_element (number_in t) c.args.kind c.args.array.0 c.loop-k.k _ _ c.in_ok-name.name _ _ n
+          (c.in_ok-name.ensures.number t f ∙ ap (λ k. number_in t c.args.array.0 (Some k)) c.from.ensures) c.in_ok-push.ensures.ok
+          ∙ c.loop-k.invariant.whole t (extends_trans _ _ _ c.in_ok-name.ensures.extends f);
+      grown = extends_trans _ _ _ c.loop-k.invariant.grown c.in_ok-name.ensures.extends;
+    }

@@ -1,0 +1,14 @@
+use Rattle.std.proofs.Common.{◌≡◌, ◌-◌, ◌++◌, ℕ, List}
+use Rattle.occ_form.specs.declared.form.Declared.TheVariants as declared
+use Rattle.occ_symbol.specs.Symbols.{Extends}
+use Rattle.occ_draft.specs.Unrolled.{named}
+use Rattle.occ_unroll.specs.Numbers.{number_in}
+use Rattle.occ_unroll.proofs.Declaring.{elements_named}
+use Rattle.occ_unroll.proofs.naming.name_elements.Given as goal
+
+-- the names so far and those of the elements that are left are all
+abbrev pub invariant-loop-k : goal.invariant-loop-k
+invariant-loop-k l = record {
+  whole : (t : List (List ℕ)) → Extends l.names t → l.waiting ++ elements_named (number_in t) l.kind l.array.0 l.k (l.count - l.k) ≡ l.fn.waiting ++ named (number_in t) l.kind (declared.Array l.array l.count);
+  grown : Extends l.fn.names l.names;
+}

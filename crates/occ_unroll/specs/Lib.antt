@@ -1,0 +1,7 @@
+pub mod Reading
+pub mod Sizes
+pub mod Bits
+pub mod Numbers
+pub mod Known
+pub mod Present
+pub mod Guards

@@ -1,0 +1,20 @@
+//! The limits of a program's lines, judged before a copy is made, and the program that the lines stand for.
+#![tactic(auto)]
+
+mod bits;
+mod context;
+mod counting;
+mod expression;
+mod limits;
+mod line;
+mod lined;
+mod naming;
+mod program;
+mod reading;
+mod unrolling;
+mod values;
+
+pub use bits::bits_fault;
+pub use counting::controls;
+pub use limits::count_fault;
+pub use program::{Unrolled, unroll};
