@@ -4,3 +4,4 @@ pub mod Forests
 pub mod Once
 pub mod Levels
 pub mod Framed
+pub mod Options

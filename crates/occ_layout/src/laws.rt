@@ -1,6 +1,7 @@
 ghost use Rattle.occ_draft.specs.Forest.{Forest, Laid, lines_at};
 ghost use Rattle.occ_layout.specs.Layout.{least_bad};
 ghost use Rattle.occ_layout.specs.Nesting.{Nest};
+ghost use Rattle.occ_layout.specs.Options.{options_declare_nothing};
 ghost use Rattle.occ_layout.specs.Whole.{IsProgram, every_line, is_inner, is_single, outermost_level};
 ghost use Rattle.occ_layout.specs.declared.placed.Frame.TheVariants.{Part, Plain, Program};
 ghost use Rattle.occ_layout.specs.declared.placed.Frame.{Frame};
@@ -31,4 +32,9 @@ pub fn good_parts_have_no_header()
 pub fn good_plain_lines_have_no_replicator()
     ensures plain { (rows : List Laid) (forest : Forest) → lines_at 0 forest ≡ rows → least_bad Plain false rows ≡ None → every_line is_single forest ≡ true }
     ensures part { (rows : List Laid) (forest : Forest) → lines_at 1 forest ≡ rows → least_bad Part false rows ≡ None → every_line is_single forest ≡ true }
+{}
+
+/// Among good lines no declaration stands among the choices of an IF or the alternatives of an ALT.
+pub fn good_options_declare_nothing()
+    ensures { (f : Frame) (more : Bool) (level : ℕ) (rows : List Laid) (forest : Forest) → lines_at level forest ≡ rows → least_bad f more rows ≡ None → options_declare_nothing forest ≡ true }
 {}

@@ -14,8 +14,8 @@ mod tests;
 
 pub use growing::grown;
 pub use laws::{
-    good_lines_nest, good_parts_have_no_header, good_plain_lines_have_no_replicator,
-    good_programs_have_one_header, one_forest,
+    good_lines_nest, good_options_declare_nothing, good_parts_have_no_header,
+    good_plain_lines_have_no_replicator, good_programs_have_one_header, one_forest,
 };
 pub use placed::{Frame, Placed};
 pub use reading::least_bad;
