@@ -4,6 +4,6 @@ mod Typed
 mod Declared
 mod Lines
 mod Kept
-mod Params
-mod Small
-mod Forms
+pub mod Params
+pub mod Small
+pub mod Forms

@@ -12,3 +12,5 @@ pub mod Words
 pub mod Assigned
 pub mod Pieces
 pub mod Numbered
+pub mod Elements
+pub mod Built

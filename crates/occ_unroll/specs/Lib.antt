@@ -5,3 +5,4 @@ pub mod Numbers
 pub mod Known
 pub mod Present
 pub mod Guards
+pub mod Elements

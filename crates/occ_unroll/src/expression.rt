@@ -5,6 +5,7 @@ ghost use Rattle.occ_form.specs.Shape.{all_said, said, waiting as waiting_said};
 ghost use Rattle.occ_symbol.specs.Symbols.{Extends};
 ghost use Rattle.occ_draft.specs.Types.{asks, channel_here, class, or_width, own as own_of, sort_here, width_of_sort};
 ghost use Rattle.occ_draft.specs.Unrolled.{expression as expression_of, item_exp, item_number, value as value_of, values as all_values, waited};
+ghost use Rattle.occ_unroll.specs.Elements.{item_places, items_places, operand_places, places_in, values_places, waiting_places, with_places};
 ghost use Rattle.occ_unroll.specs.Known.{IsKnownItem, IsKnownSaid, IsKnownWaiting};
 ghost use Rattle.occ_unroll.specs.Numbers.{number_in};
 ghost use Rattle.occ_unroll.specs.Present.{values_of};
@@ -93,7 +94,8 @@ fn item_expression(
     ensures expression { IfOk result (λ e. (t : List (List ℕ)) → Extends names.new t
         → let Γ = context.now.scopes in let ρ = values_of context.now.values in
         exp e ≡ item_exp (sort_here Γ ρ item) (ρ item.name.0) (item_number (number_in t) ρ item) width) }
-    ensures extends { OnOk result (Extends names.old names.new) }
+    ensures table { OnOk result (names.new ≡ with_places names.old (operand_places (sort_here context.now.scopes (values_of context.now.values) item) (item_places (values_of context.now.values) item))) }
+    ensures extends { Extends names.old names.new }
 {
     if let Some(Sort::Counter { .. }) = context.sort(item) {
         return Ok(Expr::Word {
@@ -115,7 +117,8 @@ pub fn expression(
     requires { IsKnownSaid (length names.old) (said phrase.now) }
     ensures expression { IfOk result (λ e. (t : List (List ℕ)) → Extends names.new t
         → exp e ≡ expression_of (number_in t) context.now.scopes (values_of context.now.values) (said phrase.now) width) }
-    ensures extends { OnOk result (Extends names.old names.new) }
+    ensures table { OnOk result (names.new ≡ with_places names.old (places_in context.now.scopes (values_of context.now.values) (said phrase.now))) }
+    ensures extends { Extends names.old names.new }
 {
     match phrase {
         Phrase::Item(item) => item_expression(alloc, names, context, *item, width),
@@ -157,7 +160,8 @@ pub fn values(
     requires { AllByRecursion (IsKnownSaid (length names.old)) (all_said right.now) }
     ensures values { IfOk result (λ es. (t : List (List ℕ)) → Extends names.new t
         → exps es ≡ all_values (number_in t) context.now.scopes (values_of context.now.values) left.now (all_said right.now)) }
-    ensures extends { OnOk result (Extends names.old names.new) }
+    ensures table { OnOk result (names.new ≡ with_places names.old (values_places context.now.scopes (values_of context.now.values) left.now (all_said right.now))) }
+    ensures extends { Extends names.old names.new }
 {
     let mut values = Exprs::new(alloc);
     for i in 0..left.len().min(right.len()) {
@@ -177,7 +181,8 @@ pub fn left_names(
     requires { AllByRecursion (IsKnownItem (length names.old)) items.now }
     ensures names { IfOk result (λ xs. (t : List (List ℕ)) → Extends names.new t
         → numbers xs ≡ map (item_number (number_in t) (values_of context.now.values)) items.now) }
-    ensures extends { OnOk result (Extends names.old names.new) }
+    ensures table { OnOk result (names.new ≡ with_places names.old (items_places (values_of context.now.values) items.now)) }
+    ensures extends { Extends names.old names.new }
 {
     let mut list = NameList::new(alloc);
     for item in items {
@@ -200,7 +205,9 @@ pub fn output(
         → let Γ = context.now.scopes in let ρ = values_of context.now.values in
         (r.0.0 ≡ item_number (number_in t) ρ chan)
         × (exp r.1 ≡ value_of (number_in t) Γ ρ (channel_here Γ ρ chan) (said value.now))) }
-    ensures extends { OnOk result (Extends names.old names.new) }
+    ensures table { OnOk result (let ρ = values_of context.now.values in
+        names.new ≡ with_places names.old (item_places ρ chan ++ places_in context.now.scopes ρ (said value.now))) }
+    ensures extends { Extends names.old names.new }
 {
     let name = item_name(alloc, names, context, chan)?;
     let value = expression(alloc, names, context, value, context.channel_width(chan))?;
@@ -220,7 +227,8 @@ pub fn input(
     ensures input { IfOk result (λ r. (t : List (List ℕ)) → Extends names.new t
         → let ρ = values_of context.now.values in
         (r.0.0 ≡ item_number (number_in t) ρ chan) × (r.1.0 ≡ item_number (number_in t) ρ var)) }
-    ensures extends { OnOk result (Extends names.old names.new) }
+    ensures table { OnOk result (let ρ = values_of context.now.values in names.new ≡ with_places names.old (item_places ρ chan ++ item_places ρ var)) }
+    ensures extends { Extends names.old names.new }
 {
     let chan = item_name(alloc, names, context, chan)?;
     let var = item_name(alloc, names, context, var)?;
@@ -237,7 +245,8 @@ pub fn wait(
     requires { IsKnownWaiting (length names.old) (waiting_said wants.now) }
     ensures wait { IfOk result (λ w. (t : List (List ℕ)) → Extends names.new t
         → waiting_view w ≡ waited (number_in t) context.now.scopes (values_of context.now.values) (waiting_said wants.now)) }
-    ensures extends { OnOk result (Extends names.old names.new) }
+    ensures table { OnOk result (names.new ≡ with_places names.old (waiting_places context.now.scopes (values_of context.now.values) (waiting_said wants.now))) }
+    ensures extends { Extends names.old names.new }
 {
     match wants {
         Wants::Skip => Ok(Wait::Skip),

@@ -11,6 +11,8 @@ mod lined;
 mod naming;
 mod program;
 mod reading;
+#[cfg(test)]
+mod tests;
 mod unrolling;
 mod values;
 

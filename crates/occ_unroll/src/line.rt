@@ -1,10 +1,11 @@
-ghost use Rattle.std.specs.Prelude.{◌≡◌, ◌<◌, ℕ, List, true, false, length, map, OnOk, IfOk};
+ghost use Rattle.std.specs.Prelude.{◌≡◌, ◌<◌, ◌++◌, ℕ, List, true, false, length, map, OnOk, IfOk};
 ghost use Rattle.std.specs.List.{AllByRecursion};
 ghost use Rattle.occ_syntax.specs.Tree.{assign as assignment};
 ghost use Rattle.occ_syntax.specs.View.{exp, tree, waiting};
 ghost use Rattle.occ_form.specs.Shape.{all_said, shape};
 ghost use Rattle.occ_symbol.specs.Symbols.{Extends};
 ghost use Rattle.occ_draft.specs.Unrolled.{Lines, item_number, process, values as all_values};
+ghost use Rattle.occ_unroll.specs.Elements.{Elements, guard_places, items_places, process_places, values_places, with_places};
 ghost use Rattle.occ_unroll.specs.Guards.{guard_condition, guard_wait};
 ghost use Rattle.occ_unroll.specs.Known.{IsKnownItem, IsKnownLine, IsKnownSaid};
 ghost use Rattle.occ_unroll.specs.Numbers.{number_in};
@@ -32,7 +33,9 @@ fn assign(
         → let ρ = values_of context.now.values in
         tree p ≡ assignment (map (item_number (number_in t) ρ) left.now)
         (all_values (number_in t) context.now.scopes ρ left.now (all_said right.now))) }
-    ensures extends { OnOk result (Extends names.old names.new) }
+    ensures table { OnOk result (let ρ = values_of context.now.values in
+        names.new ≡ with_places names.old (items_places ρ left.now ++ values_places context.now.scopes ρ left.now (all_said right.now))) }
+    ensures extends { Extends names.old names.new }
 {
     let vars = left_names(alloc, names, context, left)?;
     let values = values(alloc, names, context, left, right)?;
@@ -51,7 +54,9 @@ pub fn simple(
     requires simple { is_group (shape form.now) ≡ false }
     ensures tree { IfOk result (λ p. (below : Lines) (t : List (List ℕ)) → Extends names.new t
         → tree p ≡ process (number_in t) (shape form.now) below context.now.scopes (values_of context.now.values)) }
-    ensures extends { OnOk result (Extends names.old names.new) }
+    ensures table { OnOk result ((below : Elements)
+        → names.new ≡ with_places names.old (process_places (shape form.now) below context.now.scopes (values_of context.now.values))) }
+    ensures extends { Extends names.old names.new }
 {
     match form {
         Form::Stop => Ok(Proc::Stop),
@@ -84,7 +89,8 @@ pub fn guard(
         → exp g.condition ≡ guard_condition (number_in t) context.now.scopes (values_of context.now.values) (shape form.now)) }
     ensures wait { IfOk result (λ g. (t : List (List ℕ)) → Extends names.new t
         → waiting g.wait ≡ guard_wait (number_in t) context.now.scopes (values_of context.now.values) (shape form.now)) }
-    ensures extends { OnOk result (Extends names.old names.new) }
+    ensures table { OnOk result (names.new ≡ with_places names.old (guard_places context.now.scopes (values_of context.now.values) (shape form.now))) }
+    ensures extends { Extends names.old names.new }
 {
     match form {
         Form::Input { chan, var } => {

@@ -1,8 +1,9 @@
-ghost use Rattle.std.specs.Prelude.{◌≡◌, ◌<◌, ◌++◌, ℕ, List, Some, length, OnOk, IfOk};
+ghost use Rattle.std.specs.Prelude.{◌≡◌, ◌<◌, ◌++◌, ℕ, List, Some, length, OnOk, OnErr, IfOk};
 ghost use Rattle.std.specs.List.{AllByRecursion};
 ghost use Rattle.occ_symbol.specs.Symbols.{Extends};
-ghost use Rattle.occ_draft.specs.Places.{declared_in, entries_of, sort_of as sort_of_kind};
+ghost use Rattle.occ_draft.specs.Places.{declared_in, entries_of, places, sort_of as sort_of_kind};
 ghost use Rattle.occ_draft.specs.Unrolled.{all_named, item_number, named};
+ghost use Rattle.occ_unroll.specs.Elements.{all_places, item_places, with_place, with_places};
 ghost use Rattle.occ_unroll.specs.Known.{IsKnownDeclared, IsKnownItem};
 ghost use Rattle.occ_unroll.specs.Numbers.{element_text as element_text_of, number_in};
 ghost use Rattle.occ_unroll.specs.Present.{values_of};
@@ -26,11 +27,14 @@ fn element_text(alloc: Global, array: &[u8], k: u16) -> Result<Vec<u8>, Memory>
     Ok(text)
 }
 
-/// The number of an array's element. It stays the same in every table that goes on from the table behind it.
+/// The number of an array's element, whose text is in the table from then on. It stays the same in every table that goes on
+/// from the table behind it. After want of memory the table is as before.
 pub fn element(alloc: Global, names: &mut Names, array: Name, k: u16) -> Result<Name, Memory>
     requires { array.0 < length names.old }
     ensures number { IfOk result (λ name. (t : List (List ℕ)) → Extends names.new t → name.0 ≡ number_in t array.0 (Some k)) }
-    ensures extends { OnOk result (Extends names.old names.new) }
+    ensures table { OnOk result (names.new ≡ with_place names.old array.0 (Some k)) }
+    ensures err { OnErr result (names.new ≡ names.old) }
+    ensures extends { Extends names.old names.new }
 {
     let text = element_text(alloc, names.text(array), k)?;
     names.intern(text.as_slice())
@@ -46,7 +50,8 @@ pub fn item_name(
     requires { IsKnownItem (length names.old) item }
     ensures number { IfOk result (λ name. (t : List (List ℕ)) → Extends names.new t
         → name.0 ≡ item_number (number_in t) (values_of context.now.values) item) }
-    ensures extends { OnOk result (Extends names.old names.new) }
+    ensures table { OnOk result (names.new ≡ with_places names.old (item_places (values_of context.now.values) item)) }
+    ensures extends { Extends names.old names.new }
 {
     match item.index {
         None => Ok(item.name),
@@ -72,7 +77,8 @@ pub fn declare(
     ensures values { OnOk result (context.new.values ≡ context.old.values) }
     ensures waiting { OnOk result ((t : List (List ℕ)) → Extends names.new t
         → waiting.new ≡ waiting.old ++ all_named (number_in t) kind declared.now) }
-    ensures extends { OnOk result (Extends names.old names.new) }
+    ensures table { OnOk result (names.new ≡ with_places names.old (all_places declared.now)) }
+    ensures extends { Extends names.old names.new }
 {
     for d in declared {
         context.scopes.declare(Entry {
@@ -104,7 +110,8 @@ pub fn name_places(
 ) -> Result<(), Memory>
     requires { IsKnownDeclared (length names.old) declared }
     ensures waiting { OnOk result ((t : List (List ℕ)) → Extends names.new t → waiting.new ≡ waiting.old ++ named (number_in t) kind declared) }
-    ensures extends { OnOk result (Extends names.old names.new) }
+    ensures table { OnOk result (names.new ≡ with_places names.old (places declared)) }
+    ensures extends { Extends names.old names.new }
 {
     match declared {
         Declared::Plain(name) => waiting.push((name, kind)),
@@ -126,7 +133,8 @@ fn name_elements(
     requires { array.0 < length names.old }
     ensures waiting { OnOk result ((t : List (List ℕ)) → Extends names.new t
         → waiting.new ≡ waiting.old ++ named (number_in t) kind (Declared.Array array count)) }
-    ensures extends { OnOk result (Extends names.old names.new) }
+    ensures table { OnOk result (names.new ≡ with_places names.old (places (Declared.Array array count))) }
+    ensures extends { Extends names.old names.new }
 {
     for k in 0..count {
         let name = element(alloc, names, array, u16::from(k))?;

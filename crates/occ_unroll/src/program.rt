@@ -5,6 +5,7 @@ ghost use Rattle.occ_symbol.specs.Symbols.{Extends};
 ghost use Rattle.occ_draft.specs.Forest.{forest};
 ghost use Rattle.occ_draft.specs.Places.{declared_in, param_entries};
 ghost use Rattle.occ_draft.specs.Unrolled.{lined, params_named, slot_process};
+ghost use Rattle.occ_unroll.specs.Elements.{params_places, with_elements, with_places};
 ghost use Rattle.occ_unroll.specs.Known.{AreKnownLines, IsKnownParam};
 ghost use Rattle.occ_unroll.specs.Numbers.{number_in};
 
@@ -30,7 +31,9 @@ pub struct Unrolled {
 /// The program that the lines below a header with those parameters stand for: each replicator as its copies, each array as
 /// its elements, an IF among choices and an ALT among alternatives as choices and alternatives in that place, and each
 /// numeral with the width that its place asks for. An element has its own name in the table, that of its text, as `x[3]`.
-/// It answers Memory only for want of memory, and then nothing is said of the table.
+/// The table then has the elements that the parameters and the lines speak of (`with_elements`), which the old table, the
+/// parameters and the lines alone determine; each table that goes on from it has the same numbers for them. It answers
+/// Memory only for want of memory, and then the table has some of them.
 pub fn unroll(
     alloc: Global,
     names: &mut Names,
@@ -39,11 +42,12 @@ pub fn unroll(
 ) -> Result<Unrolled, Memory>
     requires params { AllByRecursion (IsKnownParam (length names.old)) params.now }
     requires lines { AreKnownLines (length names.old) (forest below.now) }
-    ensures params { IfOk result (λ unrolled. unrolled.params ≡ params_named (number_in names.new) params.now) }
-    ensures body { IfOk result (λ unrolled. tree unrolled.body
-        ≡ slot_process (number_in names.new) (declared_in [] (param_entries params.now)) (forest below.now)) }
+    ensures params { IfOk result (λ unrolled. (t : List (List ℕ)) → Extends names.new t → unrolled.params ≡ params_named (number_in t) params.now) }
+    ensures body { IfOk result (λ unrolled. (t : List (List ℕ)) → Extends names.new t
+        → tree unrolled.body ≡ slot_process (number_in t) (declared_in [] (param_entries params.now)) (forest below.now)) }
     ensures lines { IfOk result (λ unrolled. unrolled.lines ≡ (lined (forest below.now)).parts) }
-    ensures extends { OnOk result (Extends names.old names.new) }
+    ensures table { OnOk result (names.new ≡ with_elements names.old params.now (forest below.now)) }
+    ensures extends { Extends names.old names.new }
 {
     let mut context = Context::new(alloc);
     let params = declare_params(alloc, names, &mut context, params)?;
@@ -67,7 +71,8 @@ fn declare_params(
     ensures scopes { OnOk result (context.new.scopes ≡ declared_in context.old.scopes (param_entries params.now)) }
     ensures values { OnOk result (context.new.values ≡ context.old.values) }
     ensures params { IfOk result (λ scope. (t : List (List ℕ)) → Extends names.new t → scope ≡ params_named (number_in t) params.now) }
-    ensures extends { OnOk result (Extends names.old names.new) }
+    ensures table { OnOk result (names.new ≡ with_places names.old (params_places params.now)) }
+    ensures extends { Extends names.old names.new }
 {
     let mut scope = Scope::new(alloc);
     for param in params {

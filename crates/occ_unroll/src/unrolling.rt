@@ -5,6 +5,7 @@ ghost use Rattle.occ_form.specs.Shape.{shape};
 ghost use Rattle.occ_symbol.specs.Symbols.{Extends};
 ghost use Rattle.occ_draft.specs.Forest.{forest};
 ghost use Rattle.occ_draft.specs.Unrolled.{as_parts, branch_line, branches_then, case_line, cases_then, construct as construct_of, copied, no_lines, process as process_of, slot as slot_of, trees_then, unrolled};
+ghost use Rattle.occ_unroll.specs.Elements.{as_slots, branch_places, case_places, construct_places, copied_places, elements, process_places, with_places};
 ghost use Rattle.occ_unroll.specs.Known.{AreKnownLines, IsKnownLine};
 ghost use Rattle.occ_unroll.specs.Numbers.{number_in};
 ghost use Rattle.occ_unroll.specs.Present.{values_of};
@@ -35,7 +36,9 @@ pub fn slot(
         → tree p ≡ slot_of (unrolled (number_in t) (forest nodes.now)) context.old.scopes (values_of context.old.values)) }
     ensures scopes { OnOk result (context.new.scopes ≡ context.old.scopes) }
     ensures values { OnOk result (context.new.values ≡ context.old.values) }
-    ensures extends { OnOk result (Extends names.old names.new) }
+    ensures table { OnOk result (names.new ≡ with_places names.old
+        ((elements (forest nodes.now)).first context.old.scopes (values_of context.old.values))) }
+    ensures extends { Extends names.old names.new }
 {
     let depth = context.scopes.depth();
     let mut waiting = Scope::new(alloc);
@@ -78,7 +81,9 @@ fn add_slots(
         (as_parts (unrolled (number_in t) (forest nodes.now)) context.old.scopes (values_of context.old.values))) }
     ensures scopes { OnOk result (context.new.scopes ≡ context.old.scopes) }
     ensures values { OnOk result (context.new.values ≡ context.old.values) }
-    ensures extends { OnOk result (Extends names.old names.new) }
+    ensures table { OnOk result (names.new ≡ with_places names.old
+        (as_slots (elements (forest nodes.now)) context.old.scopes (values_of context.old.values))) }
+    ensures extends { Extends names.old names.new }
 {
     let depth = context.scopes.depth();
     let mut waiting = Scope::new(alloc);
@@ -122,7 +127,9 @@ fn process(
         → tree p ≡ process_of (number_in t) (shape form.now) (unrolled (number_in t) (forest below.now)) context.old.scopes (values_of context.old.values)) }
     ensures scopes { OnOk result (context.new.scopes ≡ context.old.scopes) }
     ensures values { OnOk result (context.new.values ≡ context.old.values) }
-    ensures extends { OnOk result (Extends names.old names.new) }
+    ensures table { OnOk result (names.new ≡ with_places names.old
+        (process_places (shape form.now) (elements (forest below.now)) context.old.scopes (values_of context.old.values))) }
+    ensures extends { Extends names.old names.new }
 {
     match group(form) {
         Some((group, times)) => construct(alloc, names, context, group, times, below),
@@ -144,7 +151,9 @@ fn construct(
         → tree p ≡ construct_of group times (unrolled (number_in t) (forest below.now)) context.old.scopes (values_of context.old.values)) }
     ensures scopes { OnOk result (context.new.scopes ≡ context.old.scopes) }
     ensures values { OnOk result (context.new.values ≡ context.old.values) }
-    ensures extends { OnOk result (Extends names.old names.new) }
+    ensures table { OnOk result (names.new ≡ with_places names.old
+        (construct_places group times (elements (forest below.now)) context.old.scopes (values_of context.old.values))) }
+    ensures extends { Extends names.old names.new }
 {
     match group {
         Group::Seq => {
@@ -185,7 +194,9 @@ fn add_slot_copies(
         (copied trees_then no_tree times context.old.scopes (values_of context.old.values) (as_parts (unrolled (number_in t) (forest below.now))))) }
     ensures scopes { OnOk result (context.new.scopes ≡ context.old.scopes) }
     ensures values { OnOk result (context.new.values ≡ context.old.values) }
-    ensures extends { OnOk result (Extends names.old names.new) }
+    ensures table { OnOk result (names.new ≡ with_places names.old
+        (copied_places times context.old.scopes (values_of context.old.values) (as_slots (elements (forest below.now))))) }
+    ensures extends { Extends names.old names.new }
 {
     let Some(times) = times else {
         return add_slots(alloc, names, context, below, parts);
@@ -213,7 +224,9 @@ fn add_choices(
         ((unrolled (number_in t) (forest nodes.now)).cases context.old.scopes (values_of context.old.values))) }
     ensures scopes { OnOk result (context.new.scopes ≡ context.old.scopes) }
     ensures values { OnOk result (context.new.values ≡ context.old.values) }
-    ensures extends { OnOk result (Extends names.old names.new) }
+    ensures table { OnOk result (names.new ≡ with_places names.old
+        ((elements (forest nodes.now)).cases context.old.scopes (values_of context.old.values))) }
+    ensures extends { Extends names.old names.new }
 {
     for node in nodes {
         let (_, form, below) = node.seen();
@@ -238,7 +251,9 @@ fn add_choice(
         (case_line (number_in t) (shape form.now) (unrolled (number_in t) (forest below.now)) no_lines context.old.scopes (values_of context.old.values))) }
     ensures scopes { OnOk result (context.new.scopes ≡ context.old.scopes) }
     ensures values { OnOk result (context.new.values ≡ context.old.values) }
-    ensures extends { OnOk result (Extends names.old names.new) }
+    ensures table { OnOk result (names.new ≡ with_places names.old
+        (case_places (shape form.now) (elements (forest below.now)) context.old.scopes (values_of context.old.values))) }
+    ensures extends { Extends names.old names.new }
 {
     if let Some(phrase) = condition(form) {
         let condition = expression(alloc, names, context, phrase, Width::Bool)?;
@@ -268,7 +283,9 @@ fn add_choice_copies(
         (copied cases_then no_case times context.old.scopes (values_of context.old.values) (unrolled (number_in t) (forest below.now)).cases)) }
     ensures scopes { OnOk result (context.new.scopes ≡ context.old.scopes) }
     ensures values { OnOk result (context.new.values ≡ context.old.values) }
-    ensures extends { OnOk result (Extends names.old names.new) }
+    ensures table { OnOk result (names.new ≡ with_places names.old
+        (copied_places times context.old.scopes (values_of context.old.values) (elements (forest below.now)).cases)) }
+    ensures extends { Extends names.old names.new }
 {
     let Some(times) = times else {
         return add_choices(alloc, names, context, below, list);
@@ -299,7 +316,9 @@ fn add_alternatives(
         ((unrolled (number_in t) (forest nodes.now)).branches context.old.scopes (values_of context.old.values))) }
     ensures scopes { OnOk result (context.new.scopes ≡ context.old.scopes) }
     ensures values { OnOk result (context.new.values ≡ context.old.values) }
-    ensures extends { OnOk result (Extends names.old names.new) }
+    ensures table { OnOk result (names.new ≡ with_places names.old
+        ((elements (forest nodes.now)).branches context.old.scopes (values_of context.old.values))) }
+    ensures extends { Extends names.old names.new }
 {
     for node in nodes {
         let (_, form, below) = node.seen();
@@ -324,7 +343,9 @@ fn add_alternative(
         (branch_line (number_in t) (shape form.now) (unrolled (number_in t) (forest below.now)) no_lines context.old.scopes (values_of context.old.values))) }
     ensures scopes { OnOk result (context.new.scopes ≡ context.old.scopes) }
     ensures values { OnOk result (context.new.values ≡ context.old.values) }
-    ensures extends { OnOk result (Extends names.old names.new) }
+    ensures table { OnOk result (names.new ≡ with_places names.old
+        (branch_places (shape form.now) (elements (forest below.now)) context.old.scopes (values_of context.old.values))) }
+    ensures extends { Extends names.old names.new }
 {
     if is_guard(form) {
         let guard = guard(alloc, names, context, form)?;
@@ -354,7 +375,9 @@ fn add_alternative_copies(
         (copied branches_then no_branch times context.old.scopes (values_of context.old.values) (unrolled (number_in t) (forest below.now)).branches)) }
     ensures scopes { OnOk result (context.new.scopes ≡ context.old.scopes) }
     ensures values { OnOk result (context.new.values ≡ context.old.values) }
-    ensures extends { OnOk result (Extends names.old names.new) }
+    ensures table { OnOk result (names.new ≡ with_places names.old
+        (copied_places times context.old.scopes (values_of context.old.values) (elements (forest below.now)).branches)) }
+    ensures extends { Extends names.old names.new }
 {
     let Some(times) = times else {
         return add_alternatives(alloc, names, context, below, list);

@@ -4,6 +4,8 @@ use Rattle.occ_unroll.specs.Known.{IsKnownDeclared}
 use Rattle.occ_unroll.specs.Numbers.{number_in}
 use Rattle.occ_unroll.proofs.Declaring.{one_declared, one_scope}
 use Rattle.occ_unroll.proofs.Known.{all_at_or, declared_known}
+use Rattle.occ_draft.specs.Places.{places}
+use Rattle.occ_unroll.proofs.Elements.{one_more}
 use Rattle.occ_unroll.proofs.naming.declare.Goals as goal
 
 pub name_places-requires : goal.name_places-requires
@@ -17,5 +19,6 @@ loop-d-preserved c = record {
   values = c.loop-d.invariant.values;
   waiting = λ t f. one_declared (number_in t) _ _ _ _ _ _ c.loop-d-test.true (c.in_ok-name_places.ensures.waiting t f)
       ∙ c.loop-d.invariant.waiting t (extends_trans _ _ _ c.in_ok-name_places.ensures.extends f);
+  table = one_more places c.args.declared.now _ _ _ _ c.loop-d-test.true c.in_ok-name_places.ensures.table ∙ c.loop-d.invariant.table;
   grown = extends_trans _ _ _ c.loop-d.invariant.grown c.in_ok-name_places.ensures.extends;
 }

@@ -4,11 +4,14 @@ use Rattle.occ_symbol.specs.Symbols.{Extends}
 use Rattle.occ_draft.specs.Unrolled.{named}
 use Rattle.occ_unroll.specs.Numbers.{number_in}
 use Rattle.occ_unroll.proofs.Declaring.{elements_named}
+use Rattle.occ_draft.specs.Places.{elements_from, places}
+use Rattle.occ_unroll.specs.Elements.{with_places}
 use Rattle.occ_unroll.proofs.naming.name_elements.Given as goal
 
 -- the names so far and those of the elements that are left are all
 abbrev pub invariant-loop-k : goal.invariant-loop-k
 invariant-loop-k l = record {
   whole : (t : List (List ℕ)) → Extends l.names t → l.waiting ++ elements_named (number_in t) l.kind l.array.0 l.k (l.count - l.k) ≡ l.fn.waiting ++ named (number_in t) l.kind (declared.Array l.array l.count);
+  table : with_places l.names (elements_from l.array.0 l.k (l.count - l.k)) ≡ with_places l.fn.names (places (declared.Array l.array l.count));
   grown : Extends l.fn.names l.names;
 }

@@ -4,6 +4,9 @@ use Rattle.occ_unroll.specs.Known.{IsKnownParam}
 use Rattle.occ_unroll.specs.Numbers.{number_in}
 use Rattle.occ_unroll.proofs.Declaring.{one_param, one_param_scope}
 use Rattle.occ_unroll.proofs.Known.{all_at_or, declared_known}
+use Rattle.occ_form.specs.declared.form.Param.{Param}
+use Rattle.occ_draft.specs.Places.{places}
+use Rattle.occ_unroll.proofs.Elements.{one_more}
 use Rattle.occ_unroll.proofs.program.declare_params.Goals as goal
 
 pub name_places-requires : goal.name_places-requires
@@ -17,5 +20,6 @@ loop-param-preserved c = record {
   values = c.loop-param.invariant.values;
   names = λ t f. one_param (number_in t) _ _ _ _ _ c.loop-param-test.true (c.in_ok-name_places.ensures.waiting t f)
       ∙ c.loop-param.invariant.names t (extends_trans _ _ _ c.in_ok-name_places.ensures.extends f);
+  table = one_more (λ (p : Param). places p.declared) c.args.params.now _ _ _ _ c.loop-param-test.true c.in_ok-name_places.ensures.table ∙ c.loop-param.invariant.table;
   grown = extends_trans _ _ _ c.loop-param.invariant.grown c.in_ok-name_places.ensures.extends;
 }

@@ -15,6 +15,8 @@ use Rattle.occ_unroll.proofs.Known.{all_declared_known, line_known, lines_known}
 use Rattle.occ_unroll.proofs.Lines.{lines_at, lines-and, lines_done}
 use Rattle.occ_unroll.proofs.Results.{on_ok}
 use Rattle.occ_unroll.proofs.Pieces.{trees_then-none, cases_then-none, branches_then-none, trees_then-assoc, cases_then-assoc, branches_then-assoc, no_choice, no_alternative, one_choice, one_alternative, nested_choices, nested_alternatives, parts_behind, part_more, choice_more, alternative_more, copy_more, copies_done, empty_choices, empty_alternatives, Widens, widens_same, widens_behind, closed, left_again, values_again, seq_of, par_of, if_of, alt_of, tree-Skip}
+use Rattle.occ_unroll.specs.Elements.{all_places, as_slots, elements, with_places}
+use Rattle.occ_unroll.proofs.Elements.{first_behind, slots_behind, slots_here, case_more, branch_more, copy_table, guard_table, nested_alt_table, no_branch_table, no_branch_copies, condition_table, nested_if_table, no_case_table, no_case_copies, copies_last}
 use Rattle.occ_unroll.proofs.unrolling.+unroll.Goals as goal
 use Rattle.occ_unroll.proofs.unrolling.+unroll.Goals.{add_slots-in-Some+in_ok-declare-in-Some, add_slots-in-None+in_ok-part-in-None+in_ok-within-in-None+in_ok-push-in-None}
 
@@ -160,6 +162,7 @@ slot-loop-node-preserved t c =
       scopes = widens_behind c.args.context.now.scopes c.loop-node.context.scopes _ (entries_of d.kind d.declared) scopes c.loop-node.invariant.scopes;
       deep = c.loop-node.invariant.deep;
       known = k.2;
+      table = first_behind _ _ _ _ _ e d.kind d.declared c.loop-node.context.scopes _ (values_of c.args.context.now.values) _ _ _ c.in-Some.ensures scopes (s.table ∙ ap (λ ds. with_places c.loop-node.names (all_places ds)) c.items.ensures) c.loop-node.invariant.table;
       grown = extends_trans _ _ _ c.loop-node.invariant.grown s.extends;
       left = omega (arith, lines-and _ _ _ _ _ e, c.loop-node.invariant.left);
     }
@@ -182,6 +185,7 @@ add_slots-loop-node-preserved t c =
             scopes = widens_behind c.args.context.now.scopes c.loop-node.context.scopes _ (entries_of d.kind d.declared) scopes c.loop-node.invariant.scopes;
             deep = c.loop-node.invariant.deep;
             known = k.2;
+            table = slots_behind _ _ _ _ _ e d.kind d.declared c.args.context.now.scopes c.loop-node.context.scopes _ (values_of c.args.context.now.values) _ _ _ w.in-Some.ensures scopes (s.table ∙ ap (λ ds. with_places c.loop-node.names (all_places ds)) w.items.ensures) c.loop-node.invariant.table;
             grown = extends_trans _ _ _ c.loop-node.invariant.grown s.extends;
             left = omega (arith, lines-and _ _ _ _ _ e, c.loop-node.invariant.left);
           })
@@ -203,6 +207,7 @@ add_slots-loop-node-preserved t c =
             scopes = subst (Widens outer) (sym shut) (widens_same outer);
             deep = c.loop-node.invariant.deep;
             known = k.2;
+            table = slots_here _ _ _ _ _ e outer c.loop-node.context.scopes _ c.loop-node.context.values c.args.context.now.values _ _ _ w.in-None.ensures c.loop-node.invariant.values shut p.table c.loop-node.invariant.table;
             grown = extends_trans _ _ _ c.loop-node.invariant.grown p.extends;
             left = omega (arith, lines-and _ _ _ _ _ e, c.loop-node.invariant.left);
           })
@@ -220,6 +225,7 @@ add_choices-loop-node-preserved t c =
       values = s.values ∙ c.loop-node.invariant.values;
       scopes = s.scopes ∙ c.loop-node.invariant.scopes;
       known = k.2;
+      table = case_more _ _ _ _ _ e c.args.context.now.scopes c.loop-node.context.scopes c.args.context.now.values c.loop-node.context.values _ _ _ c.loop-node.invariant.scopes c.loop-node.invariant.values s.table c.loop-node.invariant.table;
       grown = extends_trans _ _ _ c.loop-node.invariant.grown s.extends;
       left = omega (arith, lines-and _ _ _ _ _ e, c.loop-node.invariant.left);
     }
@@ -236,6 +242,7 @@ add_alternatives-loop-node-preserved t c =
       values = s.values ∙ c.loop-node.invariant.values;
       scopes = s.scopes ∙ c.loop-node.invariant.scopes;
       known = k.2;
+      table = branch_more _ _ _ _ _ e c.args.context.now.scopes c.loop-node.context.scopes c.args.context.now.values c.loop-node.context.values _ _ _ c.loop-node.invariant.scopes c.loop-node.invariant.values s.table c.loop-node.invariant.table;
       grown = extends_trans _ _ _ c.loop-node.invariant.grown s.extends;
       left = omega (arith, lines-and _ _ _ _ _ e, c.loop-node.invariant.left);
     }
@@ -255,6 +262,8 @@ add_slot_copies-loop-copy-preserved t c =
           c.loop-copy.invariant.scopes c.loop-copy.invariant.values c.in_ok-enter.ensures.scopes c.in_ok-enter.ensures.values c.loop-copy-test.true (s.parts t' f) (c.loop-copy.invariant.whole t' (extends_trans _ _ _ s.extends f));
       values = values_again _ _ _ _ _ c.in_ok-enter.ensures.values s.values c.leave.ensures.values ∙ c.loop-copy.invariant.values;
       scopes = left_again _ _ _ _ _ c.in_ok-enter.ensures.scopes s.scopes c.leave.ensures.scopes ∙ c.loop-copy.invariant.scopes;
+      table = copy_table c.in-Some.times c.args.context.now.scopes c.loop-copy.context.scopes c.enter.new.self.scopes c.args.context.now.values c.loop-copy.context.values c.enter.new.self.values c.loop-copy.copy (as_slots (elements (forest c.args.below.now))) _ _ _
+          c.loop-copy.invariant.scopes c.loop-copy.invariant.values c.in_ok-enter.ensures.scopes c.in_ok-enter.ensures.values c.loop-copy-test.true s.table c.loop-copy.invariant.table;
       grown = extends_trans _ _ _ c.loop-copy.invariant.grown s.extends;
     }
 
@@ -271,6 +280,8 @@ add_choice_copies-loop-copy-preserved t c =
           c.loop-copy.invariant.scopes c.loop-copy.invariant.values c.in_ok-enter.ensures.scopes c.in_ok-enter.ensures.values c.loop-copy-test.true (s.list t' f) (c.loop-copy.invariant.whole t' (extends_trans _ _ _ s.extends f));
       values = values_again _ _ _ _ _ c.in_ok-enter.ensures.values s.values c.leave.ensures.values ∙ c.loop-copy.invariant.values;
       scopes = left_again _ _ _ _ _ c.in_ok-enter.ensures.scopes s.scopes c.leave.ensures.scopes ∙ c.loop-copy.invariant.scopes;
+      table = copy_table c.in-Some.times c.args.context.now.scopes c.loop-copy.context.scopes c.enter.new.self.scopes c.args.context.now.values c.loop-copy.context.values c.enter.new.self.values c.loop-copy.copy (elements (forest c.args.below.now)).cases _ _ _
+          c.loop-copy.invariant.scopes c.loop-copy.invariant.values c.in_ok-enter.ensures.scopes c.in_ok-enter.ensures.values c.loop-copy-test.true s.table c.loop-copy.invariant.table;
       grown = extends_trans _ _ _ c.loop-copy.invariant.grown s.extends;
     }
 
@@ -287,6 +298,8 @@ add_alternative_copies-loop-copy-preserved t c =
           c.loop-copy.invariant.scopes c.loop-copy.invariant.values c.in_ok-enter.ensures.scopes c.in_ok-enter.ensures.values c.loop-copy-test.true (s.list t' f) (c.loop-copy.invariant.whole t' (extends_trans _ _ _ s.extends f));
       values = values_again _ _ _ _ _ c.in_ok-enter.ensures.values s.values c.leave.ensures.values ∙ c.loop-copy.invariant.values;
       scopes = left_again _ _ _ _ _ c.in_ok-enter.ensures.scopes s.scopes c.leave.ensures.scopes ∙ c.loop-copy.invariant.scopes;
+      table = copy_table c.in-Some.times c.args.context.now.scopes c.loop-copy.context.scopes c.enter.new.self.scopes c.args.context.now.values c.loop-copy.context.values c.enter.new.self.values c.loop-copy.copy (elements (forest c.args.below.now)).branches _ _ _
+          c.loop-copy.invariant.scopes c.loop-copy.invariant.values c.in_ok-enter.ensures.scopes c.in_ok-enter.ensures.values c.loop-copy-test.true s.table c.loop-copy.invariant.table;
       grown = extends_trans _ _ _ c.loop-copy.invariant.grown s.extends;
     }
 
@@ -333,3 +346,77 @@ pub add_alternative_copies-returns-clause-list : goal.add_alternative_copies-ret
 add_alternative_copies-returns-clause-list t c = λ t' f.
     copies_done branches_then no_branch branches_then-assoc branches_then-none c.in-Some.times c.args.context.now.scopes (values_of c.args.context.now.values) (unrolled (number_in t') (forest c.args.below.now)).branches
     (branches (in_alternatives c.loop-copy.list)) (branches (in_alternatives c.args.list.now)) c.loop-copy.copy c.args.times c.in-Some.is c.loop-copy-test.false (c.loop-copy.invariant.whole t' f)
+
+-- ---- the table
+
+pub add_alternative-returns-then-is_guard-clause-table : goal.add_alternative-returns-then-is_guard-clause-table
+add_alternative-returns-then-is_guard-clause-table t c =
+    guard_table _ (shape c.args.form.now) (elements (forest c.args.below.now)) c.args.context.now.scopes (values_of c.args.context.now.values) _ _ (sym c.if-is_guard.ensures) c.in_ok-guard.ensures.table c.in_ok-part.ensures.table
+
+pub add_alternative-returns-in-Some-clause-table : goal.add_alternative-returns-in-Some-clause-table
+add_alternative-returns-in-Some-clause-table t c =
+    on_ok c.add_alternative_copies.result _ _
+    (nested_alt_table _ (shape c.args.form.now) (elements (forest c.args.below.now)) c.args.context.now.scopes (values_of c.args.context.now.values) _ c.in-Some.times c.in-Some.ensures)
+    c.add_alternative_copies.ensures.table
+
+pub add_alternative-returns-in-None-clause-table : goal.add_alternative-returns-in-None-clause-table
+add_alternative-returns-in-None-clause-table t c =
+    no_branch_table _ (shape c.args.form.now) (elements (forest c.args.below.now)) c.args.context.now.scopes (values_of c.args.context.now.values) (sym c.if-is_guard.ensures) c.in-None.ensures
+
+pub add_alternative_copies-returns-then-alternatives-eq0-clause-table :
+    goal.add_alternative_copies-returns-then-alternatives-eq0-clause-table
+add_alternative_copies-returns-then-alternatives-eq0-clause-table t c =
+    let z : (sizes (forest c.args.below.now)).branches ≡ 0 = omega (arith, c.if-alternatives-eq0.true, c.alternatives.ensures) in
+    no_branch_copies _ (forest c.args.below.now) c.args.times c.args.context.now.scopes (values_of c.args.context.now.values) z
+
+pub add_choice-returns-in-Some-clause-table : goal.add_choice-returns-in-Some-clause-table
+add_choice-returns-in-Some-clause-table t c =
+    condition_table _ (shape c.args.form.now) (elements (forest c.args.below.now)) c.args.context.now.scopes (values_of c.args.context.now.values) _ _ (said c.in-Some.phrase.now) c.in-Some.ensures c.in_ok-condition.ensures.table c.in_ok-part.ensures.table
+
+pub add_choice-returns-in-Some-nested-clause-table : goal.add_choice-returns-in-Some-nested-clause-table
+add_choice-returns-in-Some-nested-clause-table t c =
+    on_ok c.add_choice_copies.result _ _
+    (nested_if_table _ (shape c.args.form.now) (elements (forest c.args.below.now)) c.args.context.now.scopes (values_of c.args.context.now.values) _ c.in-Some-nested.times c.in-Some-nested.ensures)
+    c.add_choice_copies.ensures.table
+
+pub add_choice-returns-in-None-clause-table : goal.add_choice-returns-in-None-clause-table
+add_choice-returns-in-None-clause-table t c =
+    no_case_table _ (shape c.args.form.now) (elements (forest c.args.below.now)) c.args.context.now.scopes (values_of c.args.context.now.values) c.in_default.ensures c.in-None.ensures
+
+pub add_choice_copies-returns-then-choices-eq0-clause-table :
+    goal.add_choice_copies-returns-then-choices-eq0-clause-table
+add_choice_copies-returns-then-choices-eq0-clause-table t c =
+    let z : (sizes (forest c.args.below.now)).cases ≡ 0 = omega (arith, c.if-choices-eq0.true, c.choices.ensures) in
+    no_case_copies _ (forest c.args.below.now) c.args.times c.args.context.now.scopes (values_of c.args.context.now.values) z
+
+pub add_slot_copies-returns-clause-table : goal.add_slot_copies-returns-clause-table
+add_slot_copies-returns-clause-table t c =
+    copies_last c.in-Some.times c.args.context.now.scopes (values_of c.args.context.now.values) (as_slots (elements (forest c.args.below.now))) _ _ c.loop-copy.copy c.args.times c.in-Some.is c.loop-copy-test.false c.loop-copy.invariant.table
+
+pub add_choice_copies-returns-clause-table : goal.add_choice_copies-returns-clause-table
+add_choice_copies-returns-clause-table t c =
+    copies_last c.in-Some.times c.args.context.now.scopes (values_of c.args.context.now.values) (elements (forest c.args.below.now)).cases _ _ c.loop-copy.copy c.args.times c.in-Some.is c.loop-copy-test.false c.loop-copy.invariant.table
+
+pub add_alternative_copies-returns-clause-table : goal.add_alternative_copies-returns-clause-table
+add_alternative_copies-returns-clause-table t c =
+    copies_last c.in-Some.times c.args.context.now.scopes (values_of c.args.context.now.values) (elements (forest c.args.below.now)).branches _ _ c.loop-copy.copy c.args.times c.in-Some.is c.loop-copy-test.false c.loop-copy.invariant.table
+
+pub slot-returns-clause-table : goal.slot-returns-clause-table
+slot-returns-clause-table t c =
+    sym (ap (λ g. with_places c.loop-node.names ((elements g).first c.loop-node.context.scopes (values_of c.args.context.now.values))) (lines_done c.args.nodes.now c.loop-node.node-index c.loop-node-test.false))
+    ∙ c.loop-node.invariant.table
+
+pub add_slots-returns-clause-table : goal.add_slots-returns-clause-table
+add_slots-returns-clause-table t c =
+    sym (ap (λ g. with_places c.loop-node.names ((elements g).parts c.args.context.now.scopes c.loop-node.context.scopes (values_of c.args.context.now.values))) (lines_done c.args.nodes.now c.loop-node.node-index c.loop-node-test.false))
+    ∙ c.loop-node.invariant.table
+
+pub add_choices-returns-clause-table : goal.add_choices-returns-clause-table
+add_choices-returns-clause-table t c =
+    sym (ap (λ g. with_places c.loop-node.names ((elements g).cases c.args.context.now.scopes (values_of c.args.context.now.values))) (lines_done c.args.nodes.now c.loop-node.node-index c.loop-node-test.false))
+    ∙ c.loop-node.invariant.table
+
+pub add_alternatives-returns-clause-table : goal.add_alternatives-returns-clause-table
+add_alternatives-returns-clause-table t c =
+    sym (ap (λ g. with_places c.loop-node.names ((elements g).branches c.args.context.now.scopes (values_of c.args.context.now.values))) (lines_done c.args.nodes.now c.loop-node.node-index c.loop-node-test.false))
+    ∙ c.loop-node.invariant.table

@@ -10,6 +10,8 @@ use Rattle.occ_unroll.specs.Numbers.{number_in}
 use Rattle.occ_unroll.specs.Present.{values_of}
 use Rattle.occ_unroll.proofs.Lines.{lines}
 use Rattle.occ_unroll.proofs.Pieces.{Widens}
+use Rattle.occ_unroll.specs.Elements.{as_slots, copied_places, elements, with_places}
+use Rattle.occ_unroll.proofs.Elements.{copies_places}
 use Rattle.occ_unroll.proofs.unrolling.+unroll.Given as goal
 
 abbrev pub decreases-slot : goal.decreases-slot
@@ -55,6 +57,8 @@ invariant-slot-loop-node l = record {
   scopes : Widens l.fn.context.scopes l.context.scopes;
   deep : l.depth ≡ length l.fn.context.scopes;
   known : AreKnownLines (length l.fn.names) (forest (drop l.node-index l.nodes));
+  table : with_places l.names ((elements (forest (drop l.node-index l.nodes))).first l.context.scopes (values_of l.fn.context.values))
+      ≡ with_places l.fn.names ((elements (forest l.nodes)).first l.fn.context.scopes (values_of l.fn.context.values));
   grown : Extends l.fn.names l.names;
   left : lines (forest (drop l.node-index l.nodes)) ≤ lines (forest l.nodes);
 }
@@ -69,6 +73,8 @@ invariant-add_slots-loop-node l = record {
   scopes : Widens l.fn.context.scopes l.context.scopes;
   deep : l.depth ≡ length l.fn.context.scopes;
   known : AreKnownLines (length l.fn.names) (forest (drop l.node-index l.nodes));
+  table : with_places l.names ((elements (forest (drop l.node-index l.nodes))).parts l.fn.context.scopes l.context.scopes (values_of l.fn.context.values))
+      ≡ with_places l.fn.names ((elements (forest l.nodes)).parts l.fn.context.scopes l.fn.context.scopes (values_of l.fn.context.values));
   grown : Extends l.fn.names l.names;
   left : lines (forest (drop l.node-index l.nodes)) ≤ lines (forest l.nodes);
 }
@@ -81,6 +87,8 @@ invariant-add_choices-loop-node l = record {
   values : l.context.values ≡ l.fn.context.values;
   scopes : l.context.scopes ≡ l.fn.context.scopes;
   known : AreKnownLines (length l.fn.names) (forest (drop l.node-index l.nodes));
+  table : with_places l.names ((elements (forest (drop l.node-index l.nodes))).cases l.fn.context.scopes (values_of l.fn.context.values))
+      ≡ with_places l.fn.names ((elements (forest l.nodes)).cases l.fn.context.scopes (values_of l.fn.context.values));
   grown : Extends l.fn.names l.names;
   left : lines (forest (drop l.node-index l.nodes)) ≤ lines (forest l.nodes);
 }
@@ -93,6 +101,8 @@ invariant-add_alternatives-loop-node l = record {
   values : l.context.values ≡ l.fn.context.values;
   scopes : l.context.scopes ≡ l.fn.context.scopes;
   known : AreKnownLines (length l.fn.names) (forest (drop l.node-index l.nodes));
+  table : with_places l.names ((elements (forest (drop l.node-index l.nodes))).branches l.fn.context.scopes (values_of l.fn.context.values))
+      ≡ with_places l.fn.names ((elements (forest l.nodes)).branches l.fn.context.scopes (values_of l.fn.context.values));
   grown : Extends l.fn.names l.names;
   left : lines (forest (drop l.node-index l.nodes)) ≤ lines (forest l.nodes);
 }
@@ -105,6 +115,8 @@ invariant-add_slot_copies-loop-copy l = record {
       ≡ trees_then (trees (in_procs l.fn.parts)) (copied trees_then no_tree (Some l.times) l.fn.context.scopes (values_of l.fn.context.values) (as_parts (unrolled (number_in t) (forest l.below))));
   values : l.context.values ≡ l.fn.context.values;
   scopes : l.context.scopes ≡ l.fn.context.scopes;
+  table : with_places l.names (copies_places l.times l.fn.context.scopes (values_of l.fn.context.values) (as_slots (elements (forest l.below))) (numbers_from (l.times.base + l.copy) (l.times.count - l.copy)))
+      ≡ with_places l.fn.names (copied_places (Some l.times) l.fn.context.scopes (values_of l.fn.context.values) (as_slots (elements (forest l.below))));
   grown : Extends l.fn.names l.names;
 }
 
@@ -116,6 +128,8 @@ invariant-add_choice_copies-loop-copy l = record {
       ≡ cases_then (cases (in_choices l.fn.list)) (copied cases_then no_case (Some l.times) l.fn.context.scopes (values_of l.fn.context.values) (unrolled (number_in t) (forest l.below)).cases);
   values : l.context.values ≡ l.fn.context.values;
   scopes : l.context.scopes ≡ l.fn.context.scopes;
+  table : with_places l.names (copies_places l.times l.fn.context.scopes (values_of l.fn.context.values) (elements (forest l.below)).cases (numbers_from (l.times.base + l.copy) (l.times.count - l.copy)))
+      ≡ with_places l.fn.names (copied_places (Some l.times) l.fn.context.scopes (values_of l.fn.context.values) (elements (forest l.below)).cases);
   grown : Extends l.fn.names l.names;
 }
 
@@ -127,5 +141,7 @@ invariant-add_alternative_copies-loop-copy l = record {
       ≡ branches_then (branches (in_alternatives l.fn.list)) (copied branches_then no_branch (Some l.times) l.fn.context.scopes (values_of l.fn.context.values) (unrolled (number_in t) (forest l.below)).branches);
   values : l.context.values ≡ l.fn.context.values;
   scopes : l.context.scopes ≡ l.fn.context.scopes;
+  table : with_places l.names (copies_places l.times l.fn.context.scopes (values_of l.fn.context.values) (elements (forest l.below)).branches (numbers_from (l.times.base + l.copy) (l.times.count - l.copy)))
+      ≡ with_places l.fn.names (copied_places (Some l.times) l.fn.context.scopes (values_of l.fn.context.values) (elements (forest l.below)).branches);
   grown : Extends l.fn.names l.names;
 }
