@@ -1,0 +1,5 @@
+pub mod Continuing
+pub mod Uniting
+pub mod Assembling
+pub mod Keeping
+pub mod Growing

@@ -1,0 +1,30 @@
+use Rattle.std.specs.Prelude.{ℕ, ◌≡◌, Some}
+use Rattle.occ_diagram.specs.Memo.{recalled}
+use Rattle.occ_diagram.specs.declared.memo.Call.{Call}
+use Rattle.occ_diagram.specs.declared.memo.Memo.{Memo}
+use Rattle.occ_mdd.specs.declared.map.MapId.{MapId}
+use Rattle.occ_node.specs.World.{IsNode}
+use Rattle.occ_node.specs.declared.node.NodeId.{NodeId}
+use Rattle.occ_node.specs.declared.world.World.{World}
+use Rattle.occ_follow.specs.Sequence.{HasNodes, IsFollowed}
+use Rattle.occ_follow.specs.declared.follows.Follows.{Follows}
+
+-- r is p with what follows, in one world
+pub record IsSequence (w : World) (map : MapId) (p r : NodeId) : Type 0 where
+  pub first : IsNode w p
+  pub nodes : HasNodes w map
+  pub followed : IsFollowed w w p map r
+
+abbrev pub node : ℕ → NodeId
+node n = record { 0 = n }
+
+abbrev pub map_id : ℕ → MapId
+map_id n = record { 0 = n }
+
+-- what is remembered is right
+pub record AreSequences (w : World) (memo : Memo) : Type 0 where
+  pub each : (k : Call) (r : ℕ) → recalled memo k ≡ Some r → IsSequence w (map_id k.second) (node k.first) (node r)
+
+-- what is remembered is so in the world
+unfoldable pub KeepFollowed : World → Follows → Type 0
+KeepFollowed w follows = AreSequences w follows.memo

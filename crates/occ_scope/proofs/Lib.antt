@@ -1,0 +1,5 @@
+pub mod Pairing
+pub mod Turning
+pub mod Altering
+pub mod Public
+pub mod Keeping

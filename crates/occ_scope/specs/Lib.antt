@@ -1,0 +1,6 @@
+pub mod Silent
+pub mod Bits
+pub mod Paired
+pub mod Change
+pub mod Results
+pub mod Tables
