@@ -1,0 +1,39 @@
+//! A benchmark of nodes side by side: chains of buffers of one place, through which ten messages of one bit pass. The result
+//! is a buffer of as many places as the chain has stages; its rows tell how many messages are still to come and which wait.
+//! For each length it prints how many nodes were made and how many of them are rows of the result, and, with the word
+//! `times`, the milliseconds that the chain took. The word `long` adds chains of 24 and 48 stages.
+#![tactic(auto)]
+
+mod chain;
+mod reach;
+
+use std::time::Instant;
+use std::{env, io};
+
+fn main(rt: HostRuntime) -> io::Result<()> {
+    let words: Vec<String> = env::args(&rt)?.collect(rt.alloc())?;
+    let timed = words.iter().any(|word| word.as_str() == "times");
+    let long = words.iter().any(|word| word.as_str() == "long");
+    let longest = if long { 48 } else { 12 };
+    for stages in [2, 4, 8, 12, 24, 48] {
+        if stages > longest {
+            break;
+        }
+        let start = Instant::now(&rt)?;
+        let Ok(figures) = chain::measure(rt.alloc(), stages) else {
+            println!(rt; "{stages} stages: out of memory")?;
+            continue;
+        };
+        let made = figures.made;
+        let rows = figures.rows;
+        if timed {
+            let took = start.elapsed(&rt)?.as_millis();
+            println!(rt;
+                "{stages} stages: {made} nodes made, {rows} rows of the result, {took} ms"
+            )?;
+        } else {
+            println!(rt; "{stages} stages: {made} nodes made, {rows} rows of the result")?;
+        }
+    }
+    Ok(())
+}

@@ -1,0 +1,8 @@
+use Rattle.std.proofs.Common.{◌∙◌}
+use Rattle.std.specs.Cmp.Lexicographic.{slice_cmp}
+use Rattle.occ_accept.specs.Order.{event_cmp}
+use Rattle.occ_accept.proofs.Sets.{cmp_same}
+use Rattle.occ_compare.proofs.sets.set_order.Goals as goal
+
+pub returns : goal.returns
+returns c = c.cmp.ensures ∙ (λ i. slice_cmp (cmp_same i) (c.items.ensures.items i) (c.items-2.ensures.items i))
