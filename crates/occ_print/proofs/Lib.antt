@@ -1,0 +1,6 @@
+pub mod Lists
+pub mod Texts
+pub mod Naming
+pub mod Parts
+pub mod Counting
+pub mod Below
