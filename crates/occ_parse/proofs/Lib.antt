@@ -1,10 +1,10 @@
-pub mod Closing
-pub mod Exits
-pub mod Framing
-pub mod Headers
-pub mod Kept
-pub mod Once
-pub mod Sound
-pub mod Spelled
-pub mod Splitting
-pub mod Words
+mod Rows
+mod Forests
+mod Counting
+mod Texts
+mod Small
+mod Knowing
+mod Places
+mod Checked
+mod Placed
+pub mod Declared

@@ -1,10 +1,2 @@
-pub mod Framed
-pub mod Gives
-pub mod Limits
-pub mod Lines
-pub mod Parts
-pub mod Reading
-pub mod Source
-pub mod Step
-pub mod Trees
-pub mod Typed
+pub mod Laying
+pub mod Known

@@ -1,22 +1,19 @@
-//! Texts read as programs. So far these are the straight programs: SKIP, STOP, assignments and SEQ.
+//! Texts read as programs. A text is read in this order, and the first fault that is found is the answer: its length; the
+//! least line with a fault of tokens, over a limit of lines, or badly laid out; names; types; directions; the limits of
+//! programs. What stands behind a line that can't be read isn't looked at.
+//!
+//! The language is that of C. A. R. Hoare and A. W. Roscoe (The laws of occam programming, 1988), with arrays and
+//! replicators. `occ_reading` defines what a text reads as.
 #![tactic(auto)]
 
-mod fault;
+mod drafting;
 mod header;
-mod laws;
+mod laying;
 mod limits;
-mod line;
-mod parts;
-mod phrase;
-mod program;
 mod reading;
-mod step;
+mod stopping;
 #[cfg(test)]
 mod tests;
-mod typed;
 
-pub use fault::{ParseFault, Which};
-pub use laws::one_reading;
-pub use limits::LineNumbers;
-pub use program::Text;
-pub use reading::parse;
+pub use occ_reading::{Bound, ParseFault, Which};
+pub use reading::{LineNumbers, Text, parse};

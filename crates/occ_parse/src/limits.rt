@@ -1,77 +1,104 @@
-ghost use Rattle.std.specs.Prelude.{◌≡◌, IfOk, is_some, map};
-ghost use Rattle.occ_syntax.specs.Scopes.{environment};
-ghost use Rattle.occ_syntax.specs.Types.{is_width, scope_kept, width_of_kind};
-ghost use Rattle.occ_parse.specs.Limits.{are_lines_within, is_line_within};
+//! The limits on a text and its lines.
 
-use occ_base::{List, Memory, Name, Width};
-use occ_symbol::Row;
-use occ_syntax::Kind;
-use std::alloc::Global;
+ghost use Rattle.std.specs.Prelude.{◌≡◌, ◌≤◌};
+ghost use Rattle.occ_reading.specs.Limits.{counted, counts_nothing, frame_of as frame_in, is_limited as is_limited_by, is_too_long as is_longer, line_limit as limit_of, opens as opens_index, weight as weight_of};
 
-/// The numbers of lines.
-pub type LineNumbers = List<u32>;
+use occ_layout::Frame;
+use occ_reading::{Bound, Which};
+use occ_symbol::{Row, Sign, Symbol};
 
-fn is_width(width: Width) -> bool
-    ensures { result ≡ is_width width }
+const MOST_BYTES: usize = 65_536;
+
+const MOST_LEVELS: u32 = 64;
+
+const MOST_TOKENS: usize = 4_096;
+
+/// Whether a text has more bytes than are allowed.
+pub fn is_too_long(bound: Bound, text: &[u8]) -> bool
+    ensures { result ≡ is_longer bound text.now }
 {
-    match width {
-        Width::Bool => true,
-        Width::Word(bits) => 1 <= bits && bits <= 8,
+    match bound {
+        Bound::Program => text.len() > MOST_BYTES,
+        Bound::First => false,
+        Bound::Script => false,
     }
 }
 
-fn kind_width(kind: Kind) -> Width
-    ensures { result ≡ width_of_kind kind }
+/// What the lines of a text are to be together.
+pub fn frame_of(bound: Bound) -> Frame
+    ensures { result ≡ frame_in bound }
 {
-    match kind {
-        Kind::Var(width) => width,
-        Kind::Chan(width, _) => width,
+    match bound {
+        Bound::Program => Frame::Program,
+        Bound::First => Frame::Program,
+        Bound::Script => Frame::Plain,
     }
 }
 
-fn is_declared(params: &[(Name, Kind)], name: Name) -> bool
-    ensures { result ≡ is_some (environment params.now name.0) }
+/// Whether the limits on levels and on programs bind a text.
+pub fn is_limited(bound: Bound) -> bool
+    ensures { result ≡ is_limited_by bound }
 {
-    for (param, _) in params {
-        if name.0 == param.0 {
-            return true;
-        }
+    match bound {
+        Bound::Program => true,
+        Bound::First => true,
+        Bound::Script => false,
     }
-    false
 }
 
-/// Whether no name stands twice, and each width is one.
-pub fn is_scope(params: &[(Name, Kind)]) -> bool
-    ensures { result ≡ scope_kept params.now }
+fn counts_nothing(sign: Sign) -> bool
+    ensures { result ≡ counts_nothing sign }
 {
-    for (i, (name, kind)) in params.iter().enumerate() {
-        if is_declared(&params[i + 1..], *name) || !is_width(kind_width(*kind)) {
-            return false;
-        }
+    matches!(sign, Sign::OpenIndex | Sign::CloseIndex)
+}
+
+/// What one symbol counts.
+fn weight(opened: bool, symbol: Symbol) -> usize
+    ensures weight { result ≡ weight_of opened symbol }
+    ensures one { result ≤ 1 }
+{
+    match symbol {
+        Symbol::Sign(sign) => usize::from(!counts_nothing(sign)),
+        Symbol::Numeral(_) => usize::from(!opened),
+        Symbol::Name(_) => 1,
+        Symbol::Keyword(_) => 1,
     }
-    true
 }
 
-fn is_line_within(row: &Row) -> bool
-    ensures { result ≡ is_line_within row.now }
+/// Whether a symbol opens an index.
+fn opens(symbol: Symbol) -> bool
+    ensures { result ≡ opens_index symbol }
 {
-    row.level <= 64 && row.symbols.items().len() <= 4096
-}
-
-/// Whether no line is too deep or too long.
-pub fn are_lines_within(rows: &[Row]) -> bool
-    ensures { result ≡ are_lines_within rows.now }
-{
-    rows.iter().all(|row| is_line_within(row))
-}
-
-/// The numbers of rows.
-pub fn numbers(alloc: Global, rows: &[Row]) -> Result<LineNumbers, Memory>
-    ensures { IfOk result (λ numbers. numbers ≡ map (λ row. row.number) rows.now) }
-{
-    let mut numbers = LineNumbers::new(alloc);
-    for row in rows {
-        numbers.push(row.number)?;
+    match symbol {
+        Symbol::Sign(sign) => matches!(sign, Sign::OpenIndex),
+        Symbol::Numeral(_) => false,
+        Symbol::Name(_) => false,
+        Symbol::Keyword(_) => false,
     }
-    Ok(numbers)
+}
+
+/// How many tokens a line has, without the brackets of indices and the numerals directly behind the first of them.
+fn count_of(symbols: &[Symbol]) -> usize
+    ensures { result ≡ counted symbols.now }
+{
+    let mut count = 0;
+    let mut opened = false;
+    for symbol in symbols {
+        count += weight(opened, *symbol);
+        opened = opens(*symbol);
+    }
+    count
+}
+
+/// The limit that a line is over, levels before tokens; None where it is over none.
+pub fn line_limit(bound: Bound, row: &Row) -> Option<Which>
+    ensures { result ≡ limit_of bound row.now }
+{
+    if is_limited(bound) && row.level > MOST_LEVELS {
+        return Some(Which::Levels);
+    }
+    if count_of(row.symbols.items()) > MOST_TOKENS {
+        return Some(Which::Tokens);
+    }
+    None
 }

@@ -1,46 +1,71 @@
-ghost use Rattle.std.specs.Prelude.{◌≡◌, ◌⊎◌, ◌<◌, length, IfOk, IfErr};
+ghost use Rattle.std.specs.Prelude.{◌≡◌, ◌⊎◌, ◌<◌, length, true, IfOk, IfErr};
+ghost use Rattle.occ_syntax.specs.View.{tree};
 ghost use Rattle.occ_symbol.specs.Symbols.{Extends};
-ghost use Rattle.occ_parse.specs.Parts.{OnForm};
-ghost use Rattle.occ_parse.specs.Reading.{IsRead, ReadsNowhere};
+ghost use Rattle.occ_usage.specs.Accepted.{IsTyped};
+ghost use Rattle.occ_reading.specs.Limits.{is_limited};
+ghost use Rattle.occ_reading.specs.Reading.{IsRead, IsRefused};
+ghost use Rattle.occ_parse.specs.Known.{NamesAreKnown};
 
-use crate::fault::{Fault, ParseFault};
-use crate::program::{Text, program};
-use occ_base::Names;
-use occ_lex::LexFault;
-use occ_symbol::rows;
+use crate::drafting::draft_fault;
+use crate::header::header_of;
+use crate::laying::laid_out;
+use crate::limits::is_too_long;
+use occ_base::{List, Names};
+use occ_reading::{Bound, ParseFault, Which};
+use occ_syntax::Program;
+use occ_unroll::unroll;
 use std::alloc::Global;
 
-const MOST_BYTES: usize = 65_536;
+/// The numbers of lines.
+pub type LineNumbers = List<u32>;
 
-/// Reads a text as a program. Its names are kept in the table, also where it is refused.
-///
-/// The programs that are read so far are those of SKIP, STOP, assignments and SEQ, with a header and a closing line. The
-/// form of each other text is refused on line 1.
-pub fn parse(alloc: Global, names: &mut Names, text: &[u8]) -> Result<Text, ParseFault>
-    ensures found { IfOk result (λ read. IsRead text.now names.old names.new read.program read.lines) }
-    ensures refused { IfErr result (λ fault. ((fault ≡ ParseFault.Form 1) × ReadsNowhere text.now names.old) ⊎ (fault ≡ ParseFault.Memory)) }
-    ensures extends { Extends names.old names.new }
-{
-    match read(alloc, names, text) {
-        Ok(read) => Ok(read),
-        Err(Fault::Form) => Err(ParseFault::Form { line: 1 }),
-        Err(Fault::Memory) => Err(ParseFault::Memory),
-    }
+/// A program with the numbers of the lines of its processes.
+#[derive(Debug, Drop)]
+pub struct Text {
+    /// The program.
+    pub program: Program,
+    /// The number of the line of each process of the body, the outer ones first.
+    pub lines: LineNumbers,
 }
 
-fn read(alloc: Global, names: &mut Names, text: &[u8]) -> Result<Text, Fault>
-    ensures found { IfOk result (λ read. IsRead text.now names.old names.new read.program read.lines) }
-    ensures form { IfErr result (λ fault. OnForm fault (ReadsNowhere text.now names.old)) }
+/// Reads a text as a program. Its names are kept in the table, also where it is refused. `Memory` comes only for want of
+/// memory, and each other fault is the first one that the text has. Where the limits of programs bind the text, the program
+/// that is read keeps names, types, directions and limits, as `check` of `occ_usage` asks. Its parameters and the names that it
+/// declares have texts in the table.
+pub fn parse(
+    alloc: Global,
+    names: &mut Names,
+    text: &[u8],
+    bound: Bound,
+) -> Result<Text, ParseFault>
+    requires { length text.now < 4294967295 }
+    ensures found { IfOk result
+        (λ read. IsRead bound text.now names.old names.new read.program.name read.program.params (tree read.program.body) read.lines) }
+    ensures typed { IfOk result (λ read. is_limited bound ≡ true → IsTyped read.program) }
+    ensures known { IfOk result (λ read. NamesAreKnown names.new read.program) }
+    ensures refused { IfErr result
+        (λ fault. IsRefused bound text.now names.old fault ⊎ (fault ≡ ParseFault.Memory)) }
     ensures extends { Extends names.old names.new }
 {
-    if text.len() > MOST_BYTES {
-        return Err(Fault::Form);
+    if is_too_long(bound, text) {
+        let which = Which::Bytes;
+        return Err(ParseFault::Limit { which, line: 1 });
     }
-    let lines = match occ_lex::lines(alloc, text) {
-        Ok(lines) => lines,
-        Err(LexFault::Line { .. }) => return Err(Fault::Form),
-        Err(LexFault::Memory) => return Err(Fault::Memory),
+    let nodes = laid_out(alloc, names, text, bound)?;
+    if let Some(fault) = draft_fault(alloc, bound, nodes.items())? {
+        return Err(fault);
+    }
+    let header = header_of(nodes.items());
+    // Each text stands once in the table of names.
+    let _ = names.text(header.name);
+    let unrolled = unroll(alloc, names, header.params, header.below)?;
+    let program = Program {
+        name: header.name,
+        params: unrolled.params,
+        body: unrolled.body,
     };
-    let rows = rows(alloc, names, text, lines.as_slice())?;
-    program(alloc, rows.as_slice())
+    Ok(Text {
+        program,
+        lines: unrolled.lines,
+    })
 }

@@ -1,117 +1,223 @@
-use crate::{ParseFault, parse};
+use crate::{Bound, ParseFault, Text, Which, parse};
 use occ_base::{Dir, Memory, Name, Names, Width};
-use occ_syntax::{Expr, Kind, Op, Proc};
+use occ_lex::LineFault;
+use occ_syntax::{Alternatives, Expr, Exprs, Guard, Kind, NameList, Proc, Procs, Wait, same_proc};
+use std::alloc::Global;
+use std::test::Fail;
+
+const PROGRAM: &[u8] = b"PROC p (CHAN OF BOOL c?, WORD2 x)
+  [2]WORD2 y:
+  BOOL b:
+  SEQ
+    SEQ i = 0 FOR 2
+      y[i] := x
+    ALT
+      ALT
+        c ? b
+          SKIP
+      b & SKIP
+        x := y[1]
+:
+";
+
+// the names in the order in which the text has them, then the elements
+const C: Name = Name(1);
+
+const X: Name = Name(2);
+
+const B: Name = Name(4);
+
+const FIRST: Name = Name(6);
+
+const SECOND: Name = Name(7);
+
+const WORD2: Width = Width::Word(2);
+
+fn assignment(alloc: Global, var: Name, value: Name) -> Result<Proc, Memory> {
+    let mut vars = NameList::new(alloc);
+    vars.push(var)?;
+    let mut values = Exprs::new(alloc);
+    values.push(Expr::Var(value))?;
+    Ok(Proc::Assign { vars, values })
+}
+
+fn alternatives(alloc: Global) -> Result<Proc, Memory> {
+    let input = Guard {
+        condition: Expr::Bool(true),
+        wait: Wait::Get { chan: C, var: B },
+    };
+    let ready = Guard {
+        condition: Expr::Var(B),
+        wait: Wait::Skip,
+    };
+    let mut branches = Alternatives::new(alloc);
+    branches.push((input, Proc::Skip))?;
+    branches.push((ready, assignment(alloc, X, SECOND)?))?;
+    Ok(Proc::Alt(branches))
+}
+
+fn body(alloc: Global) -> Result<Proc, Memory> {
+    let mut copies = Procs::new(alloc);
+    copies.push(assignment(alloc, FIRST, X)?)?;
+    copies.push(assignment(alloc, SECOND, X)?)?;
+    let mut parts = Procs::new(alloc);
+    parts.push(Proc::Seq(copies))?;
+    parts.push(alternatives(alloc)?)?;
+    Proc::Seq(parts).within(
+        alloc,
+        &[
+            (FIRST, Kind::Var(WORD2)),
+            (SECOND, Kind::Var(WORD2)),
+            (B, Kind::Var(Width::Bool)),
+        ],
+    )
+}
+
+/// What a short text reads as.
+fn read(alloc: Global, names: &mut Names, text: &[u8], bound: Bound) -> Result<Text, ParseFault> {
+    if text.len() > 1000 {
+        return Err(ParseFault::Memory);
+    }
+    parse(alloc, names, text, bound)
+}
 
 #[test]
-fn a_program_is_read_with_its_lines(rt: HostRuntime) -> Result<(), Memory> {
-    let mut names = Names::new(rt.alloc());
-    let text =
-        b"PROC p (WORD2 x, CHAN OF BOOL c?)\n-- in order\n  SEQ\n    x := x MINUS 1\n\n    SKIP\n:\n";
-    let Ok(read) = parse(rt.alloc(), &mut names, text) else {
-        panic!(&rt; "refused");
-    };
-    assert_eq!(rt; read.program.name, Name(0));
+fn a_program_is_read_with_its_lines(rt: HostRuntime) -> Result<(), Fail> {
+    let alloc = rt.alloc();
+    let mut names = Names::new(alloc);
+    let found = read(alloc, &mut names, PROGRAM, Bound::Program)?;
+    assert_eq!(rt; found.program.name, Name(0));
     assert_eq!(rt;
-        read.program.params.items(),
+        found.program.params.items(),
         [
-            (Name(1), Kind::Var(Width::Word(2))),
-            (Name(2), Kind::Chan(Width::Bool, Some(Dir::Input))),
+            (C, Kind::Chan(Width::Bool, Some(Dir::Input))),
+            (X, Kind::Var(WORD2)),
         ]
         .as_slice()
     );
-    assert_eq!(rt; read.lines.items(), [3, 4, 6].as_slice());
-    let Proc::Seq(parts) = &read.program.body else {
-        panic!(&rt; "no sequence");
-    };
-    let [first, second] = parts.items() else {
-        panic!(&rt; "other parts");
-    };
-    assert!(rt; is_countdown(first));
-    assert!(rt;
-        match second {
-            Proc::Skip => true,
-            _ => false,
-        }
+    assert!(rt; same_proc(&found.program.body, &body(alloc)?));
+    assert_eq!(rt;
+        found.lines.items(),
+        [2, 2, 3, 4, 5, 6, 6, 7, 10, 12].as_slice()
     );
     Ok(())
 }
 
-fn is_countdown(part: &Proc) -> bool {
-    match part {
-        Proc::Assign { vars, values } => match values.items() {
-            [value] => vars.items().len() == 1 && vars.items()[0] == Name(1) && is_less_one(value),
-            _ => false,
+const REFUSED: [(&[u8], ParseFault); 20] = [
+    (b"", ParseFault::Form { line: 1 }),
+    (
+        b"PROC p ()\n  SKIP\n\t:",
+        ParseFault::Line {
+            line: 3,
+            fault: LineFault::Tab,
         },
-        _ => false,
-    }
-}
-
-fn is_less_one(value: &Expr) -> bool {
-    match value {
-        Expr::Two(op, left, right) => { *op == Op::Minus && is_variable(left) && is_one(right) }
-        _ => false,
-    }
-}
-
-fn is_variable(value: &Expr) -> bool {
-    match value {
-        Expr::Var(name) => *name == Name(1),
-        _ => false,
-    }
-}
-
-fn is_one(value: &Expr) -> bool {
-    match value {
-        Expr::Word { bits, value } => *bits == 2 && *value == 1,
-        _ => false,
-    }
-}
+    ),
+    (b"PROC p ()\n  SKIP\n", ParseFault::Form { line: 1 }),
+    (b"PROC p ()\n  STOP SKIP\n\t:", ParseFault::Form { line: 2 }),
+    (
+        b"PROC p ()\n  x := 1\n:",
+        ParseFault::Undeclared { line: 2 },
+    ),
+    (
+        b"PROC p (WORD2 x, BOOL x)\n  SKIP\n:",
+        ParseFault::Redeclared { line: 1 },
+    ),
+    (
+        b"PROC p ([2]WORD2 x)\n  x[2] := 1\n:",
+        ParseFault::Index { line: 2 },
+    ),
+    (
+        b"PROC p (BOOL x)\n  x := 1\n:",
+        ParseFault::TypeClash { line: 2 },
+    ),
+    (
+        b"PROC p (BOOL x)\n  x := 1 = 1\n:",
+        ParseFault::NoType { line: 2 },
+    ),
+    (
+        b"PROC p (CHAN OF BOOL c?)\n  c ! TRUE\n:",
+        ParseFault::Direction { line: 2 },
+    ),
+    (
+        b"PROC p ([17]BOOL x)\n  SKIP\n:",
+        ParseFault::Limit {
+            which: Which::Parameters,
+            line: 1,
+        },
+    ),
+    (
+        b"PROC p ()\n  [65]BOOL x:\n  SKIP\n:",
+        ParseFault::Limit {
+            which: Which::Count,
+            line: 2,
+        },
+    ),
+    (
+        b"PROC p ()\n  SEQ i = 0 FOR 64\n    SEQ j = 0 FOR 64\n      SKIP\n:",
+        ParseFault::Limit {
+            which: Which::Controls,
+            line: 1,
+        },
+    ),
+    (
+        b"PROC p ([3]WORD8 x)\n  SKIP\n:",
+        ParseFault::Limit {
+            which: Which::InterfaceBits,
+            line: 1,
+        },
+    ),
+    (
+        b"PROC p ()\n  [4]WORD8 x:\n  SKIP\n:",
+        ParseFault::Limit {
+            which: Which::ScopeBits,
+            line: 2,
+        },
+    ),
+    (
+        b"PROC p (BOOL x)\n  SEQ\n    x := 1\n    y := 1\n:",
+        ParseFault::Undeclared { line: 4 },
+    ),
+    (
+        b"PROC p (CHAN OF BOOL c?, BOOL x)\n  SEQ\n    c ! TRUE\n    x := 1\n:",
+        ParseFault::TypeClash { line: 4 },
+    ),
+    (b"PROC p ()\nSKIP\n:", ParseFault::Form { line: 1 }),
+    (b"PROC p ()\n  SKIP\n:\n:", ParseFault::Form { line: 4 }),
+    (
+        b"PROC p ()\n  SKIP -- \t\n  SKIP\n:",
+        ParseFault::Form { line: 3 },
+    ),
+];
 
 #[test]
-fn other_texts_are_refused(rt: HostRuntime) -> Result<(), Memory> {
-    let texts: [&[u8]; 16] = [
-        b"",
-        b"\n",
-        b":\n",
-        b"PROC p ()\n:\n",
-        b"PROC p ()\n  SKIP\n",
-        b"PROC p ()\n  SKIP\n  SKIP\n:\n",
-        b"PROC p ()\n    SKIP\n:\n",
-        b"PROC p ()\nSKIP\n:\n",
-        b"PROC p (WORD2 x, WORD2 x)\n  SKIP\n:\n",
-        b"PROC p (WORD2 x)\n  x := 4\n:\n",
-        b"PROC p (WORD2 x)\n  y := 1\n:\n",
-        b"PROC p (WORD2 x)\n  x := TRUE\n:\n",
-        b"PROC p (WORD2 x)\n  x, x := 1, 2\n:\n",
-        b"PROC p (BOOL a, BOOL b)\n  a := b PLUS b\n:\n",
-        b"PROC p (WORD8 x, WORD8 y, BOOL a)\n  SKIP\n:\n",
-        b"PROC p (WORD9 x)\n  SKIP\n:\n",
-    ];
-    for text in texts {
+fn the_first_fault_of_other_texts(rt: HostRuntime) -> Result<(), Fail> {
+    for (text, fault) in REFUSED {
         let mut names = Names::new(rt.alloc());
-        match parse(rt.alloc(), &mut names, text) {
-            Ok(_) => panic!(&rt; "read"),
-            Err(fault) => assert_eq!(rt; fault, ParseFault::Form { line: 1 }),
+        match read(rt.alloc(), &mut names, text, Bound::Program) {
+            Ok(_) => return Err("read".into()),
+            Err(found) => assert_eq!(rt; found, fault),
         }
     }
     Ok(())
 }
 
 #[test]
-fn each_form_is_read(rt: HostRuntime) -> Result<(), Memory> {
-    let texts: [&[u8]; 8] = [
-        b"PROC p ()\n  SKIP\n:\n",
-        b"PROC p ()\n  STOP\n:",
-        b"PROC p ()\r\n  SEQ\r\n:\r\n",
-        b"PROC p (CHAN OF WORD3 c!)\n  SEQ\n    SEQ\n    STOP\n:\n",
-        b"PROC p (WORD3 x, WORD3 y)\n  x, y := y, 7\n:\n",
-        b"PROC p (BOOL a)\n  a := TRUE\n:\n",
-        b"PROC p (WORD8 x)\n  x := 255 PLUS x\n:\n",
-        b"PROC p (WORD8 x, WORD8 y)\n  SKIP\n:\n",
-    ];
-    for text in texts {
-        let mut names = Names::new(rt.alloc());
-        assert!(rt; parse(rt.alloc(), &mut names, text).is_ok());
-    }
+fn the_program_behind_the_steps_of_a_script(rt: HostRuntime) -> Result<(), Fail> {
+    let alloc = rt.alloc();
+    let mut names = Names::new(alloc);
+    let large = read(
+        alloc,
+        &mut names,
+        b"PROC p ([17]WORD8 x)\n  SKIP\n:",
+        Bound::Script,
+    );
+    assert!(rt; large.is_ok());
+    let copied = read(
+        alloc,
+        &mut names,
+        b"PROC p ()\n  SEQ i = 0 FOR 2\n    SKIP\n:",
+        Bound::Script,
+    );
+    assert!(rt; matches!(copied, Err(ParseFault::Form { line: 2 })));
     Ok(())
 }

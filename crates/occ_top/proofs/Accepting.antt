@@ -1,26 +1,32 @@
--- What the parser says of a file that was read.
-use Rattle.std.proofs.Common.{◌≡◌, ◌≢◌, ◌⊎◌, inl, inr, ℕ, List, sym, subst}
-use Rattle.std.proofs.Common.{Vec, Global}
+-- What becomes of a program that was read.
+use Rattle.std.proofs.Common.{◌≡◌, ◌≢◌, ℕ, List, ◌∷◌, Result, Ok, Err, IfOk, IfErr, sym, subst}
 use Rattle.occ_syntax.specs.declared.scope.Program.{Program}
-use Rattle.occ_parse.specs.Reading.{IsRead, ReadsNowhere}
-use Rattle.occ_parse.specs.declared.fault.ParseFault.{ParseFault}
-use Rattle.occ_parse.specs.declared.fault.ParseFault.TheVariants.{Form, Memory}
-use Rattle.occ_top.specs.declared.load.Loaded.{Loaded}
-use Rattle.occ_top.specs.declared.load.Loaded.TheVariants.{Bytes}
-use Rattle.occ_top.specs.Judged.{IsReadFrom, IsRefusedFrom}
-use Rattle.occ_top.proofs.Straightness.{read_kept}
+use Rattle.occ_syntax.specs.Tree.{Tree}
+use Rattle.occ_syntax.specs.View.{tree}
+use Rattle.occ_syntax.specs.Usage.{KeepsUsage}
+use Rattle.occ_parse.specs.Known.{NamesAreKnown}
+use Rattle.occ_usage.specs.declared.accepted.Accepted.{Accepted}
+use Rattle.occ_top.specs.declared.judge.Refusal.{Refusal}
+use Rattle.occ_top.specs.declared.judge.Refusal.TheVariants as refusal
+use Rattle.occ_top.specs.Answers.{ReadsAs}
+use Rattle.occ_top.specs.Judged.{IsAcceptedAs, IsRefusedFor, IsFaulty}
+use Rattle.occ_top.proofs.Known.{first_named}
 
-pub refused_from : (l : Loaded) (text : Vec ℕ Global) (slice : List ℕ) (old : List (List ℕ)) (fault : ParseFault) → l ≡ Bytes text → slice ≡ text.items
-    → ((fault ≡ Form 1) × ReadsNowhere slice old) ⊎ (fault ≡ Memory) → fault ≢ Memory → IsRefusedFrom l old fault
-refused_from l text slice old fault is same (inl h) real =
-    let P : Loaded → Type 0 = λ l. IsRefusedFrom l old fault in
-    let Q : List ℕ → Type 0 = λ t. ReadsNowhere t old in
-    subst P (sym is) (h.0, subst Q same h.1)
-refused_from l text slice old fault is same (inr h) real = absurd (real h)
+pub accepted_as : (text : List ℕ) (old new : List (List ℕ)) (program : Program) (numbers : List ℕ) (r : Result Accepted Refusal) → ReadsAs text old new program numbers → NamesAreKnown new program
+    → IfOk r (λ a. (a.program ≡ program) × KeepsUsage (tree program.body)) → IfOk r (λ a. IsAcceptedAs text old new a.program)
+accepted_as text old new program numbers (Err f) read known h = tt
+accepted_as text old new program numbers (Ok a) read known h =
+    let P : Program → Type 0 = λ p. IsAcceptedAs text old new p in
+    subst P (sym h.0) (record { accepted = record { numbers = numbers; read = read; usage = h.1 }; known = known })
 
-pub accepted_from : (l : Loaded) (text : Vec ℕ Global) (slice : List ℕ) (old new : List (List ℕ)) (program : Program) (lines : List ℕ) → l ≡ Bytes text → slice ≡ text.items
-    → IsRead slice old new program lines → IsReadFrom l old new program
-accepted_from l text slice old new program lines is same r =
-    let P : Loaded → Type 0 = λ l. IsReadFrom l old new program in
-    let Q : List ℕ → Type 0 = λ t. IsRead t old new program lines in
-    subst P (sym is) (read_kept text.items old new program lines (subst Q same r))
+refused_by : (text : List ℕ) (old new : List (List ℕ)) (program : Program) (numbers : List ℕ) (f : Refusal) → ReadsAs text old new program numbers → NamesAreKnown new program
+    → IsFaulty program numbers f → IsRefusedFor text old new f
+refused_by text old new program numbers (refusal.Text fault) read known h = absurd h
+refused_by text old new program numbers (refusal.Usage line fault) read known h =
+    (record { program = program; numbers = numbers; read = read; later = h.later; found = h.found; line_is = h.line_is }, first_named new program fault h.later known h.found)
+refused_by text old new program numbers refusal.Memory read known h = tt
+
+pub refused_for : (text : List ℕ) (old new : List (List ℕ)) (program : Program) (numbers : List ℕ) (r : Result Accepted Refusal) → ReadsAs text old new program numbers → NamesAreKnown new program
+    → IfErr r (IsFaulty program numbers) → IfErr r (IsRefusedFor text old new)
+refused_for text old new program numbers (Ok a) read known h = tt
+refused_for text old new program numbers (Err f) read known h = refused_by text old new program numbers f read known h

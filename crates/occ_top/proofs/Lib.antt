@@ -1,7 +1,10 @@
 pub mod Parsing
 pub mod Judging
 pub mod Leaving
-pub mod OneReading
+pub mod Once
 pub mod OneAnswer
-pub mod Straightness
+pub mod Known
 pub mod Accepting
+pub mod Straightness
+pub mod Roots
+pub mod Named

@@ -1,35 +1,20 @@
--- The programs that texts read as are straight.
-use Rattle.std.proofs.Common.{◌≡◌, ℕ, true, List, refl, ap, ◌∙◌}
-use Rattle.std.proofs.lemmas.Bool.{and_from}
-use Rattle.occ_syntax.specs.Scopes.{Environment, environment}
-use Rattle.occ_syntax.specs.declared.scope.Program.{Program}
-use Rattle.occ_parse.specs.Reading.{IsRead}
-use Rattle.occ_parse.specs.Source.{Source, Sources, simple, sequence, no_source, and_source, skip_line, stop_line, assignment}
-use Rattle.occ_parse.specs.Trees.{tree_of, trees_of}
+-- Whether the parts of a list are straight, part by part.
+use Rattle.std.proofs.Common.{◌≡◌, ◌<◌, ◌+◌, ℕ, zero, suc, Bool, true, false, ◌&&◌, List, [], ◌∷◌, length, get_or, drop, refl, sym, ap, ◌∙◌, subst, arith}
+use Rattle.occ_syntax.specs.declared.proc.Proc.{Proc}
+use Rattle.occ_syntax.specs.View.{tree, trees}
 use Rattle.occ_straight.specs.Straight.{is_straight, all_straight}
-use Rattle.occ_top.specs.Judged.{IsReadAs}
 
-mutual
-  straight : (Γ : Environment) (s : Source) → is_straight (tree_of Γ s) ≡ true
-  straight Γ (simple skip_line) = refl
-  straight Γ (simple stop_line) = refl
-  straight Γ (simple (assignment x xs p ps)) = refl
-  straight Γ (sequence parts) = straight_all Γ parts
+part_here : (ps : List Proc) (i : ℕ) (p : Proc) → i < length ps → p ≡ get_or ps i p
+    → all_straight (trees (drop i ps)) ≡ (is_straight (tree p) && all_straight (trees (drop (suc i) ps)))
+part_here [] i p h e = absurd (omega (arith, h))
+part_here (q ∷ ps) zero p h e = ap (λ r. is_straight (tree r) && all_straight (trees ps)) (sym e)
+part_here (q ∷ ps) (suc i) p h e = part_here ps i p (omega (arith, h)) e
 
-  straight_all : (Γ : Environment) (ss : Sources) → all_straight (trees_of Γ ss) ≡ true
-  straight_all Γ no_source = refl
-  straight_all Γ (and_source s ss) = and_from (is_straight (tree_of Γ s)) (all_straight (trees_of Γ ss)) (straight Γ s) (straight_all Γ ss)
+pub goes_on : (ps : List Proc) (i : ℕ) (p : Proc) → i < length ps → p ≡ get_or ps i p → is_straight (tree p) ≡ true
+    → all_straight (trees (drop (i + 1) ps)) ≡ all_straight (trees (drop i ps))
+goes_on ps i p h e k =
+    let next : suc i ≡ i + 1 = omega arith in
+    sym (part_here ps i p h e ∙ ap (λ b. b && all_straight (trees (drop (suc i) ps))) k ∙ ap (λ n. all_straight (trees (drop n ps))) next)
 
-pub read_kept : (text : List ℕ) (old new : List (List ℕ)) (program : Program) (lines : List ℕ) → IsRead text old new program lines → IsReadAs text old new program
-read_kept text old new program lines r =
-    let is = r.program_is in
-    record {
-      lines = lines;
-      read = r;
-      kept = record {
-        scope = is.scope;
-        few = is.few_bits;
-        straight = ap is_straight is.body_is ∙ straight (environment program.params) is.source;
-        types = is.types;
-      };
-    }
+pub stops : (ps : List Proc) (i : ℕ) (p : Proc) → i < length ps → p ≡ get_or ps i p → is_straight (tree p) ≡ false → all_straight (trees (drop i ps)) ≡ false
+stops ps i p h e k = part_here ps i p h e ∙ ap (λ b. b && all_straight (trees (drop (suc i) ps))) k

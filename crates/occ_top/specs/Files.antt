@@ -18,6 +18,11 @@ abbrev pub IsLoaded : Option (List ℕ) → Loaded → Type 0
 IsLoaded file (Bytes bytes) = (file ≡ Some bytes.items) × (length bytes.items ≤ most_bytes)
 IsLoaded file TooLong = IsSomeAnd file (λ bytes. most_bytes < length bytes)
 
+-- the file holds no more bytes than a text has at most, or is known to be too long
+abbrev pub IsShort : Loaded → Type 0
+IsShort (Bytes bytes) = length bytes.items ≤ most_bytes
+IsShort TooLong = Unit {0}
+
 -- A front of the names was asked for, that many of them.
 pub record AsksFront (old new : Option (List (List ℕ))) (names : List (List ℕ)) (from : ℕ) : Type 0 where
   pub count : ℕ

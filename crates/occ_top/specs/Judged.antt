@@ -1,50 +1,92 @@
 -- What is judged of files that were read.
-use Rattle.std.specs.Prelude.{ℕ, ◌≡◌, ◌≤◌, List, true}
+use Rattle.std.specs.Prelude.{ℕ, ◌≡◌, ◌≢◌, List, ◌∷◌, true, slice_index_or}
 use Rattle.occ_syntax.specs.declared.scope.Program.{Program}
 use Rattle.occ_syntax.specs.View.{tree}
-use Rattle.occ_syntax.specs.Scopes.{environment}
-use Rattle.occ_syntax.specs.Counts.{bits_of_scope}
-use Rattle.occ_syntax.specs.Types.{scope_kept, types_kept}
 use Rattle.occ_straight.specs.Straight.{is_straight}
-use Rattle.occ_straight.specs.Least.{IsLeast}
-use Rattle.occ_behaviour.specs.Members.{IsRight}
+use Rattle.occ_usage.specs.Accepted.{usage_faults}
+use Rattle.occ_usage.specs.declared.fault.UsageFault.{UsageFault}
+use Rattle.occ_usage.specs.declared.fault.UsageFault.TheVariants as shared
+use Rattle.occ_behaviour.specs.declared.behaviour.Side.{Side}
 use Rattle.occ_behaviour.specs.declared.behaviour.Verdict.{Verdict}
-use Rattle.occ_parse.specs.Reading.{IsRead, ReadsNowhere}
-use Rattle.occ_parse.specs.declared.fault.Which.TheVariants.{Bytes as AllBytes}
-use Rattle.occ_parse.specs.declared.fault.ParseFault.{ParseFault}
-use Rattle.occ_parse.specs.declared.fault.ParseFault.TheVariants.{Form, Limit}
+use Rattle.occ_reading.specs.Reading.{IsRefused as IsRefusedText}
+use Rattle.occ_reading.specs.declared.bound.Bound.TheVariants as bound
+use Rattle.occ_reading.specs.declared.fault.ParseFault.{ParseFault}
+use Rattle.occ_reading.specs.declared.fault.ParseFault.TheVariants.{Limit}
+use Rattle.occ_reading.specs.declared.fault.ParseFault.TheVariants.{Memory as NoMemory}
+use Rattle.occ_reading.specs.declared.fault.Which.TheVariants.{Bytes as AllBytes}
 use Rattle.occ_top.specs.declared.answer.Answer.{Answer}
-use Rattle.occ_top.specs.declared.answer.Answer.TheVariants.{Usage, Refused, InterfacesDiffer, Compared}
+use Rattle.occ_top.specs.declared.answer.Answer.TheVariants.{Usage, Refused, Unusable, InterfacesDiffer, Compared}
+use Rattle.occ_top.specs.declared.judge.Refusal.{Refusal}
+use Rattle.occ_top.specs.declared.judge.Refusal.TheVariants as refusal
 use Rattle.occ_top.specs.declared.load.Loaded.{Loaded}
 use Rattle.occ_top.specs.declared.load.Loaded.TheVariants.{Bytes, TooLong}
+use Rattle.occ_top.specs.Answers.{IsAcceptedText, IsUnusableText, IsDecided, node_of}
+use Rattle.occ_top.specs.Texts.{FaultIsNamed}
+use Rattle.occ_parse.specs.Known.{NamesAreKnown}
 
--- The program keeps what a comparison asks of it.
-pub record IsKept (program : Program) : Type 0 where
-  pub scope : scope_kept program.params ≡ true
-  pub few : bits_of_scope program.params ≤ 16
-  pub straight : is_straight (tree program.body) ≡ true
-  pub types : types_kept (tree program.body) (environment program.params) ≡ true
+-- The text is accepted, and all names of its program have texts.
+pub record IsAcceptedAs (text : List ℕ) (old new : List (List ℕ)) (program : Program) : Type 0 where
+  pub accepted : IsAcceptedText text old new program
+  pub known : NamesAreKnown new program
 
-pub record IsReadAs (text : List ℕ) (old new : List (List ℕ)) (program : Program) : Type 0 where
-  pub lines : List ℕ
-  pub read : IsRead text old new program lines
-  pub kept : IsKept program
+abbrev pub IsAcceptedFrom : Loaded → List (List ℕ) → List (List ℕ) → Program → Type 0
+IsAcceptedFrom (Bytes text) old new program = IsAcceptedAs text.items old new program
+IsAcceptedFrom TooLong old new program = ⊥
 
-abbrev pub IsReadFrom : Loaded → List (List ℕ) → List (List ℕ) → Program → Type 0
-IsReadFrom (Bytes text) old new program = IsReadAs text.items old new program
-IsReadFrom TooLong old new program = ⊥
+-- the fault is the first of the program, and the PAR stands on the line
+pub record IsFaultAt (program : Program) (numbers : List ℕ) (line : ℕ) (fault : UsageFault) : Type 0 where
+  pub later : List UsageFault
+  pub found : usage_faults program ≡ fault ∷ later
+  pub line_is : line ≡ slice_index_or numbers (node_of fault) 1
+  pub no_memory : fault ≢ shared.Memory
 
-abbrev pub IsRefusedFrom : Loaded → List (List ℕ) → ParseFault → Type 0
-IsRefusedFrom (Bytes text) old fault = (fault ≡ Form 1) × ReadsNowhere text.items old
-IsRefusedFrom TooLong old fault = fault ≡ Limit AllBytes 1
+abbrev pub IsUnusableAnswer : List (List ℕ) → Side → ℕ → UsageFault → Answer → Type 0
+IsUnusableAnswer names place line fault Usage = ⊥
+IsUnusableAnswer names place line fault (Refused other f) = ⊥
+IsUnusableAnswer names place line fault (Unusable table at number f) = (table ≡ names) × (at ≡ place) × (number ≡ line) × (f ≡ fault)
+IsUnusableAnswer names place line fault InterfacesDiffer = ⊥
+IsUnusableAnswer names place line fault (Compared table verdict) = ⊥
+
+-- why a text is refused
+abbrev pub IsRefusedFor : List ℕ → List (List ℕ) → List (List ℕ) → Refusal → Type 0
+IsRefusedFor text old new (refusal.Text fault) = IsRefusedText bound.Program text old fault × (fault ≢ NoMemory)
+IsRefusedFor text old new (refusal.Usage line fault) = IsUnusableText text old new line fault × FaultIsNamed new fault
+IsRefusedFor text old new refusal.Memory = Unit {0}
+
+abbrev pub IsTooLong : Refusal → Type 0
+IsTooLong (refusal.Text fault) = fault ≡ Limit AllBytes 1
+IsTooLong (refusal.Usage line fault) = ⊥
+IsTooLong refusal.Memory = Unit {0}
+
+abbrev pub IsRefusedFrom : Loaded → List (List ℕ) → List (List ℕ) → Refusal → Type 0
+IsRefusedFrom (Bytes text) old new r = IsRefusedFor text.items old new r
+IsRefusedFrom TooLong old new r = IsTooLong r
+
+-- the first fault of usage of a program, with the line of its PAR
+abbrev pub IsFaulty : Program → List ℕ → Refusal → Type 0
+IsFaulty program numbers (refusal.Text fault) = ⊥
+IsFaulty program numbers (refusal.Usage line fault) = IsFaultAt program numbers line fault
+IsFaulty program numbers refusal.Memory = Unit {0}
+
+-- the refusal for a fault of usage
+abbrev pub IsRefusalAt : List ℕ → UsageFault → Refusal → Type 0
+IsRefusalAt numbers f (refusal.Text fault) = ⊥
+IsRefusalAt numbers f (refusal.Usage line fault) = (fault ≡ f) × (fault ≢ shared.Memory) × (line ≡ slice_index_or numbers (node_of f) 1)
+IsRefusalAt numbers f refusal.Memory = f ≡ shared.Memory
+
+-- the answer that tells a refusal
+abbrev pub IsRefusalAnswer : List (List ℕ) → Side → Refusal → Answer → Type 0
+IsRefusalAnswer names place (refusal.Text fault) answer = answer ≡ Refused place fault
+IsRefusalAnswer names place (refusal.Usage line fault) answer = IsUnusableAnswer names place line fault answer
+IsRefusalAnswer names place refusal.Memory answer = ⊥
 
 pub record IsVerdictOn (p q : Program) (verdict : Verdict) : Type 0 where
   pub one_interface : p.params ≡ q.params
-  pub right : IsRight p.params (tree p.body) (tree q.body) verdict
-  pub least : IsLeast p.params (tree p.body) (tree q.body) verdict
+  pub decided : is_straight (tree p.body) ≡ true → is_straight (tree q.body) ≡ true → IsDecided p q verdict
 
 abbrev pub IsComparison : List (List ℕ) → Program → Program → Answer → Type 0
 IsComparison names p q Usage = ⊥
 IsComparison names p q (Refused place fault) = ⊥
+IsComparison names p q (Unusable table place line fault) = ⊥
 IsComparison names p q InterfacesDiffer = p.params ≡ q.params → ⊥
 IsComparison names p q (Compared table verdict) = (table ≡ names) × IsVerdictOn p q verdict

@@ -4,4 +4,5 @@ pub mod Files
 pub mod Texts
 pub mod Answers
 pub mod Ran
+pub mod Channels
 pub mod Judged

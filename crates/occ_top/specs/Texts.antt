@@ -1,11 +1,15 @@
 -- The status and the text of each answer.
-use Rattle.std.specs.Prelude.{ℕ, ◌≢◌, List, [], ◌++◌, codes, decimal}
+use Rattle.std.specs.Prelude.{ℕ, ◌≢◌, ◌<◌, List, [], ◌++◌, codes, decimal, length, slice_index_or}
+use Rattle.occ_base.specs.declared.event.Dir.{Dir}
+use Rattle.occ_base.specs.declared.event.Dir.TheVariants.{Input, Output}
+use Rattle.occ_usage.specs.declared.fault.UsageFault.{UsageFault}
+use Rattle.occ_usage.specs.declared.fault.UsageFault.TheVariants as shared
 use Rattle.occ_lex.specs.declared.fault.LineFault.{LineFault}
 use Rattle.occ_lex.specs.declared.fault.LineFault.TheVariants.{Tab, OddIndent, Char, Number, Name}
-use Rattle.occ_parse.specs.declared.fault.Which.{Which}
-use Rattle.occ_parse.specs.declared.fault.Which.TheVariants.{Bytes, Levels, Tokens, Parameters, Count, Controls, InterfaceBits, ScopeBits}
-use Rattle.occ_parse.specs.declared.fault.ParseFault.{ParseFault}
-use Rattle.occ_parse.specs.declared.fault.ParseFault.TheVariants.{Line, Form, Undeclared, Redeclared, Index, TypeClash, NoType, Direction, Limit, Memory}
+use Rattle.occ_reading.specs.declared.fault.Which.{Which}
+use Rattle.occ_reading.specs.declared.fault.Which.TheVariants.{Bytes, Levels, Tokens, Parameters, Count, Controls, InterfaceBits, ScopeBits}
+use Rattle.occ_reading.specs.declared.fault.ParseFault.{ParseFault}
+use Rattle.occ_reading.specs.declared.fault.ParseFault.TheVariants.{Line, Form, Undeclared, Redeclared, Index, TypeClash, NoType, Direction, Limit, Memory}
 use Rattle.occ_behaviour.specs.declared.behaviour.Side.{Side}
 use Rattle.occ_behaviour.specs.declared.behaviour.Side.TheVariants.{First, Second}
 use Rattle.occ_behaviour.specs.declared.behaviour.Verdict.{Verdict}
@@ -13,7 +17,7 @@ use Rattle.occ_behaviour.specs.declared.behaviour.Verdict.TheVariants.{Same, Dif
 use Rattle.occ_behaviour.specs.Members.{VerdictIsNamed}
 use Rattle.occ_behaviour.specs.Texts.{text_of_verdict}
 use Rattle.occ_top.specs.declared.answer.Answer.{Answer}
-use Rattle.occ_top.specs.declared.answer.Answer.TheVariants.{Usage, Refused, InterfacesDiffer, Compared}
+use Rattle.occ_top.specs.declared.answer.Answer.TheVariants.{Usage, Refused, Unusable, InterfacesDiffer, Compared}
 
 abbrev pub status_of_verdict : Verdict → ℕ
 status_of_verdict Same = 0
@@ -22,6 +26,7 @@ status_of_verdict (Differ behaviour only) = 1
 abbrev pub status_of : Answer → ℕ
 status_of Usage = 2
 status_of (Refused place fault) = 3
+status_of (Unusable names place line fault) = 3
 status_of InterfacesDiffer = 7
 status_of (Compared names verdict) = status_of_verdict verdict
 
@@ -72,22 +77,46 @@ fault_words (Direction line) = codes "Direction"
 fault_words (Limit which line) = limit_text which
 fault_words Memory = []
 
--- the place of the text, the line and the fault
-abbrev pub refusal_text : Side → ParseFault → List ℕ
-refusal_text place fault = codes "REFUSED " ++ place_text place ++ codes " " ++ decimal (line_of fault) ++ codes " " ++ fault_words fault ++ codes "\n"
+-- the place of the text and the line, in front of the words for the fault
+abbrev pub refused_at_text : Side → ℕ → List ℕ
+refused_at_text place line = codes "REFUSED " ++ place_text place ++ codes " " ++ decimal line ++ codes " "
+
+-- the place of the text, the line and the words for the fault
+abbrev pub refusal_text : Side → ℕ → List ℕ → List ℕ
+refusal_text place line words = codes "REFUSED " ++ place_text place ++ codes " " ++ decimal line ++ codes " " ++ words ++ codes "\n"
+
+-- ---- what the parts of a PAR share
+
+abbrev pub mark_text : Dir → List ℕ
+mark_text Input = codes " ?"
+mark_text Output = codes " !"
+
+-- the words for a fault of usage: the name, and the mark of the end
+abbrev pub words_of_usage : List (List ℕ) → UsageFault → List ℕ
+words_of_usage names (shared.SharedVariable node name) = codes "SharedVariable " ++ slice_index_or names name.0 []
+words_of_usage names (shared.SharedEnd node name dir) = codes "SharedEnd " ++ slice_index_or names name.0 [] ++ mark_text dir
+words_of_usage names shared.Memory = []
+
+-- the fault names what has a text, and isn't want of memory
+abbrev pub FaultIsNamed : List (List ℕ) → UsageFault → Type 0
+FaultIsNamed names (shared.SharedVariable node name) = name.0 < length names
+FaultIsNamed names (shared.SharedEnd node name dir) = name.0 < length names
+FaultIsNamed names shared.Memory = ⊥
 
 abbrev pub usage_text : List ℕ
 usage_text = codes "USAGE same A B, normalise A, normal T, belongs A T, transform A T, expand A PATH, replay T, stress KIND N, refine A B, deadlock A, run A T, derive A\n"
 
 abbrev pub text_of : Answer → List ℕ
 text_of Usage = usage_text
-text_of (Refused place fault) = refusal_text place fault
+text_of (Refused place fault) = refusal_text place (line_of fault) (fault_words fault)
+text_of (Unusable names place line fault) = refusal_text place line (words_of_usage names fault)
 text_of InterfacesDiffer = codes "INTERFACES DIFFER\n"
 text_of (Compared names verdict) = text_of_verdict names verdict
 
--- a refusal isn't want of memory, and the names that a verdict mentions have texts
+-- a refusal isn't want of memory, and the names that it or a verdict mentions have texts
 abbrev pub IsPrintable : Answer → Type 0
 IsPrintable Usage = Unit {0}
 IsPrintable (Refused place fault) = fault ≢ Memory
+IsPrintable (Unusable names place line fault) = FaultIsNamed names fault
 IsPrintable InterfacesDiffer = Unit {0}
 IsPrintable (Compared names verdict) = VerdictIsNamed names verdict

@@ -1,9 +1,14 @@
-ghost use Rattle.std.specs.Prelude.{ℕ, ◌≡◌, List};
+ghost use Rattle.std.specs.Prelude.{ℕ, ◌≡◌, ◌⊎◌, List};
 ghost use Rattle.occ_top.specs.Files.{Files};
-ghost use Rattle.occ_top.specs.Answers.{Answers};
+ghost use Rattle.occ_top.specs.Answers.{Answers, IsBeyond};
 
-/// A command line over the same files has one answer, with one status and one text.
+use occ_reading::one_reading;
+
+/// A command line over the same files has one answer, with one status and one text, where it isn't a comparison of programs
+/// that aren't both straight.
 pub fn one_answer()
     ensures { (files : Files) (words : List (List ℕ)) (s t : ℕ) (a b : List ℕ)
-        → Answers files words s a → Answers files words t b → (s ≡ t) × (a ≡ b) }
-{}
+        → Answers files words s a → Answers files words t b → ((s ≡ t) × (a ≡ b)) ⊎ IsBeyond files words }
+{
+    one_reading();
+}

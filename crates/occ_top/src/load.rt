@@ -1,5 +1,5 @@
 ghost use Rattle.std.specs.Prelude.{◌≡◌, ◌≤◌, ◌<◌, ◌∷◌, [], length, IfOk, IfSome};
-ghost use Rattle.occ_top.specs.Files.{IsLoaded, AsksFor, CountsStop};
+ghost use Rattle.occ_top.specs.Files.{IsLoaded, IsShort, AsksFor, CountsStop};
 ghost use Rattle.occ_top.specs.declared.load.Stop.TheVariants.{Memory as NoMemory};
 
 use occ_base::Memory;
@@ -43,6 +43,7 @@ fn load<D: Desk>(alloc: Global, desk: &mut D, name: &str) -> Result<Loaded, Stop
     requires reads_countable { D.read_faults desk.old < u64.MAX }
     requires writes_countable { D.write_faults desk.old < u64.MAX }
     ensures content { IfOk result (λ loaded. IfSome (D.files desk.old) (λ files. IsLoaded (files name.now) loaded)) }
+    ensures short { IfOk result IsShort }
     ensures asked { AsksFor (D.asked desk.old) (D.asked desk.new) (name.now ∷ []) result }
     ensures read_faults { CountsStop (D.read_faults desk.old) (D.read_faults desk.new) result }
     ensures files { D.files desk.new ≡ D.files desk.old }
@@ -69,6 +70,8 @@ pub fn load_both<D: Desk>(
     requires writes_countable { D.write_faults desk.old < u64.MAX }
     ensures first { IfOk result (λ loaded. IfSome (D.files desk.old) (λ files. IsLoaded (files first.now) loaded.0)) }
     ensures second { IfOk result (λ loaded. IfSome (D.files desk.old) (λ files. IsLoaded (files second.now) loaded.1)) }
+    ensures first_short { IfOk result (λ loaded. IsShort loaded.0) }
+    ensures second_short { IfOk result (λ loaded. IsShort loaded.1) }
     ensures asked { AsksFor (D.asked desk.old) (D.asked desk.new) (first.now ∷ second.now ∷ []) result }
     ensures read_faults { CountsStop (D.read_faults desk.old) (D.read_faults desk.new) result }
     ensures files { D.files desk.new ≡ D.files desk.old }

@@ -87,7 +87,7 @@ fn programs_are_compared(rt: HostRuntime) -> Result<(), Fail> {
         ),
         (TWO_BOOL, TWO_BOOL_TURNED, 7, "INTERFACES DIFFER\n"),
         ("", SKIP, 3, "REFUSED FIRST 1 Form\n"),
-        (SKIP, "\u{0}\u{7f}", 3, "REFUSED SECOND 1 Form\n"),
+        (SKIP, "\u{0}\u{7f}", 3, "REFUSED SECOND 1 Line Char\n"),
         ("x", "y", 3, "REFUSED FIRST 1 Form\n"),
     ] {
         let (answer, desk) = compare(rt.alloc(), &[], 1000, first.as_bytes(), second.as_bytes())?;
@@ -154,6 +154,142 @@ fn each_call_fails_in_turn(rt: HostRuntime) -> Result<(), Fail> {
         assert_eq!(rt; status, wanted);
         assert_eq!(rt; desk.written().len(), sent);
         assert!(rt; EXCHANGE_DIFFERS.as_bytes().starts_with(desk.written()));
+    }
+    Ok(())
+}
+
+const CHAIN: &str =
+    "PROC chain (CHAN OF WORD2 in?, out!)\n  CHAN OF WORD2 c:\n  PAR\n    WORD2 v:\n    SEQ i = 0 FOR 3\n      SEQ\n        in ? v\n        c ! v\n    WORD2 v:\n    SEQ i = 0 FOR 3\n      SEQ\n        c ? v\n        out ! v\n:\n";
+
+const SHORT: &str =
+    "PROC chain (CHAN OF WORD2 in?, out!)\n  CHAN OF WORD2 c:\n  PAR\n    WORD2 v:\n    SEQ i = 0 FOR 3\n      SEQ\n        in ? v\n        c ! v\n    WORD2 v:\n    SEQ i = 0 FOR 2\n      SEQ\n        c ? v\n        out ! v\n:\n";
+
+const TWO: &str =
+    "PROC two (CHAN OF WORD2 in?, out!)\n  WORD2 x, y:\n  SEQ\n    in ? x\n    ALT\n      in ? y\n        SEQ\n          out ! x\n          ALT\n            in ? x\n              SEQ\n                out ! y\n                out ! x\n            out ! y\n              SEQ\n                in ? x\n                out ! x\n      out ! x\n        SEQ\n          in ? x\n          ALT\n            in ? y\n              SEQ\n                out ! x\n                out ! y\n            out ! x\n              SEQ\n                in ? y\n                out ! y\n:\n";
+
+#[test]
+fn parallel_programs_are_compared(rt: HostRuntime) -> Result<(), Fail> {
+    for (first, second, status, text) in [
+        (CHAIN, TWO, 0, "SAME\n"),
+        (
+            CHAIN,
+            SHORT,
+            1,
+            "DIFFER\nSTATE []\nTRACE in?0 in?0 out!0 in?0 out!0\nREFUSES {out!0}\nONLY SECOND\n",
+        ),
+        (
+            "PROC p ()\n  CHAN OF WORD2 c:\n  c ! 1\n:\n",
+            "PROC p ()\n  STOP\n:\n",
+            0,
+            "SAME\n",
+        ),
+        (
+            "PROC p (WORD2 x, y)\n  CHAN OF WORD2 c:\n  PAR\n    c ! x\n    c ? y\n:\n",
+            "PROC p (WORD2 x, y)\n  y := x\n:\n",
+            0,
+            "SAME\n",
+        ),
+        (
+            "PROC p (CHAN OF BOOL a!, b!)\n  ALT\n    TRUE & SKIP\n      a ! TRUE\n    TRUE & SKIP\n      b ! TRUE\n:\n",
+            "PROC p (CHAN OF BOOL a!, b!)\n  ALT\n    a ! TRUE\n      SKIP\n    b ! TRUE\n      SKIP\n:\n",
+            1,
+            "DIFFER\nSTATE []\nTRACE\nREFUSES {b!1}\nONLY FIRST\n",
+        ),
+        (
+            "PROC p (WORD1 x)\n  WORD1 y:\n  x := y\n:\n",
+            "PROC p (WORD1 x)\n  x := 0\n:\n",
+            1,
+            "DIFFER\nSTATE [0]\nTRACE\nENDS [1]\nONLY FIRST\n",
+        ),
+        (
+            "PROC p (WORD2 x)\n  PAR\n    x := 1\n    x := 2\n:\n",
+            SKIP,
+            3,
+            "REFUSED FIRST 2 SharedVariable x\n",
+        ),
+        (
+            "PROC p ()\n  SKIP\n:\n",
+            "PROC p (WORD2 x, y, CHAN OF WORD2 a?)\n  PAR\n    a ? x\n    a ? y\n:\n",
+            3,
+            "REFUSED SECOND 2 SharedEnd a ?\n",
+        ),
+    ] {
+        let (answer, desk) = compare(rt.alloc(), &[], 1000, first.as_bytes(), second.as_bytes())?;
+        assert_eq!(rt; answer, status);
+        assert_eq!(rt; desk.written(), text.as_bytes());
+    }
+    Ok(())
+}
+
+// A program with that line below its header.
+fn with_line(alloc: Global, line: &str) -> Result<Vec<u8>, Memory> {
+    let mut text = Vec::from_slice(
+        alloc,
+        b"PROC p (WORD2 x, y, BOOL b, [2]WORD2 a, CHAN OF WORD2 c?, d!)\n  ",
+    )?;
+    text.extend_from_slice(line.as_bytes())?;
+    text.extend_from_slice(b"\n:\n")?;
+    Ok(text)
+}
+
+#[test]
+fn single_lines_are_refused(rt: HostRuntime) -> Result<(), Fail> {
+    for (line, fault) in [
+        ("x := 4", "2 TypeClash"),
+        ("x := b", "2 TypeClash"),
+        ("b := x", "2 TypeClash"),
+        ("z := 1", "2 Undeclared"),
+        ("x := z", "2 Undeclared"),
+        ("x, x := 1, 1", "2 Form"),
+        ("x, y := 1", "2 Form"),
+        ("x := 1, 2", "2 Form"),
+        ("x = 1", "2 Form"),
+        ("d ? x", "2 Direction"),
+        ("c ! x", "2 Direction"),
+        ("c ? b", "2 TypeClash"),
+        ("d ! b", "2 TypeClash"),
+        ("x ? y", "2 TypeClash"),
+        ("c := 1", "2 TypeClash"),
+        ("x := c", "2 TypeClash"),
+        ("a[2] := 1", "2 Index"),
+        ("a := 1", "2 Undeclared"),
+        ("q[0] := 1", "2 Undeclared"),
+        ("a[b] := 1", "2 TypeClash"),
+        ("x[0] := 1", "2 Undeclared"),
+        ("b := 1 = 2", "2 NoType"),
+        ("b := 1", "2 TypeClash"),
+        ("b := b PLUS b", "2 TypeClash"),
+        ("b := x < b", "2 TypeClash"),
+        ("b := b < b", "2 TypeClash"),
+        ("b := NOT x", "2 TypeClash"),
+        ("x := NOT b", "2 TypeClash"),
+        ("x := ~ b", "2 TypeClash"),
+        ("x := 3(WORD4)", "2 TypeClash"),
+        ("x := 1(BOOL)", "2 TypeClash"),
+        ("b := b AND b OR b", "2 Form"),
+        ("x := 1 PLUS 2 PLUS 3", "2 Form"),
+        ("x := (1", "2 Form"),
+        ("x := 256", "2 Line Number"),
+        ("x := @", "2 Line Char"),
+        ("\tSKIP", "2 Line Tab"),
+        (" SKIP", "2 Line OddIndent"),
+        ("abcdefghijklmnopqrstuvwxyzabcdefg := 1", "2 Line Name"),
+        ("WORD2 z:", "2 Form"),
+        ("SEQ i = 0 FOR 65", "2 Form"),
+        ("  SKIP", "1 Form"),
+        ("SKIP SKIP", "2 Form"),
+        ("IF i = 0 FOR 2", "2 Form"),
+        ("PROC q ()", "2 Form"),
+        ("b & SKIP", "2 Form"),
+        ("WORD9 z:", "2 Form"),
+    ] {
+        let text = with_line(rt.alloc(), line)?;
+        let (status, desk) = compare(rt.alloc(), &[], 1000, text.as_slice(), b"")?;
+        assert_eq!(rt; status, 3);
+        let mut answer = Vec::from_slice(rt.alloc(), b"REFUSED FIRST ")?;
+        answer.extend_from_slice(fault.as_bytes())?;
+        answer.push(b'\n')?;
+        assert_eq!(rt; desk.written(), answer.as_slice());
     }
     Ok(())
 }

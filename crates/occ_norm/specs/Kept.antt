@@ -1,0 +1,27 @@
+-- What is kept while maps are made.
+use Rattle.std.specs.Prelude.{ℕ, ◌≡◌, ◌<◌, List, Some}
+use Rattle.std.specs.List.{All}
+use Rattle.occ_diagram.specs.Memo.{recalled}
+use Rattle.occ_diagram.specs.declared.memo.Call.{Call}
+use Rattle.occ_diagram.specs.declared.memo.Memo.{Memo}
+use Rattle.occ_dd.specs.Store.{IsKnown}
+use Rattle.occ_dd.specs.declared.store.Store.{Store}
+use Rattle.occ_mdd.specs.declared.map.MapId.{MapId}
+use Rattle.occ_node.specs.declared.world.World.{World}
+use Rattle.occ_follow.specs.Sequence.{HasNodes}
+use Rattle.occ_norm.specs.declared.writes.Write.{Write}
+
+abbrev pub map_id : ℕ → MapId
+map_id n = record { 0 = n }
+
+-- each remembered number is that of a map with a node everywhere
+pub record KeepMaps (w : World) (memo : Memo) : Type 0 where
+  pub each : (k : Call) (r : ℕ) → recalled memo k ≡ Some r → HasNodes w (map_id r)
+
+-- each write is of a bit of the states, by a set of the store
+pub record IsWrite (s : Store) (write : Write) : Type 0 where
+  pub within : write.bit < 64
+  pub known : IsKnown s write.set
+
+abbrev pub AreWrites : Store → List Write → Type 0
+AreWrites s writes = All (IsWrite s) writes

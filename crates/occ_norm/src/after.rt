@@ -1,0 +1,181 @@
+ghost use Rattle.std.specs.Prelude.{◌≡◌, ℕ, ◌≤◌, ◌<◌, false, IfOk};
+ghost use Rattle.occ_syntax.specs.Declarations.{is_declaration};
+ghost use Rattle.occ_syntax.specs.View.{tree, trees, cases, branches};
+ghost use Rattle.occ_follow.specs.Sequence.{HasNodes};
+ghost use Rattle.occ_lift.specs.Maps.{Extends};
+ghost use Rattle.occ_norm.specs.Placed.{Fits, FitAll, FitBranches, FitCases};
+
+use crate::changes::freed;
+use crate::choice::{Alternation, input, output};
+use crate::frame::Frame;
+use crate::parallel::{Sides, beside, side_frame};
+use crate::sequel::sequel;
+use crate::sets::holds;
+use crate::writes::assigned;
+use occ_base::Memory;
+use occ_lift::{choose, stop};
+use occ_mdd::MapId;
+use occ_node::World;
+use occ_syntax::{Expr, Guard, Proc};
+use std::alloc::Global;
+
+/// The map of a part and then what another map has.
+// The declarations round a process are a loop, since there may be thousands.
+#[cycle(after)]
+pub fn after(
+    alloc: Global,
+    world: &mut World,
+    frame: &Frame,
+    part: &Proc,
+    rest: MapId,
+) -> Result<MapId, Memory>
+    requires part { Fits frame.now.vars (tree part.now) }
+    requires rest { HasNodes world.old rest }
+    ensures extends { Extends world.old world.new }
+    ensures nodes { IfOk result (HasNodes world.new) }
+{
+    let mut inner = frame.copy(alloc)?;
+    let mut body = part;
+    while let Some((name, kind, inside)) = body.declared() {
+        inner.declare(alloc, name, kind)?;
+        body = inside;
+    }
+    let map = undeclared(alloc, world, &inner, body, rest)?;
+    freed(alloc, world, frame.bits, inner.bits, map)
+}
+
+#[tactic(auto, unfolding(occ_syntax::specs::View::tree))]
+#[cycle(after)]
+fn undeclared(
+    alloc: Global,
+    world: &mut World,
+    frame: &Frame,
+    part: &Proc,
+    rest: MapId,
+) -> Result<MapId, Memory>
+    requires declared { is_declaration (tree part.now) ≡ false }
+    requires part { Fits frame.now.vars (tree part.now) }
+    requires rest { HasNodes world.old rest }
+    ensures extends { Extends world.old world.new }
+    ensures nodes { IfOk result (HasNodes world.new) }
+{
+    match part {
+        Proc::Skip => Ok(rest),
+        Proc::Stop => stop(alloc, world),
+        Proc::Assign { vars, values } => {
+            assigned(alloc, world, frame, vars.items(), values.items(), rest)
+        }
+        Proc::Input { chan, var } => input(alloc, world, frame, *chan, *var, rest),
+        Proc::Output { chan, value } => output(alloc, world, frame, *chan, value, rest),
+        Proc::Seq(parts) => in_turn(alloc, world, frame, parts.items(), rest),
+        Proc::Par(parts) => at_once(alloc, world, frame, parts.items(), rest),
+        Proc::If(choices) => first_choice(alloc, world, frame, choices.items(), rest),
+        Proc::Alt(alternatives) => alternated(alloc, world, frame, alternatives.items(), rest),
+        Proc::Var { .. } | Proc::Chan { .. } => unreachable!(),
+    }
+}
+
+// The parts of a SEQ, and then what another map has.
+#[cycle(after)]
+fn in_turn(
+    alloc: Global,
+    world: &mut World,
+    frame: &Frame,
+    parts: &[Proc],
+    rest: MapId,
+) -> Result<MapId, Memory>
+    requires parts { FitAll frame.now.vars (trees parts.now) }
+    requires rest { HasNodes world.old rest }
+    ensures extends { Extends world.old world.new }
+    ensures nodes { IfOk result (HasNodes world.new) }
+{
+    let mut map = rest;
+    let mut left = parts.len();
+    while left > 0 {
+        left -= 1;
+        let next = after(alloc, world, frame, &parts[left], map)?;
+        map = next;
+    }
+    Ok(map)
+}
+
+// The choices of an IF, and then what another map has.
+#[cycle(after)]
+fn first_choice(
+    alloc: Global,
+    world: &mut World,
+    frame: &Frame,
+    choices: &[(Expr, Proc)],
+    rest: MapId,
+) -> Result<MapId, Memory>
+    requires choices { FitCases frame.now.vars (cases choices.now) }
+    requires rest { HasNodes world.old rest }
+    ensures extends { Extends world.old world.new }
+    ensures nodes { IfOk result (HasNodes world.new) }
+{
+    let mut map = stop(alloc, world)?;
+    let mut left = choices.len();
+    while left > 0 {
+        left -= 1;
+        let choice = &choices[left];
+        let chosen = after(alloc, world, frame, &choice.1, rest)?;
+        let set = holds(alloc, world, frame, &choice.0)?;
+        let next = choose(world, set, chosen, map)?;
+        map = next;
+    }
+    Ok(map)
+}
+
+// The alternatives of an ALT, and then what another map has.
+#[cycle(after)]
+fn alternated(
+    alloc: Global,
+    world: &mut World,
+    frame: &Frame,
+    alternatives: &[(Guard, Proc)],
+    rest: MapId,
+) -> Result<MapId, Memory>
+    requires alternatives { FitBranches frame.now.vars (branches alternatives.now) }
+    requires rest { HasNodes world.old rest }
+    ensures extends { Extends world.old world.new }
+    ensures nodes { IfOk result (HasNodes world.new) }
+{
+    let mut alternation = Alternation::none(alloc, world)?;
+    for (guard, part) in alternatives {
+        let next = after(alloc, world, frame, part, rest)?;
+        let enabled = holds(alloc, world, frame, &guard.condition)?;
+        let more = alternation.and(alloc, world, frame, enabled, &guard.wait, next)?;
+        alternation = more;
+    }
+    alternation.map(alloc, world)
+}
+
+// The parts of a PAR, and then what another map has.
+#[cycle(after)]
+fn at_once(
+    alloc: Global,
+    world: &mut World,
+    frame: &Frame,
+    parts: &[Proc],
+    rest: MapId,
+) -> Result<MapId, Memory>
+    requires parts { FitAll frame.now.vars (trees parts.now) }
+    requires rest { HasNodes world.old rest }
+    ensures extends { Extends world.old world.new }
+    ensures nodes { IfOk result (HasNodes world.new) }
+{
+    if parts.len() < 2 {
+        return in_turn(alloc, world, frame, parts, rest);
+    }
+    let sides = Sides::of(alloc, world, frame, parts, rest)?;
+    let mut map = sides.ended;
+    let mut left = parts.len();
+    while left > 0 {
+        left -= 1;
+        let inner = side_frame(alloc, frame, &sides, left)?;
+        let first = after(alloc, world, &inner, &parts[left], sides.ended)?;
+        let both = beside(alloc, world, frame, &sides, left, parts, first, map)?;
+        map = both;
+    }
+    sequel(alloc, world, frame, &sides, map, rest)
+}
