@@ -3,20 +3,19 @@ ghost use Rattle.occ_syntax.specs.Declarations.{is_declaration};
 ghost use Rattle.occ_syntax.specs.View.{tree, trees, cases, branches};
 ghost use Rattle.occ_follow.specs.Sequence.{HasNodes};
 ghost use Rattle.occ_lift.specs.Maps.{Extends};
-ghost use Rattle.occ_norm.specs.Placed.{Fits, FitAll, FitBranches, FitCases};
+ghost use Rattle.occ_frame.specs.After.{IsAfter, IsOver};
+ghost use Rattle.occ_frame.specs.Placed.{Fits, FitAll, FitBranches, FitCases, IsAround};
 
-use crate::changes::freed;
-use crate::choice::{Alternation, input, output};
-use crate::frame::Frame;
-use crate::parallel::{Sides, beside, side_frame};
-use crate::sequel::sequel;
-use crate::sets::holds;
-use crate::writes::assigned;
 use occ_base::Memory;
+use occ_frame::{Frame, freed, holds};
+use occ_guards::{Alternation, input, output};
 use occ_lift::{choose, stop};
 use occ_mdd::MapId;
 use occ_node::World;
+use occ_sequel::sequel;
+use occ_sides::{Sides, beside, side_frame};
 use occ_syntax::{Expr, Guard, Proc};
+use occ_writes::assigned;
 use std::alloc::Global;
 
 /// The map of a part and then what another map has.
@@ -177,5 +176,5 @@ fn at_once(
         let both = beside(alloc, world, frame, &sides, left, parts, first, map)?;
         map = both;
     }
-    sequel(alloc, world, frame, &sides, map, rest)
+    sequel(alloc, world, frame, sides.needed, sides.written, map, rest)
 }

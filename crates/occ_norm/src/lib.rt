@@ -2,14 +2,6 @@
 #![tactic(auto)]
 
 mod after;
-mod changes;
-mod choice;
-mod frame;
 mod normal;
-mod parallel;
-mod sequel;
-mod sets;
-mod users;
-mod writes;
 
 pub use normal::normalise;

@@ -4,9 +4,8 @@ ghost use Rattle.occ_node.specs.World.{Grows};
 ghost use Rattle.occ_follow.specs.Sequence.{HasNodes};
 
 use crate::after::after;
-use crate::changes::rebased;
-use crate::frame::Frame;
 use occ_base::Memory;
+use occ_frame::{Frame, rebased};
 use occ_lift::skip;
 use occ_node::{Root, World};
 use occ_usage::Accepted;

@@ -1,0 +1,4 @@
+pub mod Placed
+pub mod Kept
+pub mod After
+pub mod Changes

@@ -1,0 +1,11 @@
+//! What is in scope where a part of a program stands, the sets of states that its expressions say, and what is done to the
+//! final states of whole maps. The definitions of a map of a part and what follows it are in `specs/`.
+#![tactic(auto)]
+
+mod changes;
+mod frame;
+mod sets;
+
+pub use changes::{freed, rebased, support, turned_on};
+pub use frame::{Frame, bits_from, has_bit, lowest};
+pub use sets::{bit_set, changed, digits, holds, within, without};

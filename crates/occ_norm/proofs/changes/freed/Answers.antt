@@ -1,9 +1,0 @@
-use Rattle.occ_lift.proofs.Worlds.{extends_refl, extends_trans, has_nodes-extends, may_have, may_have-extends}
-use Rattle.occ_norm.proofs.Keeping.{keep-extends, keep_learnt, keep_none, set-extends, sets-extend, writes-extend}
-use Rattle.occ_norm.proofs.changes.freed.Goals as goal
-
-pub loop-bit-init : goal.loop-bit-init
-loop-bit-init c = record { extends = extends_refl c.args.world.now; nodes = c.requires.map }
-
-pub loop-bit-preserved : goal.loop-bit-preserved
-loop-bit-preserved c = record { extends = extends_trans c.args.world.now c.loop-bit.world c.freed_at.new.world c.loop-bit.invariant.extends c.freed_at.ensures.extends; nodes = c.in_ok-next.ensures.nodes }

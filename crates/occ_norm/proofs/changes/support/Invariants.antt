@@ -1,5 +1,0 @@
-use Rattle.occ_lift.specs.Maps.{Extends}
-use Rattle.occ_norm.proofs.changes.support.Given as goal
-
-abbrev pub invariant-loop-bit : goal.invariant-loop-bit
-invariant-loop-bit l = Extends l.fn.world l.world

@@ -1,9 +1,0 @@
-use Rattle.occ_lift.specs.Maps.{Extends}
-use Rattle.occ_norm.specs.Kept.{AreWrites}
-use Rattle.occ_norm.proofs.writes.writes_of.Given as goal
-
-abbrev pub invariant-loop-place : goal.invariant-loop-place
-invariant-loop-place l = record {
-  extends : Extends l.fn.world l.world;
-  writes : AreWrites l.world.store l.writes.items;
-}

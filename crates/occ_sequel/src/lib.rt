@@ -1,0 +1,6 @@
+//! What follows processes that say what they change.
+#![tactic(auto)]
+
+mod sequel;
+
+pub use sequel::sequel;

@@ -1,0 +1,9 @@
+use Rattle.std.proofs.Common.{List}
+use Rattle.std.specs.List.{All}
+use Rattle.occ_dd.specs.Store.{IsKnown}
+use Rattle.occ_dd.specs.declared.store.Store.{Store}
+use Rattle.occ_writes.specs.Writes.{AreWrites}
+use Rattle.occ_writes.proofs.writes.add_digits.Given as goal
+
+abbrev pub invariant-loop-place : goal.invariant-loop-place
+invariant-loop-place l = (s : Store) → AreWrites s l.initial.writes.items → All (IsKnown s) l.sets → AreWrites s l.writes.items

@@ -1,0 +1,9 @@
+use Rattle.occ_lift.specs.Maps.{Extends}
+use Rattle.occ_writes.specs.Writes.{AreWrites}
+use Rattle.occ_writes.proofs.writes.writes_of.Given as goal
+
+abbrev pub invariant-loop-place : goal.invariant-loop-place
+invariant-loop-place l = record {
+  extends : Extends l.fn.world l.world;
+  writes : AreWrites l.world.store l.writes.items;
+}

@@ -1,0 +1,6 @@
+//! Assignments in front of what follows them.
+#![tactic(auto)]
+
+mod writes;
+
+pub use writes::assigned;
