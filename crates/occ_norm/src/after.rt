@@ -1,10 +1,13 @@
 ghost use Rattle.std.specs.Prelude.{◌≡◌, ℕ, ◌≤◌, ◌<◌, false, IfOk};
 ghost use Rattle.occ_syntax.specs.Declarations.{is_declaration};
+ghost use Rattle.occ_syntax.specs.Tree.{alt, par, select, seq};
+ghost use Rattle.occ_syntax.specs.Usage.{AllKeepUsage, AreSeparate, BranchesKeepUsage, CasesKeepUsage, KeepsUsage};
 ghost use Rattle.occ_syntax.specs.View.{tree, trees, cases, branches};
 ghost use Rattle.occ_follow.specs.Sequence.{HasNodes};
 ghost use Rattle.occ_lift.specs.Maps.{Extends};
-ghost use Rattle.occ_frame.specs.After.{IsAfter, IsOver};
-ghost use Rattle.occ_frame.specs.Placed.{Fits, FitAll, FitBranches, FitCases, IsAround};
+ghost use Rattle.occ_frame.specs.After.{IsOver};
+ghost use Rattle.occ_frame.specs.Placed.{Fits, FitAll, FitBranches, FitCases};
+ghost use Rattle.occ_norm.specs.Parts.{IsAfterIn};
 
 use occ_base::Memory;
 use occ_frame::{Frame, freed, holds};
@@ -29,9 +32,11 @@ pub fn after(
     rest: MapId,
 ) -> Result<MapId, Memory>
     requires part { Fits frame.now.vars (tree part.now) }
-    requires rest { HasNodes world.old rest }
+    requires usage { KeepsUsage (tree part.now) }
+    requires rest { IsOver world.old frame.now.bits rest }
     ensures extends { Extends world.old world.new }
     ensures nodes { IfOk result (HasNodes world.new) }
+    ensures after { IfOk result (IsAfterIn world.new frame.now.vars frame.now.layout frame.now.keep frame.now.closed.items (tree part.now) rest) }
 {
     let mut inner = frame.copy(alloc)?;
     let mut body = part;
@@ -54,9 +59,11 @@ fn undeclared(
 ) -> Result<MapId, Memory>
     requires declared { is_declaration (tree part.now) ≡ false }
     requires part { Fits frame.now.vars (tree part.now) }
-    requires rest { HasNodes world.old rest }
+    requires usage { KeepsUsage (tree part.now) }
+    requires rest { IsOver world.old frame.now.bits rest }
     ensures extends { Extends world.old world.new }
     ensures nodes { IfOk result (HasNodes world.new) }
+    ensures after { IfOk result (IsAfterIn world.new frame.now.vars frame.now.layout frame.now.keep frame.now.closed.items (tree part.now) rest) }
 {
     match part {
         Proc::Skip => Ok(rest),
@@ -84,9 +91,11 @@ fn in_turn(
     rest: MapId,
 ) -> Result<MapId, Memory>
     requires parts { FitAll frame.now.vars (trees parts.now) }
-    requires rest { HasNodes world.old rest }
+    requires usage { AllKeepUsage (trees parts.now) }
+    requires rest { IsOver world.old frame.now.bits rest }
     ensures extends { Extends world.old world.new }
     ensures nodes { IfOk result (HasNodes world.new) }
+    ensures after { IfOk result (IsAfterIn world.new frame.now.vars frame.now.layout frame.now.keep frame.now.closed.items (seq (trees parts.now)) rest) }
 {
     let mut map = rest;
     let mut left = parts.len();
@@ -108,9 +117,11 @@ fn first_choice(
     rest: MapId,
 ) -> Result<MapId, Memory>
     requires choices { FitCases frame.now.vars (cases choices.now) }
-    requires rest { HasNodes world.old rest }
+    requires usage { CasesKeepUsage (cases choices.now) }
+    requires rest { IsOver world.old frame.now.bits rest }
     ensures extends { Extends world.old world.new }
     ensures nodes { IfOk result (HasNodes world.new) }
+    ensures after { IfOk result (IsAfterIn world.new frame.now.vars frame.now.layout frame.now.keep frame.now.closed.items (select (cases choices.now)) rest) }
 {
     let mut map = stop(alloc, world)?;
     let mut left = choices.len();
@@ -135,13 +146,19 @@ fn alternated(
     rest: MapId,
 ) -> Result<MapId, Memory>
     requires alternatives { FitBranches frame.now.vars (branches alternatives.now) }
-    requires rest { HasNodes world.old rest }
+    requires usage { BranchesKeepUsage (branches alternatives.now) }
+    requires rest { IsOver world.old frame.now.bits rest }
     ensures extends { Extends world.old world.new }
     ensures nodes { IfOk result (HasNodes world.new) }
+    ensures after { IfOk result (IsAfterIn world.new frame.now.vars frame.now.layout frame.now.keep frame.now.closed.items (alt (branches alternatives.now)) rest) }
 {
     let mut alternation = Alternation::none(alloc, world)?;
-    for (guard, part) in alternatives {
-        let next = after(alloc, world, frame, part, rest)?;
+    let mut left = alternatives.len();
+    while left > 0 {
+        left -= 1;
+        let alternative = &alternatives[left];
+        let next = after(alloc, world, frame, &alternative.1, rest)?;
+        let guard = &alternative.0;
         let enabled = holds(alloc, world, frame, &guard.condition)?;
         let more = alternation.and(alloc, world, frame, enabled, &guard.wait, next)?;
         alternation = more;
@@ -159,12 +176,18 @@ fn at_once(
     rest: MapId,
 ) -> Result<MapId, Memory>
     requires parts { FitAll frame.now.vars (trees parts.now) }
-    requires rest { HasNodes world.old rest }
+    requires usage { AllKeepUsage (trees parts.now) }
+    requires separate { AreSeparate (trees parts.now) }
+    requires rest { IsOver world.old frame.now.bits rest }
     ensures extends { Extends world.old world.new }
     ensures nodes { IfOk result (HasNodes world.new) }
+    ensures after { IfOk result (IsAfterIn world.new frame.now.vars frame.now.layout frame.now.keep frame.now.closed.items (par (trees parts.now)) rest) }
 {
-    if parts.len() < 2 {
-        return in_turn(alloc, world, frame, parts, rest);
+    if parts.is_empty() {
+        return Ok(rest);
+    }
+    if parts.len() == 1 {
+        return after(alloc, world, frame, &parts[0], rest);
     }
     let sides = Sides::of(alloc, world, frame, parts, rest)?;
     let mut map = sides.ended;

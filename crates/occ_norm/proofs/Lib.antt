@@ -1,0 +1,5 @@
+pub mod Changing
+pub mod Sequences
+pub mod Simple
+pub mod Laying
+pub mod Opening

@@ -1,0 +1,210 @@
+-- SKIP, STOP and the choices of an IF, as maps in front of what follows.
+use Rattle.std.proofs.Common.{◌≡◌, ◌<◌, ◌≤◌, ◌^◌, ◌↔◌, ◌⊎◌, ◌++◌, ◌+◌, ◌%◌, ⊎_elim, inl, inr, ℕ, min, Bool, true, false, List, [], ◌∷◌, Option, Some, None, MatchBool, cond, refl, sym, ap, ◌∙◌, subst, bit_and, bit_xor, arith, nat_lt}
+use Rattle.std.proofs.lemmas.Bool.{cases_lt}
+use Rattle.std.proofs.lemmas.Nat.Bits.{bit_at-zero, bit_at_above, same_from_bits}
+use Rattle.std.proofs.lemmas.Option.{same_Some}
+use Rattle.std.specs.Int.{bit_at}
+use Rattle.std.specs.Int.Bits.{xor_zero_r}
+use Rattle.occ_base.specs.declared.event.Event.{Event}
+use Rattle.occ_base.specs.declared.names.Name.{Name}
+use Rattle.occ_base.specs.declared.width.Width.{Width}
+use Rattle.occ_bits.specs.Layout.{state_of}
+use Rattle.occ_bits.proofs.Arithmetic.{low_bit}
+use Rattle.occ_syntax.specs.Eval.{is_true}
+use Rattle.occ_syntax.specs.Meaning.{Outcome, Stopped, stopped, ended, refusing, meaning, fails as part_fails, ends as part_ends}
+use Rattle.occ_syntax.specs.Scopes.{Environment, Values}
+use Rattle.occ_syntax.specs.Tree.{Exp, Tree, Cases, and_case, select}
+use Rattle.occ_mdd.specs.Maps.{value}
+use Rattle.occ_mdd.specs.declared.map.MapId.{MapId}
+use Rattle.occ_node.specs.World.{fails, ends}
+use Rattle.occ_node.specs.declared.node.NodeId.{NodeId}
+use Rattle.occ_node.specs.declared.world.World.{World}
+use Rattle.occ_lift.specs.Maps.{IsStop}
+use Rattle.occ_weave.specs.Weave.{off_channels}
+use Rattle.occ_frame.specs.After.{AgreeBelow, IsAfter, IsOver, QuietlyFails, Resumes, change_of}
+use Rattle.occ_norm.proofs.Changing.{bit_of_change}
+
+-- states of the layout tell its bits
+abbrev pub TellsBits : List (Name × Width × ℕ) → ℕ → Type 0
+TellsBits layout n = (x y : ℕ) → state_of layout x ≡ state_of layout y → AgreeBelow n x y
+
+end_of : Outcome → Values
+end_of (ended s) = s
+end_of (refusing X) = λ x. 0
+
+pub same_end : (s r : Values) → ended s ≡ ended r → s ≡ r
+same_end s r e = ap end_of e
+
+is_refusing : Outcome → Bool
+is_refusing (ended s) = false
+is_refusing (refusing X) = true
+
+pub not_both : (s : Values) (X : Event → Bool) → refusing X ≡ ended s → ⊥
+not_both s X e = let f : true ≡ false = ap is_refusing e in cc
+
+-- where bits below n agree, none of them changes
+pub change_none : (n keep x y : ℕ) → keep < 2 ^ n → AgreeBelow n x y → change_of keep x y ≡ 0
+change_none n keep x y inside agree = same_from_bits _ _ (λ i. bit_of_change keep x y i ∙ ⊎_elim (below i) (above i) (cases_lt i n) ∙ sym (bit_at-zero i))
+  where
+    even : (a k : ℕ) → min ((a + a) % 2) k ≡ 0
+    even a k = omega arith
+
+    none : (a : ℕ) → min a 0 ≡ 0
+    none a = omega arith
+
+    below : (i : ℕ) → i < n → min ((bit_at x i + bit_at y i) % 2) (bit_at keep i) ≡ 0
+    below i h = ap (λ b. min ((bit_at x i + b) % 2) (bit_at keep i)) (sym (agree i h)) ∙ even (bit_at x i) (bit_at keep i)
+
+    above : (i : ℕ) → n ≤ i → min ((bit_at x i + bit_at y i) % 2) (bit_at keep i) ≡ 0
+    above i h = ap (min ((bit_at x i + bit_at y i) % 2)) (bit_at_above keep n i inside h) ∙ none _
+
+-- the change doesn't look at other bits of the state before
+pub change_same : (n keep x y u : ℕ) → keep < 2 ^ n → AgreeBelow n x y → change_of keep x u ≡ change_of keep y u
+change_same n keep x y u inside agree = same_from_bits _ _ (λ i. bit_of_change keep x u i ∙ ⊎_elim (below i) (above i) (cases_lt i n) ∙ sym (bit_of_change keep y u i))
+  where
+    none : (a b : ℕ) → min a 0 ≡ min b 0
+    none a b = omega arith
+
+    below : (i : ℕ) → i < n → min ((bit_at x i + bit_at u i) % 2) (bit_at keep i) ≡ min ((bit_at y i + bit_at u i) % 2) (bit_at keep i)
+    below i h = ap (λ b. min ((b + bit_at u i) % 2) (bit_at keep i)) (agree i h)
+
+    above : (i : ℕ) → n ≤ i → min ((bit_at x i + bit_at u i) % 2) (bit_at keep i) ≡ min ((bit_at y i + bit_at u i) % 2) (bit_at keep i)
+    above i h = let z = bit_at_above keep n i inside h in ap (min ((bit_at x i + bit_at u i) % 2)) z ∙ none _ _ ∙ sym (ap (min ((bit_at y i + bit_at u i) % 2)) z)
+
+-- ---- SKIP
+module _ (w : World) (layout : List (Name × Width × ℕ)) (n keep : ℕ) (closed : List Name) (Γ : Environment) (p : Tree) (rest : MapId)
+    (inside : keep < 2 ^ n) (over : IsOver w n rest) (tells : TellsBits layout n)
+    (once : (s : Values) (t : List Event) (o : Outcome) → (meaning p).does Γ s t o ↔ ((t ≡ []) × (o ≡ ended s))) where
+
+  pub now : (x : ℕ) (a : NodeId) (t : List Event) (f : ℕ → NodeId → List Event → Bool) → x < 2 ^ 64 → value w.maps rest x ≡ Some a → f x a t ≡ true → Resumes w layout closed Γ p rest x f t
+  now x a t f hx at behaved = record {
+    t1 = [];
+    t2 = t;
+    y = x;
+    m = a;
+    whole = refl;
+    below = hx;
+    silent = refl;
+    ended = (once (state_of layout x) [] (ended (state_of layout x))).1 (refl, refl);
+    leads = at;
+    behaved = behaved;
+  }
+
+  still : (x : ℕ) (a : NodeId) (t t1 t2 : List Event) (y : ℕ) (m : NodeId) (f : ℕ → NodeId → List Event → Bool) → x < 2 ^ 64 → value w.maps rest x ≡ Some a
+      → t ≡ t1 ++ t2 → y < 2 ^ 64 → part_ends Γ p (state_of layout x) t1 (state_of layout y) → value w.maps rest y ≡ Some m → f y m t2 ≡ true
+      → AgreeBelow n x y × (f y a t ≡ true)
+  still x a t t1 t2 y m f hx at whole hy d leads behaved =
+      let stop = (once (state_of layout x) t1 (ended (state_of layout y))).0 d in
+      let agree : AgreeBelow n x y = λ k h. sym (tells y x (same_end (state_of layout y) (state_of layout x) stop.1) k h) in
+      let one : m ≡ a = same_Some m a (sym leads ∙ sym (over.same x y hx hy agree) ∙ at) in
+      (agree, (λ i. f y (sym one i) ((whole ∙ ap (λ u. u ++ t2) stop.0) i)) ∙ behaved)
+
+  pub skip_after : IsAfter w layout keep closed Γ p rest rest
+  skip_after = record {
+    after_fails = λ x a hx at t X. (
+      λ h. inr (now x a t (λ y m u. fails w m u X) hx at h),
+      ⊎_elim
+      (λ (s : QuietlyFails layout closed Γ p x t X). absurd (not_both (state_of layout x) (off_channels closed X) ((once (state_of layout x) t (refusing (off_channels closed X))).0 s.1).1))
+      (λ (s : Resumes w layout closed Γ p rest x (λ y m u. fails w m u X) t). (still x a t s.t1 s.t2 s.y s.m (λ y m u. fails w m u X) hx at s.whole s.below s.ended s.leads s.behaved).1),
+    );
+    after_ends = λ x a hx at t z hz. (
+      λ h. now x a t (λ y m u. ends w m u (bit_xor z (change_of keep x y))) hx at (ap (ends w a t) (unchanged z x x (λ k l. refl)) ∙ h),
+      λ s. let k = still x a t s.t1 s.t2 s.y s.m (λ y m u. ends w m u (bit_xor z (change_of keep x y))) hx at s.whole s.below s.ended s.leads s.behaved in
+      sym (ap (ends w a t) (unchanged z x s.y k.0)) ∙ k.1,
+    );
+  }
+    where
+      unchanged : (z x y : ℕ) → AgreeBelow n x y → bit_xor z (change_of keep x y) ≡ z
+      unchanged z x y agree = ap (bit_xor z) (change_none n keep x y inside agree) ∙ xor_zero_r z
+
+-- ---- STOP
+module _ (w : World) (layout : List (Name × Width × ℕ)) (keep : ℕ) (closed : List Name) (Γ : Environment) (p : Tree) (rest r : MapId) (is : IsStop w r)
+    (rests : (s : Values) (t : List Event) (o : Outcome) → (meaning p).does Γ s t o ↔ Stopped t o) where
+
+  the_node : (x : ℕ) (a : NodeId) → value w.maps r x ≡ Some a → is.node ≡ a
+  the_node x a at = same_Some is.node a (sym (is.everywhere.values x) ∙ at)
+
+  no_end : (t : List Event) (s : Values) → Stopped t (ended s) → ⊥
+  no_end t s ()
+
+  never_ends : (x : ℕ) (t : List Event) (f : ℕ → NodeId → List Event → Bool) → Resumes w layout closed Γ p rest x f t → ⊥
+  never_ends x t f s = no_end s.t1 (state_of layout s.y) ((rests (state_of layout x) s.t1 (ended (state_of layout s.y))).0 s.ended)
+
+  later : (e : Event) (t : List Event) (X : Event → Bool) → Stopped (e ∷ t) (refusing X) → ⊥
+  later e t X ()
+
+  fails_there : (x : ℕ) (t : List Event) (X : Event → Bool) → (fails w is.node t X ≡ true) ↔ QuietlyFails layout closed Γ p x t X
+  fails_there x [] X = (λ h. (refl, (rests (state_of layout x) [] (refusing (off_channels closed X))).1 stopped), λ s. is.fails_now X)
+  fails_there x (e ∷ t) X = (
+    λ h. absurd (let f : true ≡ false = sym h ∙ is.fails_once e t X in cc),
+    λ s. absurd (later e t (off_channels closed X) ((rests (state_of layout x) (e ∷ t) (refusing (off_channels closed X))).0 s.1)),
+  )
+
+  pub stop_after : IsAfter w layout keep closed Γ p rest r
+  stop_after = record {
+    after_fails = λ x a hx at t X. (
+      λ h. inl ((fails_there x t X).0 (ap (λ b. fails w b t X) (the_node x a at) ∙ h)),
+      ⊎_elim
+      (λ (s : QuietlyFails layout closed Γ p x t X). sym (ap (λ b. fails w b t X) (the_node x a at)) ∙ (fails_there x t X).1 s)
+      (λ (s : Resumes w layout closed Γ p rest x (λ y m u. fails w m u X) t). absurd (never_ends x t (λ y m u. fails w m u X) s)),
+    );
+    after_ends = λ x a hx at t z hz. (
+      λ h. absurd (let f : true ≡ false = sym h ∙ sym (ap (λ b. ends w b t z) (the_node x a at)) ∙ is.never_ends t z in cc),
+      λ s. absurd (never_ends x t (λ y m u. ends w m u (bit_xor z (change_of keep x y))) s),
+    );
+  }
+
+-- ---- the same behaviours from one state
+pub resumes_as : (w : World) (layout : List (Name × Width × ℕ)) (closed : List Name) (Γ : Environment) (p q : Tree) (rest : MapId) (x : ℕ) (f : ℕ → NodeId → List Event → Bool) (t : List Event)
+    → ((u : List Event) (o : Outcome) → (meaning p).does Γ (state_of layout x) u o → (meaning q).does Γ (state_of layout x) u o)
+    → Resumes w layout closed Γ p rest x f t → Resumes w layout closed Γ q rest x f t
+resumes_as w layout closed Γ p q rest x f t gives s = record {
+  t1 = s.t1;
+  t2 = s.t2;
+  y = s.y;
+  m = s.m;
+  whole = s.whole;
+  below = s.below;
+  silent = s.silent;
+  ended = gives s.t1 (ended (state_of layout s.y)) s.ended;
+  leads = s.leads;
+  behaved = s.behaved;
+}
+
+-- a map that has at each assignment the node of the map of a part that behaves so from there
+pub after_as : (w : World) (layout : List (Name × Width × ℕ)) (keep : ℕ) (closed : List Name) (Γ : Environment) (q : Tree) (rest r : MapId)
+    → ((x : ℕ) → x < 2 ^ 64 → (p : Tree) × (map : MapId) × IsAfter w layout keep closed Γ p rest map × (value w.maps r x ≡ value w.maps map x)
+      × ((u : List Event) (o : Outcome) → (meaning p).does Γ (state_of layout x) u o ↔ (meaning q).does Γ (state_of layout x) u o))
+    → IsAfter w layout keep closed Γ q rest r
+after_as w layout keep closed Γ q rest r there = record {
+  after_fails = λ x a hx at t X. let k = there x hx in let iff = k.2.after_fails x a hx (sym k.3 ∙ at) t X in (
+    λ h. ⊎_elim
+    (λ (s : QuietlyFails layout closed Γ k.0 x t X). inl (s.0, (k.4 t (refusing (off_channels closed X))).0 s.1))
+    (λ (s : Resumes w layout closed Γ k.0 rest x (λ y m u. fails w m u X) t). inr (resumes_as w layout closed Γ k.0 q rest x (λ y m u. fails w m u X) t (λ u o. (k.4 u o).0) s))
+    (iff.0 h),
+    ⊎_elim
+    (λ (s : QuietlyFails layout closed Γ q x t X). iff.1 (inl (s.0, (k.4 t (refusing (off_channels closed X))).1 s.1)))
+    (λ (s : Resumes w layout closed Γ q rest x (λ y m u. fails w m u X) t). iff.1 (inr (resumes_as w layout closed Γ q k.0 rest x (λ y m u. fails w m u X) t (λ u o. (k.4 u o).1) s))),
+  );
+  after_ends = λ x a hx at t z hz. let k = there x hx in let iff = k.2.after_ends x a hx (sym k.3 ∙ at) t z hz in (
+    λ h. resumes_as w layout closed Γ k.0 q rest x (λ y m u. ends w m u (bit_xor z (change_of keep x y))) t (λ u o. (k.4 u o).0) (iff.0 h),
+    λ s. iff.1 (resumes_as w layout closed Γ q k.0 rest x (λ y m u. ends w m u (bit_xor z (change_of keep x y))) t (λ u o. (k.4 u o).1) s),
+  );
+}
+
+-- ---- the first choice of an IF
+pub case_after : (w : World) (layout : List (Name × Width × ℕ)) (keep : ℕ) (closed : List Name) (Γ : Environment) (e : Exp) (p : Tree) (cs : Cases) (rest chosen map r : MapId) (test : ℕ → Bool)
+    → ((x : ℕ) → x < 2 ^ 64 → test x ≡ is_true Γ e (state_of layout x)) → ((x : ℕ) → value w.maps r x ≡ cond (test x) (value w.maps chosen x) (value w.maps map x))
+    → IsAfter w layout keep closed Γ p rest chosen → IsAfter w layout keep closed Γ (select cs) rest map → IsAfter w layout keep closed Γ (select (and_case e p cs)) rest r
+case_after w layout keep closed Γ e p cs rest chosen map r test tests is first others = after_as w layout keep closed Γ (select (and_case e p cs)) rest r (λ x hx. at x hx (test x) refl)
+  where
+    at : (x : ℕ) → x < 2 ^ 64 → (b : Bool) → test x ≡ b → (q : Tree) × (m : MapId) × IsAfter w layout keep closed Γ q rest m × (value w.maps r x ≡ value w.maps m x)
+        × ((u : List Event) (o : Outcome) → (meaning q).does Γ (state_of layout x) u o ↔ (meaning (select (and_case e p cs))).does Γ (state_of layout x) u o)
+    at x hx true h = (p, chosen, first, is x ∙ ap (λ c. cond c (value w.maps chosen x) (value w.maps map x)) h,
+        λ u o. let b : true ≡ is_true Γ e (state_of layout x) = sym h ∙ tests x hx in
+        let M : Bool → Type 0 = λ c. MatchBool c ((meaning p).does Γ (state_of layout x) u o) ((meaning (select cs)).does Γ (state_of layout x) u o) in
+        (λ d. subst M b d, λ d. subst M (sym b) d))
+    at x hx false h = (select cs, map, others, is x ∙ ap (λ c. cond c (value w.maps chosen x) (value w.maps map x)) h,
+        λ u o. let b : false ≡ is_true Γ e (state_of layout x) = sym h ∙ tests x hx in
+        let M : Bool → Type 0 = λ c. MatchBool c ((meaning p).does Γ (state_of layout x) u o) ((meaning (select cs)).does Γ (state_of layout x) u o) in
+        (λ d. subst M b d, λ d. subst M (sym b) d))
