@@ -1,2 +1,5 @@
 pub mod Placing
 pub mod Keeping
+pub mod Bits
+pub mod After
+pub mod Changing

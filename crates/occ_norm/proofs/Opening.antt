@@ -161,9 +161,6 @@ module _ (w : World) (n top : ℕ) (layout inner : List (Name × Width × ℕ)) 
   missing : (x y : ℕ) → state_of layout x v.0 ≡ state_of layout y v.0 → state_of layout y ≡ with_value (state_of inner y) v.0 (state_of layout x v.0)
   missing x y e = state_outside x y ∙ ap (λ z. with_value (state_of inner y) v.0 z) (sym e)
 
-  inner_part : Environment
-  inner_part = with_name Γ v.0 (Var wd)
-
   module _ (dropped : (x y : ℕ) → state_of layout x v.0 ≡ state_of layout y v.0) where
     quiet_var_out : (x y : ℕ) (t : List Event) (X : Event → Bool) → AgreeOutside n top x y → QuietlyFails inner closed (with_name Γ v.0 (Var wd)) q y t X → QuietlyFails layout closed Γ (declare v.0 wd q) x t X
     quiet_var_out x y t X agree s = (s.0, at_rest (y / 2 ^ n % 2 ^ bits_of wd) (mod-lt _ (pow_pos (bits_of wd))) (subst (λ st. part_fails (with_name Γ v.0 (Var wd)) q st t (off_channels closed X)) (state_inside x y agree) s.1))
@@ -185,7 +182,7 @@ module _ (w : World) (n top : ℕ) (layout inner : List (Name × Width × ℕ)) 
     }
 
     -- the assignment with the variable's value
-    at : ℕ → ℕ → ℕ
+    abbrev at : ℕ → ℕ → ℕ
     at x z = placed n (bits_of wd) z x
 
     at_agrees : (x z : ℕ) → z < 2 ^ bits_of wd → AgreeOutside n top x (at x z)

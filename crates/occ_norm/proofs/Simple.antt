@@ -28,14 +28,14 @@ use Rattle.occ_norm.proofs.Changing.{bit_of_change}
 abbrev pub TellsBits : List (Name × Width × ℕ) → ℕ → Type 0
 TellsBits layout n = (x y : ℕ) → state_of layout x ≡ state_of layout y → AgreeBelow n x y
 
-end_of : Outcome → Values
+abbrev end_of : Outcome → Values
 end_of (ended s) = s
 end_of (refusing X) = λ x. 0
 
 pub same_end : (s r : Values) → ended s ≡ ended r → s ≡ r
 same_end s r e = ap end_of e
 
-is_refusing : Outcome → Bool
+abbrev is_refusing : Outcome → Bool
 is_refusing (ended s) = false
 is_refusing (refusing X) = true
 
@@ -118,20 +118,22 @@ module _ (w : World) (layout : List (Name × Width × ℕ)) (n keep : ℕ) (clos
       unchanged z x y agree = ap (bit_xor z) (change_none n keep x y inside agree) ∙ xor_zero_r z
 
 -- ---- STOP
+at_rest_only : (t : List Event) (o : Outcome) → Stopped t o → (X : Event → Bool) × (t ≡ []) × (o ≡ refusing X)
+at_rest_only t o (stopped {X = X}) = (X, refl, refl)
+
 module _ (w : World) (layout : List (Name × Width × ℕ)) (keep : ℕ) (closed : List Name) (Γ : Environment) (p : Tree) (rest r : MapId) (is : IsStop w r)
     (rests : (s : Values) (t : List Event) (o : Outcome) → (meaning p).does Γ s t o ↔ Stopped t o) where
 
   the_node : (x : ℕ) (a : NodeId) → value w.maps r x ≡ Some a → is.node ≡ a
   the_node x a at = same_Some is.node a (sym (is.everywhere.values x) ∙ at)
 
-  no_end : (t : List Event) (s : Values) → Stopped t (ended s) → ⊥
-  no_end t s ()
-
   never_ends : (x : ℕ) (t : List Event) (f : ℕ → NodeId → List Event → Bool) → Resumes w layout closed Γ p rest x f t → ⊥
-  never_ends x t f s = no_end s.t1 (state_of layout s.y) ((rests (state_of layout x) s.t1 (ended (state_of layout s.y))).0 s.ended)
+  never_ends x t f s =
+      let k = at_rest_only s.t1 (ended (state_of layout s.y)) ((rests (state_of layout x) s.t1 (ended (state_of layout s.y))).0 s.ended) in
+      not_both (state_of layout s.y) k.0 (sym k.2)
 
   later : (e : Event) (t : List Event) (X : Event → Bool) → Stopped (e ∷ t) (refusing X) → ⊥
-  later e t X ()
+  later e t X d = let k = at_rest_only (e ∷ t) (refusing X) d in let f : e ∷ t ≡ [] = k.1 in cc
 
   fails_there : (x : ℕ) (t : List Event) (X : Event → Bool) → (fails w is.node t X ≡ true) ↔ QuietlyFails layout closed Γ p x t X
   fails_there x [] X = (λ h. (refl, (rests (state_of layout x) [] (refusing (off_channels closed X))).1 stopped), λ s. is.fails_now X)

@@ -1,0 +1,80 @@
+-- The operators of the language on maps, in every environment of the variables in scope.
+use Rattle.std.proofs.Common.{◌≡◌, ◌<◌, ◌≤◌, ◌^◌, ◌↔◌, ◌&&◌, ◌++◌, ℕ, Bool, true, false, List, [], ◌∷◌, Option, Some, None, cond, refl, sym, ap, ◌∙◌, subst, arith}
+use Rattle.std.proofs.lemmas.Bool.{and_parts}
+use Rattle.std.proofs.lemmas.Nat.{pow_pos}
+use Rattle.occ_base.specs.declared.event.Event.{Event}
+use Rattle.occ_base.specs.declared.names.Name.{Name}
+use Rattle.occ_base.specs.declared.width.Width.{Width}
+use Rattle.occ_bits.specs.Layout.{environment_in, state_of}
+use Rattle.occ_syntax.specs.declared.scope.Kind.{Kind}
+use Rattle.occ_syntax.specs.Eval.{is_true}
+use Rattle.occ_syntax.specs.Meaning.{Outcome, meaning}
+use Rattle.occ_syntax.specs.Scopes.{Environment, Values}
+use Rattle.occ_syntax.specs.Tree.{Exp, Tree, Trees, Cases, skip, stop, seq, par, select, no_tree, and_tree, no_case, and_case}
+use Rattle.occ_syntax.specs.Types.{all_types_kept, cases_kept, is_condition, types_kept}
+use Rattle.occ_mdd.specs.Maps.{value}
+use Rattle.occ_mdd.specs.declared.map.MapId.{MapId}
+use Rattle.occ_node.specs.declared.world.World.{World}
+use Rattle.occ_follow.specs.Sequence.{HasNodes}
+use Rattle.occ_lift.specs.Maps.{Extends, IsStop}
+use Rattle.occ_frame.specs.After.{IsAfter, IsOver}
+use Rattle.occ_frame.specs.Placed.{Fits, IsAround, IsFrame}
+use Rattle.occ_frame.proofs.After.{after-extends, after-over, state_back, states_reached}
+use Rattle.occ_frame.proofs.Bits.{pow_more}
+use Rattle.occ_norm.specs.Parts.{IsAfterIn}
+use Rattle.occ_norm.proofs.Sequences.{Reaches, seq_after}
+use Rattle.occ_norm.proofs.Simple.{after_as, case_after, skip_after, stop_after}
+
+-- ---- as the world grows
+pub in-extends : (v w : World) (k : Extends v w) (vars : List (Name × Kind)) (layout : List (Name × Width × ℕ)) (keep : ℕ) (closed : List Name) (p : Tree) (rest r : MapId)
+    → HasNodes v rest → HasNodes v r → IsAfterIn v vars layout keep closed p rest r → IsAfterIn w vars layout keep closed p rest r
+in-extends v w k vars layout keep closed p rest r has hr is Γ around types = after-extends v w k layout keep closed Γ p rest r has hr (is Γ around types)
+
+module _ (w : World) (vars : List (Name × Kind)) (layout : List (Name × Width × ℕ)) (n keep : ℕ) (closed : List Name) (frame : IsFrame vars layout n) (inside : keep < 2 ^ n) where
+  few : n ≤ 24
+  few = let e = frame.bits_are in let h = frame.few in omega (arith, e, h)
+
+  small : keep < 2 ^ 64
+  small = pow_more n 64 keep (omega (arith, few)) inside
+
+  pub reaches_in : (Γ : Environment) (p : Tree) → IsAround Γ vars → types_kept p Γ ≡ true → Reaches layout Γ p
+  reaches_in Γ p around types x t s h d = let k = states_reached vars layout n frame Γ around p types x t s d in (k.0, pow_more n 64 k.0 (omega (arith, few)) k.1, k.2)
+
+  -- what follows, beyond a part that fits
+  pub over_in : (p : Tree) (rest r : MapId) → Fits vars p → HasNodes w r → IsOver w n rest → IsAfterIn w vars layout keep closed p rest r → IsOver w n r
+  over_in p rest r fits has over is = after-over w vars layout n frame keep inside closed fits.outer p rest r (is fits.outer fits.around fits.types) has
+
+  pub skip_in : (rest : MapId) → IsOver w n rest → IsAfterIn w vars layout keep closed skip rest rest
+  skip_in rest over Γ around types = skip_after w layout n keep closed Γ skip rest inside over (state_back vars layout n frame) (λ s t o. (λ d. d, λ d. d))
+
+  pub none_in : (rest : MapId) → IsOver w n rest → IsAfterIn w vars layout keep closed (seq no_tree) rest rest
+  none_in rest over Γ around types = skip_after w layout n keep closed Γ (seq no_tree) rest inside over (state_back vars layout n frame) (λ s t o. (λ d. d, λ d. d))
+
+  pub empty_in : (rest : MapId) → IsOver w n rest → IsAfterIn w vars layout keep closed (par no_tree) rest rest
+  empty_in rest over Γ around types = skip_after w layout n keep closed Γ (par no_tree) rest inside over (state_back vars layout n frame) (λ s t o. (λ d. d, λ d. d))
+
+  pub stop_in : (rest r : MapId) → IsStop w r → IsAfterIn w vars layout keep closed stop rest r
+  stop_in rest r is Γ around types = stop_after w layout keep closed Γ stop rest r is (λ s t o. (λ d. d, λ d. d))
+
+  pub no_case_in : (rest r : MapId) → IsStop w r → IsAfterIn w vars layout keep closed (select no_case) rest r
+  no_case_in rest r is Γ around types = stop_after w layout keep closed Γ (select no_case) rest r is (λ s t o. (λ d. d, λ d. d))
+
+  pub seq_in : (p : Tree) (ps : Trees) (rest map r : MapId) → HasNodes w map → IsAfterIn w vars layout keep closed (seq ps) rest map → IsAfterIn w vars layout keep closed p map r
+      → IsAfterIn w vars layout keep closed (seq (and_tree p ps)) rest r
+  seq_in p ps rest map r has second first Γ around types =
+      let t = and_parts (types_kept p Γ) (all_types_kept ps Γ) types in
+      seq_after w layout keep closed Γ p ps rest map r small has (reaches_in Γ p around t.0) (first Γ around t.0) (second Γ around t.1)
+
+  pub one_in : (p : Tree) (rest r : MapId) → IsAfterIn w vars layout keep closed p rest r → IsAfterIn w vars layout keep closed (par (and_tree p no_tree)) rest r
+  one_in p rest r is Γ around types =
+      let t = and_parts (types_kept p Γ) (all_types_kept no_tree Γ) types in
+      after_as w layout keep closed Γ (par (and_tree p no_tree)) rest r (λ x h. (p, r, is Γ around t.0, refl, λ u o. (λ d. d, λ d. d)))
+
+  pub case_in : (e : Exp) (p : Tree) (cs : Cases) (rest chosen map r : MapId) (test : ℕ → Bool)
+      → ((Γ : Environment) → IsAround Γ vars → is_condition Γ e ≡ true → (x : ℕ) → x < 2 ^ 64 → test x ≡ is_true Γ e (state_of layout x))
+      → ((x : ℕ) → value w.maps r x ≡ cond (test x) (value w.maps chosen x) (value w.maps map x))
+      → IsAfterIn w vars layout keep closed p rest chosen → IsAfterIn w vars layout keep closed (select cs) rest map → IsAfterIn w vars layout keep closed (select (and_case e p cs)) rest r
+  case_in e p cs rest chosen map r test tests is first others Γ around types =
+      let t = and_parts (is_condition Γ e && types_kept p Γ) (cases_kept cs Γ) types in
+      let c = and_parts (is_condition Γ e) (types_kept p Γ) t.0 in
+      case_after w layout keep closed Γ e p cs rest chosen map r test (tests Γ around c.0) is (first Γ around c.1) (others Γ around t.1)
