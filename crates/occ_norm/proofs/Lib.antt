@@ -3,3 +3,5 @@ pub mod Sequences
 pub mod Simple
 pub mod Laying
 pub mod Opening
+pub mod Steps
+pub mod Rooting

@@ -1,6 +1,6 @@
 -- From the roots of two programs to the programs.
 use Rattle.std.proofs.Common.{◌≡◌, ◌==◌, ◌&&◌, ◌<◌, ◌≤◌, ◌^◌, ◌/◌, ◌%◌, ◌+◌, ◌↔◌, ◌⊎◌, inl, inr, ⊎_elim, ℕ, Bool, true, false, cond, List, [], ◌∷◌, Option, Some, None, is_some, nat_lt, refl, sym, ap, ◌∙◌, subst, arith}
-use Rattle.std.proofs.lemmas.Bool.{and_from, eq-eqb, lt-ltb}
+use Rattle.std.proofs.lemmas.Bool.{and_from, cases_Bool, eq-eqb, lt-ltb}
 use Rattle.std.proofs.lemmas.Nat.{pow_pos}
 use Rattle.std.proofs.Math.Nat.{mod-lt}
 use Rattle.std.proofs.lemmas.Option.{same_Some}
@@ -26,7 +26,7 @@ use Rattle.occ_laws.proofs.Frame.{part_value}
 use Rattle.occ_laws.proofs.Interface.{part_in_interface}
 use Rattle.occ_laws.proofs.States.{part_states}
 use Rattle.occ_bits.specs.Layout.{assignment_of, environment_in, entry_of, laid_out, state_of, scope_in}
-use Rattle.occ_bits.proofs.Laid.{found_width, laid_width, layout_of, missing}
+use Rattle.occ_bits.proofs.Laid.{found_width, laid_bits, laid_width, layout_of, missing}
 use Rattle.occ_bits.proofs.Arithmetic.{low_bit}
 use Rattle.occ_mdd.specs.Maps.{value}
 use Rattle.occ_mdd.specs.declared.map.MapId.{MapId}
@@ -50,9 +50,27 @@ use Rattle.occ_compare.specs.Verdicts.{BelongsToOne, IsMember, MeanTheSame, Stan
 use Rattle.occ_compare.specs.Walk.{opposite, picked}
 use Rattle.occ_frame.specs.After.{AgreeBelow, IsOver}
 use Rattle.occ_frame.specs.Placed.{IsAround, IsFrame}
-use Rattle.occ_frame.proofs.After.{are_states, map_node, same_truth, state_below, state_fits, zero_off}
+use Rattle.occ_bits.proofs.States.{are_states, state_fits}
+use Rattle.occ_frame.proofs.After.{state_below}
+use Rattle.occ_frame.proofs.Bits.{pow_more}
 use Rattle.occ_norm.specs.Root.{IsRoot}
 use Rattle.occ_verdict.proofs.Overlay.{does_over, over}
+
+same_truth : (a b : Bool) → (a ≡ true → b ≡ true) → (b ≡ true → a ≡ true) → a ≡ b
+same_truth true b f g = sym (f refl)
+same_truth false true f g = g refl
+same_truth false false f g = refl
+
+-- the state has 0 where the layout has no variable
+zero_off : (entries : List (Name × Width × ℕ)) (x y : ℕ) → entry_of entries y ≡ None → state_of entries x y ≡ 0
+zero_off [] x y e = refl
+zero_off ((n, v, g) ∷ entries) x y e = ⊎_elim
+    (λ (t : (y == n.0) ≡ true). absurd (clash (v, g) (sym (ap (λ b. cond b (Some (v, g)) (entry_of entries y)) t) ∙ e)))
+    (λ (t : (y == n.0) ≡ false). ap (λ b. cond b (x / 2 ^ g % 2 ^ bits_of v) (state_of entries x y)) t ∙ zero_off entries x y (sym (ap (λ b. cond b (Some (v, g)) (entry_of entries y)) t) ∙ e))
+    (cases_Bool (y == n.0))
+  where
+    clash : (p : Width × ℕ) → Some p ≡ None → ⊥
+    clash p q = cc
 
 -- ---- states as lists and as values
 values_state : (layout : List (Name × Width × ℕ)) (x : ℕ) → values (values_at layout x) ≡ state_of layout x
@@ -90,7 +108,7 @@ module _ (w : World) (params : List (Name × Kind)) (scope : scope_kept params �
   low_state x = state_below params (laid_out 0 params) (bits_of_scope params) frame x (x % 2 ^ bits_of_scope params) (low x)
 
   low_lt : (x : ℕ) → x % 2 ^ bits_of_scope params < 2 ^ 64
-  low_lt x = Rattle.occ_frame.proofs.Bits.pow_more (bits_of_scope params) 64 (x % 2 ^ bits_of_scope params) (omega (arith, few)) (mod-lt x (pow_pos (bits_of_scope params)))
+  low_lt x = pow_more (bits_of_scope params) 64 (x % 2 ^ bits_of_scope params) (omega (arith, few)) (mod-lt x (pow_pos (bits_of_scope params)))
 
   -- the values of a state, and 0 elsewhere, are those of an assignment
   value_there : (s : Values) → IsState (environment params) s → (y : ℕ) (o : Option (Width × ℕ)) → entry_of (laid_out 0 params) y ≡ o
@@ -108,8 +126,8 @@ module _ (w : World) (params : List (Name × Kind)) (scope : scope_kept params �
   assignment_lt : (s : Values) → IsState (environment params) s → assignment_of (laid_out 0 params) s < 2 ^ 64
   assignment_lt s state =
       let all = are_states (laid_out 0 params) (layout_of params scope (omega (arith, few))) in
-      Rattle.occ_frame.proofs.Bits.pow_more (bits_of_scope (scope_in (laid_out 0 params))) 64 (assignment_of (laid_out 0 params) s)
-      (subst (λ m. m ≤ 64) (sym (Rattle.occ_bits.proofs.Laid.laid_bits 0 params)) (omega (arith, few))) (all.small s (λ z u h. state z u (widths z ∙ h)))
+      pow_more (bits_of_scope (scope_in (laid_out 0 params))) 64 (assignment_of (laid_out 0 params) s)
+      (subst (λ m. m ≤ 64) (sym (laid_bits 0 params)) (omega (arith, few))) (all.small s (λ z u h. state z u (widths z ∙ h)))
 
   put_back : (s : Values) → over (environment params) s (over (environment params) (λ z. 0) s) ≡ s
   put_back s = fun_ext (λ y. at (is_some (variable_width (environment params) y)) (s y))
@@ -233,7 +251,7 @@ module _ (w : World) (params : List (Name × Kind)) (scope : scope_kept params �
 
   pub belongs : (b : Behaviour) (side : Side) → BelongsToOne w (record { params = params; states = one }) (record { params = params; states = two }) b side → IsRight params p q (Differ b side)
   belongs b First k =
-      let h : k.start < 2 ^ 64 = Rattle.occ_frame.proofs.Bits.pow_more (bits_of_scope params) 64 k.start (omega (arith, few)) k.begins.within in
+      let h : k.start < 2 ^ 64 = pow_more (bits_of_scope params) 64 k.start (omega (arith, few)) k.begins.within in
       record {
         member = record {
           state = ap (is_state params) k.begins.state ∙ listed_fits 0 params k.start;
@@ -242,7 +260,7 @@ module _ (w : World) (params : List (Name × Kind)) (scope : scope_kept params �
         no_member = λ m. k.no_member (stands_in w params scope few q hq two second b k.start k.second h k.begins.state k.begins.second b.last (placed_last k.first b.trace b.last k.member) m.stands);
       }
   belongs b Second k =
-      let h : k.start < 2 ^ 64 = Rattle.occ_frame.proofs.Bits.pow_more (bits_of_scope params) 64 k.start (omega (arith, few)) k.begins.within in
+      let h : k.start < 2 ^ 64 = pow_more (bits_of_scope params) 64 k.start (omega (arith, few)) k.begins.within in
       record {
         member = record {
           state = ap (is_state params) k.begins.state ∙ listed_fits 0 params k.start;
