@@ -1,12 +1,11 @@
 -- What a map has of a part and what follows it, as the world grows, and the states that a part reaches.
-use Rattle.std.proofs.Common.{◌≡◌, ◌<◌, ◌≤◌, ◌+◌, ◌/◌, ◌%◌, ◌^◌, ◌==◌, ◌⊎◌, ◌++◌, ℕ, Bool, true, false, cond, min, inl, inr, ⊎_elim, List, [], ◌∷◌, Option, Some, None, refl, sym, ap, ◌∙◌, subst, arith}
-use Rattle.std.specs.Prelude.{◌↔◌}
+use Rattle.std.proofs.Common.{◌≡◌, ◌<◌, ◌≤◌, ◌+◌, ◌/◌, ◌%◌, ◌^◌, ◌==◌, ℕ, Bool, true, false, cond, min, inl, inr, ⊎_elim, List, [], ◌∷◌, Option, Some, None, refl, sym, ap, ◌∙◌, subst, arith}
 use Rattle.std.specs.Int.{bit_at}
-use Rattle.std.specs.Int.Bits.{bit_and, bit_xor, and_lt}
+use Rattle.std.specs.Int.Bits.{bit_xor}
 use Rattle.std.proofs.Math.Nat.{mod-lt}
 use Rattle.std.proofs.lemmas.Nat.{pow_pos}
 use Rattle.std.proofs.lemmas.Option.{same_Some}
-use Rattle.std.proofs.lemmas.Bool.{cases_Bool, cases_lt, eq-eqb}
+use Rattle.std.proofs.lemmas.Bool.{cases_Bool, cases_lt}
 use Rattle.std.proofs.lemmas.Nat.Bits.{bit_at_and, bit_at_xor, bit_at_above, same_from_bits, same_from_bits_below}
 use Rattle.occ_base.specs.declared.event.Event.{Event}
 use Rattle.occ_base.specs.declared.names.Name.{Name}
@@ -21,25 +20,24 @@ use Rattle.occ_syntax.specs.Tree.{Tree}
 use Rattle.occ_syntax.specs.Types.{types_kept}
 use Rattle.occ_laws.proofs.Frame.{part_value, written_in_scope}
 use Rattle.occ_laws.proofs.States.{part_states}
-use Rattle.occ_bits.specs.Layout.{IsLayout, assignment_of, entry_of, environment_in, laid_out, scope_in, state_of}
+use Rattle.occ_bits.specs.Layout.{assignment_of, entry_of, environment_in, laid_out, scope_in, state_of}
 use Rattle.occ_bits.proofs.Arithmetic.{low_bit, higher_bit}
 use Rattle.occ_bits.proofs.Laid.{found_width, laid_bits, missing}
 use Rattle.occ_bits.proofs.States.{are_states, state_fits}
 use Rattle.occ_mdd.specs.Maps.{value}
 use Rattle.occ_mdd.specs.declared.map.MapId.{MapId}
-use Rattle.occ_node.specs.World.{Grows, IsNode, fails, ends}
+use Rattle.occ_node.specs.World.{IsNode, fails, ends}
 use Rattle.occ_node.specs.declared.node.NodeId.{NodeId}
 use Rattle.occ_node.specs.declared.world.World.{World}
 use Rattle.occ_node.proofs.Recovery.{canonical}
 use Rattle.occ_follow.specs.Sequence.{HasNodes}
-use Rattle.occ_weave.specs.Weave.{is_silent_on, off_channels}
+use Rattle.occ_weave.specs.Weave.{off_channels}
 use Rattle.occ_lift.specs.Growth.{turned_grow}
 use Rattle.occ_lift.specs.Maps.{Extends}
 use Rattle.occ_lift.proofs.Worlds.{has_nodes-extends}
 use Rattle.occ_frame.specs.After.{AgreeBelow, IsAfter, IsOver, QuietlyFails, Resumes, change_of}
-use Rattle.occ_frame.specs.Changes.{AgreeOutside, IsChanged, IsFreed, Somewhere}
+use Rattle.occ_frame.specs.Changes.{IsChanged, IsFreed, Somewhere}
 use Rattle.occ_frame.specs.Placed.{IsAround, IsFrame}
-use Rattle.occ_frame.proofs.Bits.{pow_more}
 use Rattle.occ_frame.proofs.Placing.{frame_layout, width_here}
 
 -- a node that a map has at an assignment
@@ -68,7 +66,10 @@ module _ (v w : World) (k : Extends v w) where
 
   somewhere_later : (m : MapId) → HasNodes v m → (first end x : ℕ) (F G : NodeId → Bool) → ((n : NodeId) → IsNode v n → G n ≡ F n) → Somewhere v m first end x F → Somewhere w m first end x G
   somewhere_later m has first end x F G alike s = record {
-    y = s.y; m = s.m; below = s.below; agree = s.agree;
+    y = s.y;
+    m = s.m;
+    below = s.below;
+    agree = s.agree;
     leads = value_is m has s.y (Some s.m) s.leads;
     behaved = alike s.m (map_node v m has s.y s.below s.m s.leads) ∙ s.behaved;
   }
@@ -83,25 +84,30 @@ module _ (v w : World) (k : Extends v w) where
     freed_fails = λ x a h e t X.
         let was = value_was r hr x (Some a) e in
         let same_at = k.grows.same_fails a t X (map_node v r hr x h a was) in
-        let alike : (n : NodeId) → IsNode v n → fails w n t X ≡ fails v n t X = λ n l. k.grows.same_fails n t X l in
-        (
-        λ b. somewhere_later m hm first end x (λ n. fails v n t X) (λ n. fails w n t X) alike ((is.freed_fails x a h was t X).0 (sym same_at ∙ b)),
-        λ s. same_at ∙ (is.freed_fails x a h was t X).1 (somewhere_before m hm first end x (λ n. fails v n t X) (λ n. fails w n t X) alike s),
+        let alike : (n : NodeId) → IsNode v n → fails w n t X ≡ fails v n t X = λ n l. k.grows.same_fails n t X l in (
+          λ b. somewhere_later m hm first end x (λ n. fails v n t X) (λ n. fails w n t X) alike ((is.freed_fails x a h was t X).0 (sym same_at ∙ b)),
+          λ s. same_at ∙ (is.freed_fails x a h was t X).1 (somewhere_before m hm first end x (λ n. fails v n t X) (λ n. fails w n t X) alike s),
         );
     freed_ends = λ x a h e t z b.
         let was = value_was r hr x (Some a) e in
         let same_at = k.grows.same_ends a t z (map_node v r hr x h a was) in
-        let alike : (n : NodeId) → IsNode v n → ends w n t z ≡ ends v n t z = λ n l. k.grows.same_ends n t z l in
-        (
-        λ c. somewhere_later m hm first end x (λ n. ends v n t z) (λ n. ends w n t z) alike ((is.freed_ends x a h was t z b).0 (sym same_at ∙ c)),
-        λ s. same_at ∙ (is.freed_ends x a h was t z b).1 (somewhere_before m hm first end x (λ n. ends v n t z) (λ n. ends w n t z) alike s),
+        let alike : (n : NodeId) → IsNode v n → ends w n t z ≡ ends v n t z = λ n l. k.grows.same_ends n t z l in (
+          λ c. somewhere_later m hm first end x (λ n. ends v n t z) (λ n. ends w n t z) alike ((is.freed_ends x a h was t z b).0 (sym same_at ∙ c)),
+          λ s. same_at ∙ (is.freed_ends x a h was t z b).1 (somewhere_before m hm first end x (λ n. ends v n t z) (λ n. ends w n t z) alike s),
         );
   }
 
   module _ (layout : List (Name × Width × ℕ)) (closed : List Name) (Γ : Environment) (p : Tree) (rest : MapId) (has : HasNodes v rest) (x : ℕ) where
     resumes_later : (F G : ℕ → NodeId → List Event → Bool) → ((y : ℕ) (m : NodeId) (u : List Event) → IsNode v m → G y m u ≡ F y m u) → (t : List Event) → Resumes v layout closed Γ p rest x F t → Resumes w layout closed Γ p rest x G t
     resumes_later F G alike t s = record {
-      t1 = s.t1; t2 = s.t2; y = s.y; m = s.m; whole = s.whole; below = s.below; silent = s.silent; ended = s.ended;
+      t1 = s.t1;
+      t2 = s.t2;
+      y = s.y;
+      m = s.m;
+      whole = s.whole;
+      below = s.below;
+      silent = s.silent;
+      ended = s.ended;
       leads = value_is rest has s.y (Some s.m) s.leads;
       behaved = alike s.y s.m s.t2 (map_node v rest has s.y s.below s.m s.leads) ∙ s.behaved;
     }
@@ -110,7 +116,14 @@ module _ (v w : World) (k : Extends v w) where
     resumes_before F G alike t s =
         let led : value v.maps rest s.y ≡ Some s.m = value_was rest has s.y (Some s.m) s.leads in
         record {
-          t1 = s.t1; t2 = s.t2; y = s.y; m = s.m; whole = s.whole; below = s.below; silent = s.silent; ended = s.ended;
+          t1 = s.t1;
+          t2 = s.t2;
+          y = s.y;
+          m = s.m;
+          whole = s.whole;
+          below = s.below;
+          silent = s.silent;
+          ended = s.ended;
           leads = led;
           behaved = sym (alike s.y s.m s.t2 (map_node v rest has s.y s.below s.m led)) ∙ s.behaved;
         }
@@ -123,20 +136,18 @@ module _ (v w : World) (k : Extends v w) where
         let same_at = k.grows.same_fails a t X (map_node v r hr x h a was) in
         let F : ℕ → NodeId → List Event → Bool = λ y m u. fails v m u X in
         let G : ℕ → NodeId → List Event → Bool = λ y m u. fails w m u X in
-        let alike : (y : ℕ) (m : NodeId) (u : List Event) → IsNode v m → G y m u ≡ F y m u = λ y m u l. k.grows.same_fails m u X l in
-        (
-        λ b. ⊎_elim (λ (q : QuietlyFails layout closed Γ p x t X). inl q) (λ (s : Resumes v layout closed Γ p rest x F t). inr (resumes_later layout closed Γ p rest has x F G alike t s)) ((is.after_fails x a h was t X).0 (sym same_at ∙ b)),
-        λ s. same_at ∙ (is.after_fails x a h was t X).1 (⊎_elim (λ (q : QuietlyFails layout closed Γ p x t X). inl q) (λ (z : Resumes w layout closed Γ p rest x G t). inr (resumes_before layout closed Γ p rest has x F G alike t z)) s),
+        let alike : (y : ℕ) (m : NodeId) (u : List Event) → IsNode v m → G y m u ≡ F y m u = λ y m u l. k.grows.same_fails m u X l in (
+          λ b. ⊎_elim (λ (q : QuietlyFails layout closed Γ p x t X). inl q) (λ (s : Resumes v layout closed Γ p rest x F t). inr (resumes_later layout closed Γ p rest has x F G alike t s)) ((is.after_fails x a h was t X).0 (sym same_at ∙ b)),
+          λ s. same_at ∙ (is.after_fails x a h was t X).1 (⊎_elim (λ (q : QuietlyFails layout closed Γ p x t X). inl q) (λ (z : Resumes w layout closed Γ p rest x G t). inr (resumes_before layout closed Γ p rest has x F G alike t z)) s),
         );
     after_ends = λ x a h e t z b.
         let was = value_was r hr x (Some a) e in
         let same_at = k.grows.same_ends a t z (map_node v r hr x h a was) in
         let F : ℕ → NodeId → List Event → Bool = λ y m u. ends v m u (bit_xor z (change_of keep x y)) in
         let G : ℕ → NodeId → List Event → Bool = λ y m u. ends w m u (bit_xor z (change_of keep x y)) in
-        let alike : (y : ℕ) (m : NodeId) (u : List Event) → IsNode v m → G y m u ≡ F y m u = λ y m u l. k.grows.same_ends m u (bit_xor z (change_of keep x y)) l in
-        (
-        λ c. resumes_later layout closed Γ p rest has x F G alike t ((is.after_ends x a h was t z b).0 (sym same_at ∙ c)),
-        λ s. same_at ∙ (is.after_ends x a h was t z b).1 (resumes_before layout closed Γ p rest has x F G alike t s),
+        let alike : (y : ℕ) (m : NodeId) (u : List Event) → IsNode v m → G y m u ≡ F y m u = λ y m u l. k.grows.same_ends m u (bit_xor z (change_of keep x y)) l in (
+          λ c. resumes_later layout closed Γ p rest has x F G alike t ((is.after_ends x a h was t z b).0 (sym same_at ∙ c)),
+          λ s. same_at ∙ (is.after_ends x a h was t z b).1 (resumes_before layout closed Γ p rest has x F G alike t s),
         );
   }
 
@@ -154,7 +165,7 @@ laid_below a ((name, Var w) ∷ vars) n x y h agree =
 laid_below a ((name, Chan w d) ∷ vars) n x y h agree = laid_below a vars n x y (omega arith) agree
 
 -- the state has 0 where the layout has no variable
-zero_off : (entries : List (Name × Width × ℕ)) (x y : ℕ) → entry_of entries y ≡ None → state_of entries x y ≡ 0
+pub zero_off : (entries : List (Name × Width × ℕ)) (x y : ℕ) → entry_of entries y ≡ None → state_of entries x y ≡ 0
 zero_off [] x y e = refl
 zero_off ((n, v, g) ∷ entries) x y e = ⊎_elim
     (λ (t : (y == n.0) ≡ true). absurd (clash (v, g) (sym (ap (λ b. cond b (Some (v, g)) (entry_of entries y)) t) ∙ e)))
@@ -207,8 +218,9 @@ module _ (vars : List (Name × Kind)) (layout : List (Name × Width × ℕ)) (n 
         let all = are_states layout (frame_layout vars layout n f) in
         let a = assignment_of layout s' in
         (a, subst (λ m. a < 2 ^ m) scope_bits (all.small s' state), λ i z. value_there x t s' d state z (entry_of layout z) refl i)
+
 -- ---- what a part and then a map has depends on the bits that are laid out
-change_below : (keep n x y z : ℕ) → keep < 2 ^ n → AgreeBelow n x y → change_of keep x z ≡ change_of keep y z
+pub change_below : (keep n x y z : ℕ) → keep < 2 ^ n → AgreeBelow n x y → change_of keep x z ≡ change_of keep y z
 change_below keep n x y z h agree = same_from_bits (change_of keep x z) (change_of keep y z) each
   where
     each : (i : ℕ) → bit_at (change_of keep x z) i ≡ bit_at (change_of keep y z) i
@@ -220,7 +232,7 @@ change_below keep n x y z h agree = same_from_bits (change_of keep x z) (change_
         none_of : (a b : ℕ) → min a 0 ≡ min b 0
         none_of a b = omega arith
 
-same_truth : (a b : Bool) → (a ≡ true → b ≡ true) → (b ≡ true → a ≡ true) → a ≡ b
+pub same_truth : (a b : Bool) → (a ≡ true → b ≡ true) → (b ≡ true → a ≡ true) → a ≡ b
 same_truth true b f g = sym (f refl)
 same_truth false true f g = g refl
 same_truth false false f g = refl
@@ -231,7 +243,13 @@ module _ (w : World) (vars : List (Name × Kind)) (layout : List (Name × Width 
 
   resumes_alike : (x y : ℕ) → AgreeBelow n x y → (F G : ℕ → NodeId → List Event → Bool) → ((z : ℕ) (m : NodeId) (u : List Event) → F z m u ≡ G z m u) → (t : List Event) → Resumes w layout closed Γ p rest x F t → Resumes w layout closed Γ p rest y G t
   resumes_alike x y agree F G alike t s = record {
-    t1 = s.t1; t2 = s.t2; y = s.y; m = s.m; whole = s.whole; below = s.below; silent = s.silent;
+    t1 = s.t1;
+    t2 = s.t2;
+    y = s.y;
+    m = s.m;
+    whole = s.whole;
+    below = s.below;
+    silent = s.silent;
     ended = subst (λ u. part_ends Γ p u s.t1 (state_of layout s.y)) (state_below vars layout n frame x y agree) s.ended;
     leads = s.leads;
     behaved = sym (alike s.y s.m s.t2) ∙ s.behaved;

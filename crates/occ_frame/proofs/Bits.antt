@@ -1,15 +1,15 @@
 -- Bits in a row, and the assignments that differ from another in some bits.
-use Rattle.std.proofs.Common.{◌≡◌, ◌≢◌, ◌<◌, ◌≤◌, ◌+◌, ◌-◌, ◌*◌, ◌/◌, ◌%◌, ◌^◌, ◌==◌, ◌&&◌, ◌||◌, ◌⊎◌, ℕ, List, [], ◌∷◌, not, Bool, true, false, cond, max, min, inl, inr, ⊎_elim, refl, sym, ap, ◌∙◌, subst, arith, w64, nat_lt}
+use Rattle.std.proofs.Common.{◌≡◌, ◌<◌, ◌≤◌, ◌+◌, ◌*◌, ◌/◌, ◌%◌, ◌^◌, ◌==◌, ◌&&◌, ◌||◌, ◌⊎◌, ℕ, List, [], ◌∷◌, not, Bool, true, false, cond, inl, inr, ⊎_elim, refl, sym, ap, ◌∙◌, subst, arith, w64, nat_lt}
 use Rattle.std.specs.Prelude.{nat_le, if◌then◌else◌}
 use Rattle.std.specs.Int.{bit_at}
-use Rattle.std.specs.Int.Bits.{bit_and, bit_or, bit_xor}
+use Rattle.std.specs.Int.Bits.{bit_and, bit_or}
 use Rattle.std.proofs.lemmas.Bool.{and_from, and_left, and_right, cases_Bool, cases_eq, cases_lt, eq-eqb, eqb-true, eqb-false, ne_eqb, lt-ltb, le-ltb, le-leb, lt-leb}
 use Rattle.std.proofs.lemmas.Nat.{one_shl, or_lt, pow_below}
-use Rattle.std.proofs.lemmas.Nat.Bits.{bit_at-lt, bit_at-zero, bit_at_and, bit_at_above, bit_at_set_same, bit_at_set_other, bit_at_xor, same_from_bits_below, shr_and_one}
+use Rattle.std.proofs.lemmas.Nat.Bits.{bit_at-lt, bit_at-zero, bit_at_set_same, bit_at_set_other, same_from_bits_below, shr_and_one}
 use Rattle.std.specs.List.{list_all, list_any}
 use Rattle.occ_base.specs.declared.names.Name.{Name}
-use Rattle.occ_diagram.specs.Assignment.{turned, with_bit}
-use Rattle.occ_diagram.proofs.Bits.{bit_at-turned_other, bit_at-turned_same, bit_at-with_bit_other, bit_at-with_bit_same, bit_cases, turned_lt, with_bit_lt}
+use Rattle.occ_diagram.specs.Assignment.{with_bit}
+use Rattle.occ_diagram.proofs.Bits.{bit_at-with_bit_other, bit_at-with_bit_same, bit_cases, with_bit_lt}
 use Rattle.occ_frame.specs.Changes.{AgreeOutside}
 
 -- ---- numbers of few bits
@@ -50,16 +50,16 @@ row_more first digit bits k h is = ⊎_elim
     (λ (l : k < first + digit).
     bit_at_set_other w64 bits (first + digit) h k (λ e. omega arith) ∙ is
     ∙ ⊎_elim
-        (λ (b : k < first). row_below first (first + digit) k b ∙ sym (row_below first (first + (digit + 1)) k b))
-        (λ (b : first ≤ k). row_in first (first + digit) k b l ∙ sym (row_in first (first + (digit + 1)) k b (omega arith)))
-        (cases_lt k first))
+    (λ (b : k < first). row_below first (first + digit) k b ∙ sym (row_below first (first + (digit + 1)) k b))
+    (λ (b : first ≤ k). row_in first (first + digit) k b l ∙ sym (row_in first (first + (digit + 1)) k b (omega arith)))
+    (cases_lt k first))
     (λ (l : first + digit ≤ k). ⊎_elim
-        (λ (m : k < first + (digit + 1)).
-        let e : first + digit ≡ k = omega arith in
-        subst (λ j. bit_at (bit_or bits (1 * 2 ^ (first + digit) % 2 ^ 64)) j ≡ 1) e (bit_at_set_same w64 bits (first + digit) h) ∙ sym (row_in first (first + (digit + 1)) k (omega arith) m))
-        (λ (m : first + (digit + 1) ≤ k).
-        bit_at_set_other w64 bits (first + digit) h k (λ e. omega arith) ∙ is ∙ row_above first (first + digit) k l ∙ sym (row_above first (first + (digit + 1)) k m))
-        (cases_lt k (first + (digit + 1))))
+    (λ (m : k < first + (digit + 1)).
+    let e : first + digit ≡ k = omega arith in
+    subst (λ j. bit_at (bit_or bits (1 * 2 ^ (first + digit) % 2 ^ 64)) j ≡ 1) e (bit_at_set_same w64 bits (first + digit) h) ∙ sym (row_in first (first + (digit + 1)) k (omega arith) m))
+    (λ (m : first + (digit + 1) ≤ k).
+    bit_at_set_other w64 bits (first + digit) h k (λ e. omega arith) ∙ is ∙ row_above first (first + digit) k l ∙ sym (row_above first (first + (digit + 1)) k m))
+    (cases_lt k (first + (digit + 1))))
     (cases_lt k (first + digit))
 
 pub test_of : (bits bit : ℕ) → (bit_and (bits / 2 ^ bit) 1 == 1) ≡ (bit_at bits bit == 1)

@@ -1,33 +1,29 @@
 -- Maps whose final states are turned, and maps of all values of some bits.
-use Rattle.std.proofs.Common.{◌≡◌, ◌<◌, ◌≤◌, ◌+◌, ◌-◌, ◌*◌, ◌%◌, ◌^◌, ◌==◌, ◌||◌, ◌⊎◌, ℕ, zero, suc, max, Bool, true, false, not, cond, min, inl, inr, ⊎_elim, List, Option, Some, None, refl, sym, ap, ◌∙◌, subst, arith, w64}
+use Rattle.std.proofs.Common.{◌≡◌, ◌<◌, ◌≤◌, ◌+◌, ◌-◌, ◌*◌, ◌%◌, ◌^◌, ◌==◌, ◌||◌, ℕ, zero, suc, max, Bool, true, false, cond, min, ⊎_elim, Option, Some, None, refl, sym, ap, ◌∙◌, subst, arith, w64}
 use Rattle.std.specs.Prelude.{◌↔◌}
 use Rattle.std.specs.Int.{bit_at}
 use Rattle.std.specs.Int.Bits.{bit_and, bit_or, bit_xor, xor_zero_r}
-use Rattle.std.specs.Option.{IfSome}
 use Rattle.std.proofs.Math.Nat.{mod-eq_of_lt, one-mul, zero-mul}
 use Rattle.std.proofs.lemmas.Option.{same_Some}
 use Rattle.std.proofs.lemmas.Bool.{cases_Bool, cases_lt, or_cases, cond_both, or_left, or_right}
-use Rattle.std.proofs.lemmas.Nat.{and_le_l, and_le_r, and_mask, one_shl, or_lt, pow_below, pow_pos, xor_lt}
-use Rattle.std.proofs.lemmas.Nat.Bits.{and_pow as and_one_bit, bit_at-lt, bit_at-pow_other, bit_at-pow_same, bit_at-zero, bit_at_and, bit_at_above, bit_at_ones, bit_at_ones_above, bit_at_set_same, bit_at_or, bit_at_xor, same_from_bits}
-use Rattle.std.proofs.lemmas.Bool.{cases_eq}
-use Rattle.occ_base.specs.declared.event.Event.{Event}
+use Rattle.std.proofs.lemmas.Nat.{and_le_l, and_le_r, and_mask, or_lt, pow_pos, xor_lt}
+use Rattle.std.proofs.lemmas.Nat.Bits.{and_pow as and_one_bit, bit_at-lt, bit_at-pow_other, bit_at-pow_same, bit_at_and, bit_at_ones, bit_at_ones_above, bit_at_set_same, bit_at_or, bit_at_xor, same_from_bits}
 use Rattle.occ_diagram.specs.Assignment.{turned, with_bit}
-use Rattle.occ_diagram.proofs.Bits.{bit_cases, one_is, turned_lt, with_bit_lt, zero_is}
-use Rattle.occ_dd.specs.Store.{IsKnown as IsSetKnown, IsSet, has}
+use Rattle.occ_diagram.proofs.Bits.{one_is, with_bit_lt, zero_is}
+use Rattle.occ_dd.specs.Store.{IsKnown as IsSetKnown, has}
 use Rattle.occ_dd.specs.declared.set.SetId.{SetId}
 use Rattle.occ_mdd.specs.Maps.{IsMap, value}
 use Rattle.occ_mdd.specs.declared.map.MapId.{MapId}
 use Rattle.occ_node.specs.World.{IsNode, fails, ends}
 use Rattle.occ_node.specs.declared.node.NodeId.{NodeId}
 use Rattle.occ_node.specs.declared.world.World.{World}
-
 use Rattle.occ_follow.specs.Sequence.{HasNodes}
 use Rattle.occ_lift.specs.Growth.{turned_grow}
 use Rattle.occ_lift.specs.Lifted.{IsEither, IsTurned, OnOne}
-use Rattle.occ_lift.specs.Maps.{Extends, Lifts, digit}
+use Rattle.occ_lift.specs.Maps.{Extends, Lifts}
 use Rattle.occ_lift.proofs.Worlds.{extends_trans, has_nodes-extends}
-use Rattle.occ_frame.specs.Changes.{AgreeOutside, IsChanged, IsFreed, IsSupport, Somewhere}
-use Rattle.occ_frame.proofs.After.{changed-extends, freed-extends, map_node, value_is, value_was}
+use Rattle.occ_frame.specs.Changes.{IsChanged, IsFreed, IsSupport, Somewhere}
+use Rattle.occ_frame.proofs.After.{changed-extends, freed-extends, map_node, value_was}
 use Rattle.occ_frame.proofs.Bits.{agree_far, agree_same, agree_wider, agree_with, one_of_two, pow_more, set_below}
 
 -- ---- bits of final states turned
@@ -95,12 +91,12 @@ changed_on v u w set bit change m turn r size k l known hm ht lifts made = recor
         let alike : has u.store set x ≡ has v.store set x = k.grows.stored.same set x known in
         ⊎_elim
         (λ (t : has v.store set x ≡ true).
-            let there : value u.maps turn x ≡ Some b = sym (ap (λ c. cond c (value u.maps turn x) (value u.maps m x)) (alike ∙ t)) ∙ picked in
-            subst (λ c. IsTurned w c a b) (size ∙ sym (ap (λ c. cond c (2 ^ bit) 0) t)) (turned_grow u w l.grows change a b (at_one x (value u.maps m x) (value u.maps turn x) a b (lifts.related x h) was there)))
+        let there : value u.maps turn x ≡ Some b = sym (ap (λ c. cond c (value u.maps turn x) (value u.maps m x)) (alike ∙ t)) ∙ picked in
+        subst (λ c. IsTurned w c a b) (size ∙ sym (ap (λ c. cond c (2 ^ bit) 0) t)) (turned_grow u w l.grows change a b (at_one x (value u.maps m x) (value u.maps turn x) a b (lifts.related x h) was there)))
         (λ (t : has v.store set x ≡ false).
-            let there : value u.maps m x ≡ Some b = sym (ap (λ c. cond c (value u.maps turn x) (value u.maps m x)) (alike ∙ t)) ∙ picked in
-            let one : a ≡ b = same_Some a b (sym was ∙ there) in
-            subst (λ c. IsTurned w c a b) (sym (ap (λ c. cond c (2 ^ bit) 0) t)) (subst (λ c. IsTurned w 0 a c) one (turned_none w a (map_node w m hw x h a e))))
+        let there : value u.maps m x ≡ Some b = sym (ap (λ c. cond c (value u.maps turn x) (value u.maps m x)) (alike ∙ t)) ∙ picked in
+        let one : a ≡ b = same_Some a b (sym was ∙ there) in
+        subst (λ c. IsTurned w c a b) (sym (ap (λ c. cond c (2 ^ bit) 0) t)) (subst (λ c. IsTurned w 0 a c) one (turned_none w a (map_node w m hw x h a e))))
         (cases_Bool (has v.store set x))
 
 -- ---- where one of some bits is 1
@@ -130,18 +126,21 @@ more_change x bits k = same_from_bits _ _ (λ i.
   where
     three : (m i : ℕ) → bit_at (bit_and x (bit_and bits m)) i ≡ min (bit_at x i) (min (bit_at bits i) (bit_at m i))
     three m i = bit_at_and x (bit_and bits m) i ∙ ap (min (bit_at x i)) (bit_at_and bits m i)
+
     sums : (a b m p q : ℕ) → a < 2 → b < 2 → m + p ≡ q → q < 2 → (min a (min b m) + min a (min b p)) % 2 ≡ min a (min b q)
     sums a b m p q h l e f = omega arith
+
     parts : (i : ℕ) → bit_at (2 ^ k - 1) i + bit_at (2 ^ k) i ≡ bit_at (2 ^ (k + 1) - 1) i
     parts i = ⊎_elim
         (λ (l : i < k). (λ j. bit_at_ones k i l j + bit_at-pow_other k i (λ e. omega arith) j) ∙ sym (bit_at_ones (k + 1) i (omega arith)))
         (λ (l : k ≤ i). ⊎_elim
-            (λ (b : i < k + 1).
-            let e : k ≡ i = omega arith in
-            (λ j. bit_at_ones_above k i l j + (ap (bit_at (2 ^ k)) (sym e) ∙ bit_at-pow_same k) j) ∙ sym (bit_at_ones (k + 1) i b))
-            (λ (b : k + 1 ≤ i). (λ j. bit_at_ones_above k i l j + bit_at-pow_other k i (λ e. omega arith) j) ∙ sym (bit_at_ones_above (k + 1) i b))
-            (cases_lt i (k + 1)))
+        (λ (b : i < k + 1).
+        let e : k ≡ i = omega arith in
+        (λ j. bit_at_ones_above k i l j + (ap (bit_at (2 ^ k)) (sym e) ∙ bit_at-pow_same k) j) ∙ sym (bit_at_ones (k + 1) i b))
+        (λ (b : k + 1 ≤ i). (λ j. bit_at_ones_above k i l j + bit_at-pow_other k i (λ e. omega arith) j) ∙ sym (bit_at_ones_above (k + 1) i b))
+        (cases_lt i (k + 1)))
         (cases_lt i k)
+
     place : (i : ℕ) → (min (bit_at x i) (min (bit_at bits i) (bit_at (2 ^ k - 1) i)) + min (bit_at x i) (min (bit_at bits i) (bit_at (2 ^ k) i))) % 2 ≡ min (bit_at x i) (min (bit_at bits i) (bit_at (2 ^ (k + 1) - 1) i))
     place i = sums (bit_at x i) (bit_at bits i) (bit_at (2 ^ k - 1) i) (bit_at (2 ^ k) i) (bit_at (2 ^ (k + 1) - 1) i) (bit_at-lt x i) (bit_at-lt bits i) (parts i) (bit_at-lt (2 ^ (k + 1) - 1) i)
 
@@ -189,6 +188,7 @@ freed_still w m bit few has still = record {
   where
     made : (x v : ℕ) → value w.maps m (with_bit x bit v) ≡ value w.maps m x
     made x v = cond_both (bit_at x bit == v) x (turned x bit) (λ y. value w.maps m y ≡ value w.maps m x) (λ e. refl) (λ e. still x)
+
     each : (F : NodeId → Bool) (x : ℕ) (a : NodeId) → x < 2 ^ 64 → value w.maps m x ≡ Some a → (F a ≡ true) ↔ Somewhere w m bit (bit + 1) x F
     each F x a h e = (
       λ b. somewhere_here w m F bit (bit + 1) x a h e b,
@@ -214,16 +214,15 @@ module _ (w : World) (m r : MapId) (bit : ℕ) (zeros ones : MapId) (few : bit <
   freed_here : (F : NodeId → Bool) (x : ℕ) (a : NodeId) (h : x < 2 ^ 64) → F a ≡ (F (node_with x 0 h).0 || F (node_with x 1 h).0) → (F a ≡ true) ↔ Somewhere w m bit (bit + 1) x F
   freed_here F x a h both =
       let n0 = node_with x 0 h in
-      let n1 = node_with x 1 h in
-      (
-      λ b. ⊎_elim
-          (λ (c : F n0.0 ≡ true). record { y = with_bit x bit 0; m = n0.0; below = with_bit_lt x bit 0 64 few h; agree = agree_with x bit 0; leads = n0.1; behaved = c })
-          (λ (c : F n1.0 ≡ true). record { y = with_bit x bit 1; m = n1.0; below = with_bit_lt x bit 1 64 few h; agree = agree_with x bit 1; leads = n1.1; behaved = c })
-          (or_cases (F n0.0) (F n1.0) (sym both ∙ b)),
-      λ s. both ∙ ⊎_elim
-          (λ (q : s.y ≡ with_bit x bit 0). or_left (F n0.0) (F n1.0) (somewhere_same w m F bit (bit + 1) x n0.0 s (ap (value w.maps m) q ∙ n0.1)))
-          (λ (q : s.y ≡ with_bit x bit 1). or_right (F n0.0) (F n1.0) (somewhere_same w m F bit (bit + 1) x n1.0 s (ap (value w.maps m) q ∙ n1.1)))
-          (one_of_two x s.y bit few h s.below s.agree),
+      let n1 = node_with x 1 h in (
+        λ b. ⊎_elim
+            (λ (c : F n0.0 ≡ true). record { y = with_bit x bit 0; m = n0.0; below = with_bit_lt x bit 0 64 few h; agree = agree_with x bit 0; leads = n0.1; behaved = c })
+            (λ (c : F n1.0 ≡ true). record { y = with_bit x bit 1; m = n1.0; below = with_bit_lt x bit 1 64 few h; agree = agree_with x bit 1; leads = n1.1; behaved = c })
+            (or_cases (F n0.0) (F n1.0) (sym both ∙ b)),
+        λ s. both ∙ ⊎_elim
+            (λ (q : s.y ≡ with_bit x bit 0). or_left (F n0.0) (F n1.0) (somewhere_same w m F bit (bit + 1) x n0.0 s (ap (value w.maps m) q ∙ n0.1)))
+            (λ (q : s.y ≡ with_bit x bit 1). or_right (F n0.0) (F n1.0) (somewhere_same w m F bit (bit + 1) x n1.0 s (ap (value w.maps m) q ∙ n1.1)))
+            (one_of_two x s.y bit few h s.below s.agree),
       )
 
   pub freed_both : IsFreed w bit (bit + 1) m r
@@ -237,13 +236,17 @@ module _ (w : World) (m n r : MapId) (first bit : ℕ) (order : first ≤ bit) (
   freed_further : (F : NodeId → Bool) (x : ℕ) (a : NodeId) → x < 2 ^ 64 → ((F a ≡ true) ↔ Somewhere w n bit (bit + 1) x F)
       → ((y : ℕ) (b : NodeId) → y < 2 ^ 64 → value w.maps n y ≡ Some b → (F b ≡ true) ↔ Somewhere w m first bit y F) → (F a ≡ true) ↔ Somewhere w m first (bit + 1) x F
   freed_further F x a h near far = (
-      λ b. let s = near.0 b in let u = (far s.y s.m s.below s.leads).0 s.behaved in
-          record { y = u.y; m = u.m; below = u.below; agree = agree_wider first bit x s.y u.y order s.agree u.agree; leads = u.leads; behaved = u.behaved },
-      λ s. let y = with_bit x bit (bit_at s.y bit) in let l = with_bit_lt x bit (bit_at s.y bit) 64 few h in let b = has.nodes y l in
-          near.1 (record {
-            y = y; m = b.0; below = l; agree = agree_with x bit (bit_at s.y bit); leads = b.1;
-            behaved = (far y b.0 l b.1).1 (record { y = s.y; m = s.m; below = s.below; agree = agree_far first bit x s.y s.agree; leads = s.leads; behaved = s.behaved });
-          }),
+    λ b. let s = near.0 b in let u = (far s.y s.m s.below s.leads).0 s.behaved in
+        record { y = u.y; m = u.m; below = u.below; agree = agree_wider first bit x s.y u.y order s.agree u.agree; leads = u.leads; behaved = u.behaved },
+    λ s. let y = with_bit x bit (bit_at s.y bit) in let l = with_bit_lt x bit (bit_at s.y bit) 64 few h in let b = has.nodes y l in
+        near.1 (record {
+          y = y;
+          m = b.0;
+          below = l;
+          agree = agree_with x bit (bit_at s.y bit);
+          leads = b.1;
+          behaved = (far y b.0 l b.1).1 (record { y = s.y; m = s.m; below = s.below; agree = agree_far first bit x s.y s.agree; leads = s.leads; behaved = s.behaved });
+        }),
   )
 
   pub freed_more : IsFreed w first bit m n → IsFreed w bit (bit + 1) n r → IsFreed w first (bit + 1) m r
@@ -263,13 +266,17 @@ support_more v w m bits bit matters k has few is still = record { within = below
     below : (b : Bool) → bit_or bits ((cond b 1 0) * 2 ^ bit % 2 ^ 64) < 2 ^ (bit + 1)
     below true = set_below bits bit (bit + 1) (omega arith) (omega arith) (pow_more bit (bit + 1) bits (omega arith) is.within)
     below false = or_lt (bit + 1) bits (0 * 2 ^ bit % 2 ^ 64) (pow_more bit (bit + 1) bits (omega arith) is.within) (subst (λ z. z % 2 ^ 64 < 2 ^ (bit + 1)) (sym (zero-mul (2 ^ bit))) (pow_pos (bit + 1)))
+
     first_zero : (a b : ℕ) → max a b ≡ 0 → a ≡ 0
     first_zero a b e = omega arith
+
     not_set : (b : Bool) → bit_at (bit_or bits ((cond b 1 0) * 2 ^ bit % 2 ^ 64)) bit ≡ 0 → b ≡ false
     not_set true e = let one : bit_at (bit_or bits (1 * 2 ^ bit % 2 ^ 64)) bit ≡ 1 = bit_at_set_same w64 bits bit few in absurd (omega arith)
     not_set false e = refl
+
     same_later : (x : ℕ) → value w.maps m x ≡ value v.maps m x
     same_later x = k.maps.same m x has.known
+
     others : (i : ℕ) → i < bit + 1 → bit_at (bit_or bits ((cond matters 1 0) * 2 ^ bit % 2 ^ 64)) i ≡ 0 → (x : ℕ) → value w.maps m (turned x i) ≡ value w.maps m x
     others i h e x = same_later (turned x i) ∙ ⊎_elim
         (λ (l : i < bit). is.others i l (first_zero (bit_at bits i) (bit_at ((cond matters 1 0) * 2 ^ bit % 2 ^ 64) i) (sym (bit_at_or bits ((cond matters 1 0) * 2 ^ bit % 2 ^ 64) i) ∙ e)) x)

@@ -1,17 +1,14 @@
 -- What is kept while maps are made.
-use Rattle.std.proofs.Common.{◌≡◌, ◌<◌, ◌≤◌, ◌+◌, ◌⊎◌, ◌++◌, ℕ, List, [], ◌∷◌, Option, Some, None, length, get_or, ⊎_elim, refl, sym, ap, ◌∙◌, subst, arith, lit<, ◌^◌}
-use Rattle.std.proofs.lemmas.List.Elements.{All-push}
+use Rattle.std.proofs.Common.{◌≡◌, List, Option, Some, None, get_or, ⊎_elim, sym, ◌∙◌, subst, lit<}
 use Rattle.std.proofs.lemmas.Option.{same_Some}
 use Rattle.std.specs.List.{All}
 use Rattle.occ_diagram.specs.Memo.{Learns, recalled}
 use Rattle.occ_diagram.specs.declared.memo.Call.{Call}
 use Rattle.occ_diagram.specs.declared.memo.Memo.{Memo}
-use Rattle.occ_dd.specs.Store.{IsKnown, Keeps as KeepsSets}
+use Rattle.occ_dd.specs.Store.{IsKnown}
 use Rattle.occ_dd.specs.declared.set.SetId.{SetId}
-use Rattle.occ_dd.specs.declared.store.Store.{Store}
 use Rattle.occ_dd.proofs.Callers.{known-keeps}
 use Rattle.occ_mdd.specs.declared.map.MapId.{MapId}
-use Rattle.occ_node.specs.World.{Grows}
 use Rattle.occ_node.specs.declared.world.World.{World}
 use Rattle.occ_follow.specs.Sequence.{HasNodes}
 use Rattle.std.specs.Option.{IfSome}
@@ -19,7 +16,7 @@ use Rattle.occ_mdd.specs.Maps.{IsMap, value}
 use Rattle.occ_node.specs.World.{IsNode}
 use Rattle.occ_node.specs.declared.node.NodeId.{NodeId}
 use Rattle.occ_lift.specs.Maps.{Extends, MayHaveNodes}
-use Rattle.occ_lift.proofs.Worlds.{extends_trans, has_nodes-extends, may_have}
+use Rattle.occ_lift.proofs.Worlds.{has_nodes-extends}
 use Rattle.occ_frame.specs.Kept.{KeepMaps, map_id}
 
 pub set-extends : (v w : World) → Extends v w → (s : SetId) → IsKnown v.store s → IsKnown w.store s

@@ -1,5 +1,5 @@
 -- Parts in scope, from a process to its parts.
-use Rattle.std.proofs.Common.{◌≡◌, ◌<◌, ◌≤◌, ◌+◌, ◌++◌, ◌==◌, ◌&&◌, ℕ, zero, suc, Bool, true, false, cond, max, List, [], ◌∷◌, Option, Some, None, length, get_or, ⊎_elim, refl, sym, ap, ◌∙◌, subst, arith}
+use Rattle.std.proofs.Common.{◌≡◌, ◌<◌, ◌≤◌, ◌+◌, ◌++◌, ◌==◌, ℕ, zero, suc, Bool, true, false, cond, List, [], ◌∷◌, Option, Some, None, length, get_or, ⊎_elim, refl, sym, ap, ◌∙◌, subst, arith}
 use Rattle.std.proofs.lemmas.Bool.{and_parts, and_from, cases_Bool, eqb-true, eq-eqb}
 use Rattle.std.specs.Option.{IsSome, is_none, is_some}
 use Rattle.occ_base.specs.declared.names.Name.{Name}
@@ -8,8 +8,8 @@ use Rattle.occ_base.specs.declared.width.Width.TheVariants.{Bool as TruthValue}
 use Rattle.occ_base.specs.Width.{bits_of}
 use Rattle.occ_bits.specs.Layout.{IsLayout, entry_of, environment_in, laid_out, scope_in}
 use Rattle.occ_bits.proofs.Laid.{found_width, found_within, laid_width, layout_of}
-use Rattle.occ_bits.proofs.Values.{bits_within, found_few, never_missing}
-use Rattle.occ_bits.proofs.Compared.{same_count, some_left}
+use Rattle.occ_bits.proofs.Values.{bits_within, found_few}
+use Rattle.occ_bits.proofs.Compared.{same_count}
 use Rattle.occ_bits.proofs.Parts.{type_same}
 use Rattle.occ_syntax.specs.declared.expr.Expr.{Expr}
 use Rattle.occ_syntax.specs.declared.expr.Guard.{Guard}
@@ -20,10 +20,10 @@ use Rattle.occ_syntax.specs.Counts.{bits_of_kind, bits_of_scope, most_bits, most
 use Rattle.occ_syntax.specs.Declarations.{declaring}
 use Rattle.occ_syntax.specs.Eval.{bits_in, bits_of_exp}
 use Rattle.occ_syntax.specs.Scopes.{Environment, environment, variable_kind, variable_width, with_name}
-use Rattle.occ_syntax.specs.Tree.{Exp, variable, Tree, skip, stop, assign, receive, send, seq, par, select, alt, declare, connect, Trees, no_tree, and_tree, Cases, no_case, and_case, Branches, no_branch, and_branch, Waiting, ready, input, output}
-use Rattle.occ_syntax.specs.Types.{agree, all_types_kept, branches_kept, can_declare, cases_kept, is_condition, is_pair, is_width, pairs_kept, scope_kept, type_of, types_kept, waiting_kept, width_of_kind}
+use Rattle.occ_syntax.specs.Tree.{Exp, variable, Tree, assign, receive, send, seq, par, select, alt, Trees, Cases, Branches, Waiting, ready, input, output}
+use Rattle.occ_syntax.specs.Types.{agree, all_types_kept, branches_kept, cases_kept, is_condition, is_width, pairs_kept, scope_kept, type_of, types_kept, waiting_kept, width_of_kind}
 use Rattle.occ_syntax.specs.View.{exp, exps, numbers, tree, trees, cases, branches, waiting}
-use Rattle.occ_syntax.proofs.Widest.{most_bits-declaring, most_bits-outer}
+use Rattle.occ_syntax.proofs.Widest.{most_bits-outer}
 use Rattle.occ_usage.proofs.Scoped.{environment-push}
 use Rattle.occ_frame.specs.Placed.{CanEnter, CanWait, Fits, FitAll, FitBranches, FitCases, IsAround, IsFrame, entered}
 

@@ -1,5 +1,5 @@
 -- What a map from states to nodes has of a process and of what follows it.
-use Rattle.std.specs.Prelude.{ℕ, ◌<◌, ◌≤◌, ◌≡◌, ◌^◌, ◌↔◌, ◌⊎◌, ◌++◌, Bool, true, List, Some, bit_and, bit_xor}
+use Rattle.std.specs.Prelude.{ℕ, ◌<◌, ◌≡◌, ◌^◌, ◌↔◌, ◌⊎◌, ◌++◌, Bool, true, List, Some, bit_and, bit_xor}
 use Rattle.std.specs.Int.{bit_at}
 use Rattle.occ_base.specs.declared.event.Event.{Event}
 use Rattle.occ_base.specs.declared.names.Name.{Name}

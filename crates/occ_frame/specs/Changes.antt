@@ -1,5 +1,5 @@
 -- Maps whose nodes are those of another map with bits of their final states turned, or of all values of some bits.
-use Rattle.std.specs.Prelude.{ℕ, ◌<◌, ◌≤◌, ◌≡◌, ◌^◌, ◌↔◌, ◌⊎◌, Bool, true, List, Some, if◌then◌else◌}
+use Rattle.std.specs.Prelude.{ℕ, ◌<◌, ◌≤◌, ◌≡◌, ◌^◌, ◌↔◌, ◌⊎◌, Bool, true, List, Some}
 use Rattle.std.specs.Int.{bit_at}
 use Rattle.occ_base.specs.declared.event.Event.{Event}
 use Rattle.occ_diagram.specs.Assignment.{turned}

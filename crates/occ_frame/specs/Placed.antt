@@ -1,5 +1,5 @@
 -- Parts of a program in the scope in which they stand.
-use Rattle.std.specs.Prelude.{ℕ, ◌≡◌, ◌≤◌, ◌+◌, ◌++◌, true, List, [], ◌∷◌, Option, None, IsSome}
+use Rattle.std.specs.Prelude.{ℕ, ◌≡◌, ◌≤◌, ◌+◌, ◌++◌, true, List, [], ◌∷◌, None, IsSome}
 use Rattle.occ_base.specs.declared.names.Name.{Name}
 use Rattle.occ_base.specs.declared.width.Width.{Width}
 use Rattle.occ_base.specs.Width.{bits_of}
@@ -8,7 +8,7 @@ use Rattle.occ_syntax.specs.declared.scope.Kind.{Kind}
 use Rattle.occ_syntax.specs.declared.scope.Kind.TheVariants.{Var, Chan}
 use Rattle.occ_syntax.specs.Counts.{bits_of_scope, most_bits, most_bits_of_all, most_bits_of_cases, most_bits_of_branches}
 use Rattle.occ_syntax.specs.Scopes.{Environment, environment, variable_width}
-use Rattle.occ_syntax.specs.Tree.{Exp, Tree, Trees, Cases, Branches, Waiting, ready, input, output}
+use Rattle.occ_syntax.specs.Tree.{Tree, Trees, Cases, Branches, Waiting, ready, input, output}
 use Rattle.occ_syntax.specs.Types.{all_types_kept, branches_kept, cases_kept, is_width, scope_kept, type_of, types_kept}
 
 -- the bits that are laid out for the variables in scope

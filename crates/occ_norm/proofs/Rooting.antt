@@ -27,14 +27,9 @@ use Rattle.occ_frame.specs.After.{AgreeBelow, IsAfter, IsOver, QuietlyFails, Res
 use Rattle.occ_frame.specs.Changes.{IsChanged}
 use Rattle.occ_frame.specs.Placed.{IsFrame}
 use Rattle.occ_node.proofs.Recovery.{canonical}
-use Rattle.occ_frame.proofs.After.{map_node, state_below}
+use Rattle.occ_frame.proofs.After.{map_node, same_truth, state_below}
 use Rattle.occ_norm.specs.Root.{IsRoot}
 use Rattle.occ_norm.proofs.Changing.{bit_of_change, change_lt}
-
-same_truth : (a b : Bool) → (a ≡ true → b ≡ true) → (b ≡ true → a ≡ true) → a ≡ b
-same_truth true b f g = sym (f refl)
-same_truth false true f g = g refl
-same_truth false false f g = refl
 
 -- ---- bits that are 0
 clear_is : (bits k v : ℕ) → is_clear bits k v ≡ true → bit_at bits k ≡ 1 → bit_at v k ≡ 0

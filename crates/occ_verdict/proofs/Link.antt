@@ -1,6 +1,6 @@
 -- From the roots of two programs to the programs.
 use Rattle.std.proofs.Common.{◌≡◌, ◌==◌, ◌&&◌, ◌<◌, ◌≤◌, ◌^◌, ◌/◌, ◌%◌, ◌+◌, ◌↔◌, ◌⊎◌, inl, inr, ⊎_elim, ℕ, Bool, true, false, cond, List, [], ◌∷◌, Option, Some, None, is_some, nat_lt, refl, sym, ap, ◌∙◌, subst, arith}
-use Rattle.std.proofs.lemmas.Bool.{and_from, cases_Bool, eq-eqb, lt-ltb}
+use Rattle.std.proofs.lemmas.Bool.{and_from, eq-eqb, lt-ltb}
 use Rattle.std.proofs.lemmas.Nat.{pow_pos}
 use Rattle.std.proofs.Math.Nat.{mod-lt}
 use Rattle.std.proofs.lemmas.Option.{same_Some}
@@ -51,26 +51,10 @@ use Rattle.occ_compare.specs.Walk.{opposite, picked}
 use Rattle.occ_frame.specs.After.{AgreeBelow, IsOver}
 use Rattle.occ_frame.specs.Placed.{IsAround, IsFrame}
 use Rattle.occ_bits.proofs.States.{are_states, state_fits}
-use Rattle.occ_frame.proofs.After.{state_below}
+use Rattle.occ_frame.proofs.After.{same_truth, state_below, zero_off}
 use Rattle.occ_frame.proofs.Bits.{pow_more}
 use Rattle.occ_norm.specs.Root.{IsRoot}
 use Rattle.occ_verdict.proofs.Overlay.{does_over, over}
-
-same_truth : (a b : Bool) → (a ≡ true → b ≡ true) → (b ≡ true → a ≡ true) → a ≡ b
-same_truth true b f g = sym (f refl)
-same_truth false true f g = g refl
-same_truth false false f g = refl
-
--- the state has 0 where the layout has no variable
-zero_off : (entries : List (Name × Width × ℕ)) (x y : ℕ) → entry_of entries y ≡ None → state_of entries x y ≡ 0
-zero_off [] x y e = refl
-zero_off ((n, v, g) ∷ entries) x y e = ⊎_elim
-    (λ (t : (y == n.0) ≡ true). absurd (clash (v, g) (sym (ap (λ b. cond b (Some (v, g)) (entry_of entries y)) t) ∙ e)))
-    (λ (t : (y == n.0) ≡ false). ap (λ b. cond b (x / 2 ^ g % 2 ^ bits_of v) (state_of entries x y)) t ∙ zero_off entries x y (sym (ap (λ b. cond b (Some (v, g)) (entry_of entries y)) t) ∙ e))
-    (cases_Bool (y == n.0))
-  where
-    clash : (p : Width × ℕ) → Some p ≡ None → ⊥
-    clash p q = cc
 
 -- ---- states as lists and as values
 values_state : (layout : List (Name × Width × ℕ)) (x : ℕ) → values (values_at layout x) ≡ state_of layout x

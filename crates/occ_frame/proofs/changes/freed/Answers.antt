@@ -1,6 +1,5 @@
-use Rattle.occ_lift.proofs.Worlds.{extends_refl, extends_trans, has_nodes-extends, may_have, may_have-extends}
-use Rattle.occ_frame.proofs.Keeping.{keep-extends, keep_learnt, keep_none, set-extends, sets-extend}
-use Rattle.std.proofs.Common.{◌≡◌, ◌≤◌, ◌<◌, subst, arith}
+use Rattle.occ_lift.proofs.Worlds.{extends_refl, extends_trans, has_nodes-extends}
+use Rattle.std.proofs.Common.{◌≡◌, subst, arith}
 use Rattle.occ_frame.specs.Changes.{IsFreed}
 use Rattle.occ_frame.proofs.Changing.{freed_next, freed_none}
 use Rattle.occ_frame.proofs.changes.freed.Goals as goal
@@ -9,7 +8,9 @@ pub loop-bit-init : goal.loop-bit-init
 loop-bit-init c = record { extends = extends_refl c.args.world.now; nodes = c.requires.map; freed = freed_none c.args.world.now c.args.map c.args.first c.requires.map }
 
 pub loop-bit-preserved : goal.loop-bit-preserved
-loop-bit-preserved c = record { extends = extends_trans c.args.world.now c.loop-bit.world c.freed_at.new.world c.loop-bit.invariant.extends c.freed_at.ensures.extends; nodes = c.in_ok-next.ensures.nodes;
+loop-bit-preserved c = record {
+  extends = extends_trans c.args.world.now c.loop-bit.world c.freed_at.new.world c.loop-bit.invariant.extends c.freed_at.ensures.extends;
+  nodes = c.in_ok-next.ensures.nodes;
   freed = freed_next c.loop-bit.world c.freed_at.new.world c.args.map c.loop-bit.freed c.in_ok-next.next c.args.first c.loop-bit.bit c.freed_at.ensures.extends (omega arith) (omega arith)
       (has_nodes-extends c.args.world.now c.loop-bit.world c.loop-bit.invariant.extends c.args.map c.requires.map) c.loop-bit.invariant.nodes c.loop-bit.invariant.freed c.in_ok-next.ensures.freed;
 }

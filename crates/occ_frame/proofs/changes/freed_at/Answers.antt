@@ -1,6 +1,5 @@
-use Rattle.occ_lift.proofs.Worlds.{extends_refl, extends_trans, has_nodes-extends, may_have, may_have-extends}
-use Rattle.occ_frame.proofs.Keeping.{keep-extends, keep_learnt, keep_none, set-extends, sets-extend}
-use Rattle.std.proofs.Common.{◌≡◌, ◌+◌, true, false}
+use Rattle.occ_lift.proofs.Worlds.{extends_trans, has_nodes-extends, may_have}
+use Rattle.std.proofs.Common.{◌+◌}
 use Rattle.std.proofs.lemmas.Result.{IfOk-weaker}
 use Rattle.occ_diagram.specs.Assignment.{with_bit}
 use Rattle.occ_lift.specs.Lifted.{IsEither}

@@ -1,7 +1,5 @@
-use Rattle.occ_lift.proofs.Worlds.{extends_refl, extends_trans, has_nodes-extends, may_have, may_have-extends}
-use Rattle.occ_frame.proofs.Keeping.{keep-extends, keep_learnt, keep_none, set-extends, sets-extend}
-use Rattle.std.proofs.Common.{◌≡◌, ◌==◌, ◌^◌, true, false, sym, ◌∙◌}
-use Rattle.std.specs.Int.{bit_at}
+use Rattle.occ_lift.proofs.Worlds.{has_nodes-extends}
+use Rattle.std.proofs.Common.{◌^◌, sym, ◌∙◌}
 use Rattle.std.specs.Int.Bits.{bit_and}
 use Rattle.std.specs.Prelude.{if◌then◌else◌}
 use Rattle.std.proofs.lemmas.Result.{IfOk-weaker}

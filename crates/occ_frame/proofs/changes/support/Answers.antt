@@ -1,7 +1,6 @@
 use mir.Val.{bool_byte}
-use Rattle.occ_lift.proofs.Worlds.{extends_refl, extends_trans, has_nodes-extends, may_have, may_have-extends}
-use Rattle.occ_frame.proofs.Keeping.{keep-extends, keep_learnt, keep_none, set-extends, sets-extend}
-use Rattle.std.proofs.Common.{◌≡◌, ◌≤◌, ◌<◌, ◌+◌, ◌*◌, ◌%◌, ◌^◌, cond, refl, true, false, Bool, ℕ, ◌∙◌, subst, sym, arith}
+use Rattle.occ_lift.proofs.Worlds.{extends_refl, extends_trans, has_nodes-extends}
+use Rattle.std.proofs.Common.{◌≡◌, ◌+◌, ◌*◌, ◌%◌, ◌^◌, cond, refl, true, false, Bool, ◌∙◌, subst, sym, arith}
 use Rattle.std.specs.Int.Bits.{bit_or}
 use Rattle.occ_frame.specs.Changes.{IsSupport}
 use Rattle.occ_frame.proofs.Changing.{support_more, support_none}

@@ -1,4 +1,4 @@
-use Rattle.std.proofs.Common.{◌≡◌, ◌<◌, ◌+◌, arith}
+use Rattle.std.proofs.Common.{arith}
 use Rattle.occ_frame.proofs.Bits.{row_more}
 use Rattle.occ_frame.proofs.frame.bits_from.Goals as goal
 

@@ -1,4 +1,4 @@
-use Rattle.std.proofs.Common.{◌≡◌, ◌<◌, ◌+◌, ◌^◌, arith}
+use Rattle.std.proofs.Common.{◌+◌, arith}
 use Rattle.occ_frame.proofs.Bits.{all_more, pow_more, set_below}
 use Rattle.occ_frame.proofs.frame.lowest.Goals as goal
 

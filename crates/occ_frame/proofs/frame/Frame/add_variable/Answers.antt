@@ -5,9 +5,7 @@ use Rattle.occ_syntax.specs.Counts.{bits_of_scope}
 use Rattle.occ_syntax.specs.Types.{scope_kept}
 use Rattle.occ_frame.proofs.Bits.{pow_more}
 use Rattle.occ_frame.proofs.Placing.{few_more, frame-now, frame-push}
-use Rattle.std.proofs.Common.{true, ◌≡◌, ◌≤◌, ◌<◌, ◌+◌, ◌++◌, [], ◌∷◌, List, length, get_or, refl, sym, ap, ◌∙◌, subst, arith}
-use Rattle.occ_lift.proofs.Worlds.{extends_refl, extends_trans, has_nodes-extends, may_have, may_have-extends}
-use Rattle.occ_frame.proofs.Keeping.{keep-extends, keep_learnt, keep_none, none_may, set-extends, sets-extend}
+use Rattle.std.proofs.Common.{true, ◌≡◌, ◌≤◌, ◌++◌, [], ◌∷◌, List, sym, ap, ◌∙◌, subst, arith}
 use Rattle.occ_frame.proofs.frame.Frame.add_variable.Goals as goal
 
 pub of-requires-clause-scope : goal.of-requires-clause-scope

@@ -1,8 +1,6 @@
 use Rattle.occ_bits.proofs.Values.{never_missing}
 use Rattle.occ_frame.proofs.Placing.{frame_layout, slot_few, slot_some, slot_within}
-use Rattle.std.proofs.Common.{◌≡◌, ◌≤◌, ◌<◌, ◌+◌, ◌++◌, [], ◌∷◌, Some, List, length, get_or, refl, sym, ap, ◌∙◌, subst, arith}
-use Rattle.occ_lift.proofs.Worlds.{extends_refl, extends_trans, has_nodes-extends, may_have, may_have-extends}
-use Rattle.occ_frame.proofs.Keeping.{keep-extends, keep_learnt, keep_none, none_may, set-extends, sets-extend}
+use Rattle.std.proofs.Common.{sym, ◌∙◌}
 use Rattle.occ_frame.proofs.frame.Frame.slot.Goals as goal
 
 pub unreachable-requires : goal.unreachable-requires
