@@ -4,4 +4,5 @@ pub mod Simple
 pub mod Laying
 pub mod Opening
 pub mod Steps
+pub mod Declaring
 pub mod Rooting

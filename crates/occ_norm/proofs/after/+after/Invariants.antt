@@ -1,9 +1,18 @@
-use Rattle.std.proofs.Common.{◌+◌, ◌*◌, ◌≤◌, length}
+use Rattle.std.proofs.Common.{◌+◌, ◌*◌, ◌≤◌, ◌<◌, ◌≡◌, true, drop, length}
+use Rattle.occ_syntax.specs.Scopes.{Environment}
+use Rattle.occ_syntax.specs.Tree.{par, select, seq}
+use Rattle.occ_syntax.specs.Types.{all_types_kept, branches_kept}
+use Rattle.occ_syntax.specs.Usage.{KeepsUsage}
 use Rattle.occ_syntax.specs.View.{tree, trees, cases, branches}
 use Rattle.occ_syntax.proofs.Weights.{weight, weight_of_all, weight_of_cases, weight_of_branches}
 use Rattle.occ_follow.specs.Sequence.{HasNodes}
-use Rattle.occ_lift.specs.Maps.{Extends, MayHaveNodes}
-use Rattle.occ_norm.specs.Placed.{Fits}
+use Rattle.occ_lift.specs.Maps.{Extends, IsSkip, MayHaveNodes}
+use Rattle.occ_frame.specs.After.{IsAfter, IsOver}
+use Rattle.occ_frame.specs.Placed.{Fits, IsAround}
+use Rattle.occ_guards.specs.Alternation.{IsAlternation}
+use Rattle.occ_sides.specs.Sides.{closed_from}
+use Rattle.occ_norm.specs.Parts.{IsAfterIn}
+use Rattle.occ_norm.proofs.Declaring.{Opens}
 use Rattle.occ_norm.proofs.after.+after.Given as goal
 
 abbrev pub decreases-after : goal.decreases-after
@@ -28,7 +37,11 @@ decreases-alternated l = 2 * weight_of_branches (branches l.alternatives.now)
 abbrev pub invariant-after-loop-name : goal.invariant-after-loop-name
 invariant-after-loop-name l = record {
   fits : Fits l.inner.vars (tree l.body);
+  usage : KeepsUsage (tree l.body);
   left : weight (tree l.body) ≤ weight (tree l.part);
+  more : l.frame.bits ≤ l.inner.bits;
+  keep : l.inner.keep ≡ l.frame.keep;
+  opens : Opens l.frame.vars l.frame.layout l.frame.bits l.frame.keep l.frame.closed.items (tree l.part) l.inner.vars l.inner.layout l.inner.bits l.inner.closed.items (tree l.body);
 }
 
 abbrev pub decreases-after-loop-name : goal.decreases-after-loop-name
@@ -37,8 +50,9 @@ decreases-after-loop-name l = weight (tree l.body)
 abbrev pub invariant-in_turn-loop-left : goal.invariant-in_turn-loop-left
 invariant-in_turn-loop-left l = record {
   extends : Extends l.fn.world l.world;
-  nodes : HasNodes l.world l.map;
+  over : IsOver l.world l.frame.bits l.map;
   below : l.left ≤ length l.parts;
+  after : IsAfterIn l.world l.frame.vars l.frame.layout l.frame.keep l.frame.closed.items (seq (trees (drop l.left l.parts))) l.rest l.map;
 }
 
 abbrev pub decreases-in_turn-loop-left : goal.decreases-in_turn-loop-left
@@ -49,6 +63,7 @@ invariant-first_choice-loop-left l = record {
   extends : Extends l.fn.world l.world;
   nodes : HasNodes l.world l.map;
   below : l.left ≤ length l.choices;
+  after : IsAfterIn l.world l.frame.vars l.frame.layout l.frame.keep l.frame.closed.items (select (cases (drop l.left l.choices))) l.rest l.map;
 }
 
 abbrev pub decreases-first_choice-loop-left : goal.decreases-first_choice-loop-left
@@ -60,14 +75,23 @@ invariant-at_once-loop-left l = record {
   nodes : HasNodes l.world l.map;
   ended : HasNodes l.world l.sides.ended;
   below : l.left ≤ length l.parts;
+  skips : IsSkip l.world l.sides.keep l.sides.ended;
+  after : l.left < length l.parts → (Γ : Environment) → IsAround Γ l.frame.vars → all_types_kept (trees l.parts) Γ ≡ true
+      → IsAfter l.world l.frame.layout l.sides.keep (closed_from l.left l.sides.users.items) Γ (par (trees (drop l.left l.parts))) l.sides.ended l.map;
 }
 
 abbrev pub decreases-at_once-loop-left : goal.decreases-at_once-loop-left
 decreases-at_once-loop-left l = l.left
 
-abbrev pub invariant-alternated-loop-guard : goal.invariant-alternated-loop-guard
-invariant-alternated-loop-guard l = record {
+abbrev pub invariant-alternated-loop-left : goal.invariant-alternated-loop-left
+invariant-alternated-loop-left l = record {
   extends : Extends l.fn.world l.world;
   waiting : HasNodes l.world l.alternation.waiting;
   ready : MayHaveNodes l.world l.alternation.ready;
+  below : l.left ≤ length l.alternatives;
+  alternation : (Γ : Environment) → IsAround Γ l.frame.vars → branches_kept (branches (drop l.left l.alternatives)) Γ ≡ true
+      → IsAlternation l.world l.frame.layout l.frame.keep l.frame.closed.items Γ (branches (drop l.left l.alternatives)) l.rest l.alternation.waiting l.alternation.ready;
 }
+
+abbrev pub decreases-alternated-loop-left : goal.decreases-alternated-loop-left
+decreases-alternated-loop-left l = l.left
