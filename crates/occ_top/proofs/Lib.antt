@@ -6,5 +6,4 @@ pub mod OneAnswer
 pub mod Known
 pub mod Accepting
 pub mod Straightness
-pub mod Roots
 pub mod Named

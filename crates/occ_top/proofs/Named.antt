@@ -1,10 +1,9 @@
 -- What a verdict mentions has a name, where the parameters have.
-use Rattle.std.proofs.Common.{◌≡◌, ℕ, true, ◌<◌, List, [], length, Result, Ok, Err, IfOk, sym, subst}
+use Rattle.std.proofs.Common.{◌≡◌, ◌&&◌, ◌+◌, ℕ, zero, suc, true, ◌<◌, List, [], ◌∷◌, length, get_or, sym, subst, arith}
 use Rattle.std.specs.List.{All}
-use Rattle.std.proofs.lemmas.Bool.{ltb-true}
+use Rattle.std.proofs.lemmas.Bool.{and_parts, ltb-true}
 use Rattle.std.proofs.lemmas.List.Elements.{All-nil}
 use Rattle.occ_base.specs.declared.event.Event.{Event}
-use Rattle.occ_base.specs.declared.memory.Memory.{Memory}
 use Rattle.occ_base.specs.declared.names.Name.{Name}
 use Rattle.occ_syntax.specs.declared.scope.Kind.{Kind}
 use Rattle.occ_syntax.specs.Tree.{Tree}
@@ -14,29 +13,25 @@ use Rattle.occ_behaviour.specs.declared.behaviour.Last.{Last}
 use Rattle.occ_behaviour.specs.declared.behaviour.Last.TheVariants.{Refuses, Ends}
 use Rattle.occ_behaviour.specs.declared.behaviour.Verdict.{Verdict}
 use Rattle.occ_behaviour.specs.declared.behaviour.Verdict.TheVariants.{Same, Differ}
-use Rattle.occ_behaviour.specs.Members.{AreNamed, LastIsNamed, VerdictIsNamed}
+use Rattle.occ_behaviour.specs.Members.{AreNamed, IsNamed, LastIsNamed, VerdictIsNamed}
+use Rattle.occ_compare.specs.Verdicts.{IsPrintable}
 use Rattle.occ_straight.specs.Least.{IsLeast, IsLeastLast}
-use Rattle.occ_top.specs.Channels.{IsParam, AreOf, LastIsOf, IsOfChannels}
 
-module _ (params : List (Name × Kind)) (names : List (List ℕ)) (known : params_declare (is_below (length names)) params ≡ true) where
-  events_named : (events : List Event) → AreOf params events → AreNamed names events
-  events_named events h = λ k d lt. ltb-true _ _ (h k d lt (is_below (length names)) known)
+params_below : (params : List (Name × Kind)) (n : ℕ) → params_declare (is_below n) params ≡ true → All (λ (entry : Name × Kind). entry.0.0 < n) params
+params_below [] n h i d k = absurd (omega (arith, k))
+params_below (entry ∷ params) n h zero d k = ltb-true _ _ (and_parts _ _ h).0
+params_below (entry ∷ params) n h (suc i) d k = params_below params n (and_parts _ _ h).1 i d (omega (arith, k))
 
-  last_named : (last : Last) → LastIsOf params last → LastIsNamed names last
-  last_named (Refuses events) h = events_named events h
-  last_named (Ends state) h = tt
+pub verdict_named : (params : List (Name × Kind)) (names : List (List ℕ)) → params_declare (is_below (length names)) params ≡ true → (v : Verdict) → IsPrintable params v → VerdictIsNamed names v
+verdict_named params names known v h = h names (params_below params (length names) known)
 
-  pub verdict_named : (v : Verdict) → IsOfChannels params v → VerdictIsNamed names v
-  verdict_named Same h = tt
-  verdict_named (Differ b side) h = record { trace = events_named b.trace h.0; last = last_named b.last h.1 }
+nothing_named : (names : List (List ℕ)) (events : List Event) → events ≡ [] → AreNamed names events
+nothing_named names events e = subst (AreNamed names) (sym e) (All-nil (λ (x : Event). x.chan.0 < length names))
 
-nothing_of : (params : List (Name × Kind)) (events : List Event) → events ≡ [] → AreOf params events
-nothing_of params events e = subst (AreOf params) (sym e) (All-nil (λ x. IsParam params x.chan))
+least_last : (params : List (Name × Kind)) (p q : Tree) (b : Behaviour) (last : Last) → IsLeastLast params p q b last → (names : List (List ℕ)) → AreNamed names b.trace × LastIsNamed names last
+least_last params p q b (Ends state) h names = (nothing_named names b.trace h.trace, tt)
+least_last params p q b (Refuses events) h names = absurd h
 
-least_last : (params : List (Name × Kind)) (p q : Tree) (b : Behaviour) (last : Last) → IsLeastLast params p q b last → (AreOf params b.trace) × (LastIsOf params last)
-least_last params p q b (Ends state) h = (nothing_of params b.trace h.trace, tt)
-least_last params p q b (Refuses events) h = absurd h
-
-pub least_of_channels : (params : List (Name × Kind)) (p q : Tree) (v : Verdict) → IsLeast params p q v → IsOfChannels params v
-least_of_channels params p q Same h = tt
-least_of_channels params p q (Differ b side) h = least_last params p q b b.last h
+pub least_printable : (params : List (Name × Kind)) (p q : Tree) (v : Verdict) → IsLeast params p q v → IsPrintable params v
+least_printable params p q Same h names all = tt
+least_printable params p q (Differ b side) h names all = let k = least_last params p q b b.last h names in record { trace = k.0; last = k.1 }

@@ -159,9 +159,8 @@ module _ (once : IsOnce) where
       λ h. record { names = m; p = a.p; q = a.q; accepted = a.accepted; one_interface = a.one_interface; not_straight = h } in
       elim (cases_Bool (is_straight (tree a.p.body))) [
         | inl x ↦ elim (cases_Bool (is_straight (tree a.q.body))) [
-          | inl y ↦ (let d = a.decided x y in
-              let c = b.decided (sym (ap is_straight first.body) ∙ x) (sym (ap is_straight second.body) ∙ y) in
-              inl (ap₂ Compared second.names (decided_alike a.p a.q b.p b.q v w first.params first.body second.body d.right d.least c.right c.least)))
+          | inl y ↦ inl (ap₂ Compared second.names (decided_alike a.p a.q b.p b.q v w first.params first.body second.body a.right (a.least x y) b.right
+              (b.least (sym (ap is_straight first.body) ∙ x) (sym (ap is_straight second.body) ∙ y))))
           | inr y ↦ inr (beyond (λ s t. true≢false (sym t ∙ y)))
         ]
         | inr x ↦ inr (beyond (λ s t. true≢false (sym s ∙ x)))

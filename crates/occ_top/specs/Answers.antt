@@ -108,18 +108,14 @@ pub record DifferInInterface (one two : Option (List ℕ)) : Type 0 where
   pub accepted : AcceptsBoth one two names p q
   pub differ : p.params ≡ q.params → ⊥
 
--- the verdict on two programs is right, and names the least difference
-pub record IsDecided (p q : Program) (verdict : Verdict) : Type 0 where
-  pub right : IsRight p.params (tree p.body) (tree q.body) verdict
-  pub least : IsLeast p.params (tree p.body) (tree q.body) verdict
-
--- Both programs have one interface. Where both are straight, the verdict on them is right and names the least difference.
+-- Both programs have one interface, and the verdict on them is right. Where both are straight, it names the least difference.
 pub record AreCompared (one two : Option (List ℕ)) (names : List (List ℕ)) (verdict : Verdict) : Type 0 where
   pub p : Program
   pub q : Program
   pub accepted : AcceptsBoth one two names p q
   pub one_interface : p.params ≡ q.params
-  pub decided : is_straight (tree p.body) ≡ true → is_straight (tree q.body) ≡ true → IsDecided p q verdict
+  pub right : IsRight p.params (tree p.body) (tree q.body) verdict
+  pub least : is_straight (tree p.body) ≡ true → is_straight (tree q.body) ≡ true → IsLeast p.params (tree p.body) (tree q.body) verdict
 
 -- the answer to two files whose programs are to be compared
 abbrev pub Settles : Option (List ℕ) → Option (List ℕ) → Answer → Type 0

@@ -2,12 +2,14 @@
 use Rattle.std.specs.Prelude.{ℕ, ◌≡◌, ◌≢◌, List, ◌∷◌, true, slice_index_or}
 use Rattle.occ_syntax.specs.declared.scope.Program.{Program}
 use Rattle.occ_syntax.specs.View.{tree}
+use Rattle.occ_straight.specs.Least.{IsLeast}
 use Rattle.occ_straight.specs.Straight.{is_straight}
 use Rattle.occ_usage.specs.Accepted.{usage_faults}
 use Rattle.occ_usage.specs.declared.fault.UsageFault.{UsageFault}
 use Rattle.occ_usage.specs.declared.fault.UsageFault.TheVariants as shared
 use Rattle.occ_behaviour.specs.declared.behaviour.Side.{Side}
 use Rattle.occ_behaviour.specs.declared.behaviour.Verdict.{Verdict}
+use Rattle.occ_behaviour.specs.Members.{IsRight}
 use Rattle.occ_reading.specs.Reading.{IsRefused as IsRefusedText}
 use Rattle.occ_reading.specs.declared.bound.Bound.TheVariants as bound
 use Rattle.occ_reading.specs.declared.fault.ParseFault.{ParseFault}
@@ -20,7 +22,7 @@ use Rattle.occ_top.specs.declared.judge.Refusal.{Refusal}
 use Rattle.occ_top.specs.declared.judge.Refusal.TheVariants as refusal
 use Rattle.occ_top.specs.declared.load.Loaded.{Loaded}
 use Rattle.occ_top.specs.declared.load.Loaded.TheVariants.{Bytes, TooLong}
-use Rattle.occ_top.specs.Answers.{IsAcceptedText, IsUnusableText, IsDecided, node_of}
+use Rattle.occ_top.specs.Answers.{IsAcceptedText, IsUnusableText, node_of}
 use Rattle.occ_top.specs.Texts.{FaultIsNamed}
 use Rattle.occ_parse.specs.Known.{NamesAreKnown}
 
@@ -82,7 +84,8 @@ IsRefusalAnswer names place refusal.Memory answer = ⊥
 
 pub record IsVerdictOn (p q : Program) (verdict : Verdict) : Type 0 where
   pub one_interface : p.params ≡ q.params
-  pub decided : is_straight (tree p.body) ≡ true → is_straight (tree q.body) ≡ true → IsDecided p q verdict
+  pub right : IsRight p.params (tree p.body) (tree q.body) verdict
+  pub least : is_straight (tree p.body) ≡ true → is_straight (tree q.body) ≡ true → IsLeast p.params (tree p.body) (tree q.body) verdict
 
 abbrev pub IsComparison : List (List ℕ) → Program → Program → Answer → Type 0
 IsComparison names p q Usage = ⊥

@@ -4,5 +4,4 @@ pub mod Files
 pub mod Texts
 pub mod Answers
 pub mod Ran
-pub mod Channels
 pub mod Judged
