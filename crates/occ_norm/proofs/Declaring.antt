@@ -134,3 +134,15 @@ module _ (vars : List (Name × Kind)) (layout : List (Name × Width × ℕ)) (n 
           (subst (λ ls. IsAfterFrom w n'' top ls keep (closed' ++ x ∷ []) (with_name Γ x.0 (Chan wd None)) q' rest map) laid
             (subst (λ cs. IsAfterFrom w n'' top layout'' keep cs (with_name Γ x.0 (Chan wd None)) q' rest map) c given)))));
   }
+
+-- a declaration takes no bits away
+pub bits_grow : (vars' : List (Name × Kind)) (layout' : List (Name × Width × ℕ)) (n' : ℕ) (vars'' : List (Name × Kind)) (layout'' : List (Name × Width × ℕ)) (n'' : ℕ) (x : Name) (k : Kind)
+    → IsFrame vars' layout' n' → IsFrame vars'' layout'' n'' → vars'' ≡ entered vars' x k → (n : ℕ) → n ≤ n' → n ≤ n''
+bits_grow vars' layout' n' vars'' layout'' n'' x (Var wd) f g v n h =
+    let a = f.bits_are in let b = g.bits_are in let e = ap bits_of_scope v in omega (arith, a, b, e, bits-push vars' (x, Var wd), h)
+  where
+    bits-push : (es : List (Name × Kind)) (d : Name × Kind) → bits_of_scope (es ++ d ∷ []) ≡ bits_of_scope es + bits_of_kind d.1
+    bits-push [] d = omega arith
+    bits-push (e ∷ es) d = omega (arith, bits-push es d)
+bits_grow vars' layout' n' vars'' layout'' n'' x (Chan wd d) f g v n h =
+    let a = f.bits_are in let b = g.bits_are in let e = ap bits_of_scope v in omega (arith, a, b, e, h)

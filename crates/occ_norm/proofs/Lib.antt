@@ -6,3 +6,4 @@ pub mod Opening
 pub mod Steps
 pub mod Declaring
 pub mod Rooting
+pub mod Using

@@ -15,6 +15,7 @@ use Rattle.occ_syntax.specs.Counts.{bits_of_scope}
 use Rattle.occ_syntax.specs.Meaning.{fails as part_fails, ends as part_ends}
 use Rattle.occ_syntax.specs.Scopes.{environment}
 use Rattle.occ_syntax.specs.Tree.{Tree}
+use Rattle.occ_syntax.specs.Types.{types_kept}
 use Rattle.occ_mdd.specs.Maps.{value}
 use Rattle.occ_mdd.specs.declared.map.MapId.{MapId}
 use Rattle.occ_node.specs.World.{fails, ends}
@@ -25,7 +26,9 @@ use Rattle.occ_lift.specs.Maps.{IsSkip, are_zero, is_clear}
 use Rattle.occ_weave.specs.Weave.{is_silent_on}
 use Rattle.occ_frame.specs.After.{AgreeBelow, IsAfter, IsOver, QuietlyFails, Resumes, change_of}
 use Rattle.occ_frame.specs.Changes.{IsChanged}
-use Rattle.occ_frame.specs.Placed.{IsFrame}
+use Rattle.occ_frame.specs.Placed.{IsAround, IsFrame}
+use Rattle.occ_frame.proofs.Bits.{pow_more}
+use Rattle.occ_norm.specs.Parts.{IsAfterIn}
 use Rattle.occ_node.proofs.Recovery.{canonical}
 use Rattle.occ_frame.proofs.After.{map_node, same_truth, state_below}
 use Rattle.occ_norm.specs.Root.{IsRoot}
@@ -154,3 +157,17 @@ module _ (w : World) (params : List (Name × Kind)) (n keep : ℕ) (p : Tree) (e
     root_fails = fails_here;
     root_ends = ends_here;
   }
+
+around_itself : (params : List (Name × Kind)) → IsAround (environment params) params
+around_itself params = record { same = λ y. refl; none = λ y h. h }
+
+pub root_of : (w : World) (params vars : List (Name × Kind)) (layout : List (Name × Width × ℕ)) (n keep : ℕ) (closed : List Name) (p : Tree) (ended changes states : MapId)
+    → vars ≡ params → closed ≡ [] → IsFrame vars layout n → keep < 2 ^ n → ((k : ℕ) → k < n → bit_at keep k ≡ 1) → types_kept p (environment params) ≡ true
+    → IsSkip w keep ended → HasNodes w changes → HasNodes w states → IsAfterIn w vars layout keep closed p ended changes → IsChanged w (λ x. bit_and x keep) changes states → IsRoot w params p states
+root_of w params vars layout n keep closed p ended changes states same_vars none frame inside all types skips has nodes after turned =
+    let laid : layout ≡ laid_out 0 params = frame.layout_is ∙ ap (laid_out 0) same_vars in
+    let few : n ≤ 24 = let e = frame.bits_are in let h = frame.few in omega (arith, e, h) in
+    let placed : IsFrame params (laid_out 0 params) n = subst (λ l. IsFrame params l n) laid (subst (λ vs. IsFrame vs layout n) same_vars frame) in
+    let own = after (environment params) (subst (IsAround (environment params)) (sym same_vars) (around_itself params)) types in
+    is_root w params n keep p ended changes states placed inside all few (pow_more n 64 keep (omega (arith, few)) inside) skips has nodes
+    (subst (λ cs. IsAfter w (laid_out 0 params) keep cs (environment params) p ended changes) none (subst (λ l. IsAfter w l keep closed (environment params) p ended changes) laid own)) turned

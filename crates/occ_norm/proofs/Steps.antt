@@ -1,5 +1,5 @@
 -- The operators of the language on maps, in every environment of the variables in scope.
-use Rattle.std.proofs.Common.{◌≡◌, ◌<◌, ◌≤◌, ◌^◌, ◌↔◌, ◌&&◌, ◌++◌, ℕ, Bool, true, false, List, [], ◌∷◌, Option, Some, None, cond, refl, sym, ap, ◌∙◌, subst, arith}
+use Rattle.std.proofs.Common.{◌≡◌, ◌<◌, ◌≤◌, ◌^◌, ◌↔◌, ◌==◌, ◌&&◌, ◌++◌, ℕ, Bool, true, false, List, [], ◌∷◌, Option, Some, None, Result, Ok, Err, IfOk, cond, refl, sym, ap, ◌∙◌, subst, arith}
 use Rattle.std.proofs.lemmas.Bool.{and_parts}
 use Rattle.std.proofs.lemmas.Nat.{pow_pos}
 use Rattle.occ_base.specs.declared.event.Event.{Event}
@@ -16,19 +16,71 @@ use Rattle.occ_mdd.specs.Maps.{value}
 use Rattle.occ_mdd.specs.declared.map.MapId.{MapId}
 use Rattle.occ_node.specs.declared.world.World.{World}
 use Rattle.occ_follow.specs.Sequence.{HasNodes}
-use Rattle.occ_lift.specs.Maps.{Extends, IsStop}
+use Rattle.occ_diagram.specs.Assignment.{turned}
+use Rattle.occ_lift.specs.Maps.{Extends, IsSkip, IsStop}
+use Rattle.occ_frame.specs.Changes.{IsSupport}
 use Rattle.occ_frame.specs.After.{IsAfter, IsOver}
 use Rattle.occ_frame.specs.Placed.{Fits, IsAround, IsFrame}
 use Rattle.occ_frame.proofs.After.{after-extends, after-over, state_back, states_reached}
 use Rattle.occ_frame.proofs.Bits.{pow_more}
+use Rattle.occ_frame.proofs.Placing.{width_here}
+use Rattle.occ_laws.proofs.Named.{eval_by_names}
 use Rattle.occ_norm.specs.Parts.{IsAfterIn}
 use Rattle.occ_norm.proofs.Sequences.{Reaches, seq_after}
 use Rattle.occ_norm.proofs.Simple.{after_as, case_after, skip_after, stop_after}
+
+-- what an answer has, where that follows
+pub if_ok : {A E : Type 0} (r : Result A E) (P Q : A → Type 0) → ((a : A) → P a → Q a) → IfOk r P → IfOk r Q
+if_ok (Ok a) P Q f h = f a h
+if_ok (Err e) P Q f h = h
+
+-- a part of another form
+pub as_is : (w : World) (vars : List (Name × Kind)) (layout : List (Name × Width × ℕ)) (keep : ℕ) (closed : List Name) (p q : Tree) (rest r : MapId) → p ≡ q
+    → IsAfterIn w vars layout keep closed q rest r → IsAfterIn w vars layout keep closed p rest r
+as_is w vars layout keep closed p q rest r e is = subst (λ t. IsAfterIn w vars layout keep closed t rest r) (sym e) is
+
+-- the truth of a condition doesn't depend on what else is in scope
+pub truth_here : (vars : List (Name × Kind)) (layout : List (Name × Width × ℕ)) (n : ℕ) → IsFrame vars layout n → (Γ : Environment) → IsAround Γ vars → (e : Exp) (s : Values)
+    → is_true (environment_in layout) e s ≡ is_true Γ e s
+truth_here vars layout n frame Γ around e s =
+    ap (λ v. v == 1) (eval_by_names (environment_in layout) Γ s s e (λ y h. sym (width_here Γ vars layout n frame around y)) (λ y h. refl))
 
 -- ---- as the world grows
 pub in-extends : (v w : World) (k : Extends v w) (vars : List (Name × Kind)) (layout : List (Name × Width × ℕ)) (keep : ℕ) (closed : List Name) (p : Tree) (rest r : MapId)
     → HasNodes v rest → HasNodes v r → IsAfterIn v vars layout keep closed p rest r → IsAfterIn w vars layout keep closed p rest r
 in-extends v w k vars layout keep closed p rest r has hr is Γ around types = after-extends v w k layout keep closed Γ p rest r has hr (is Γ around types)
+
+pub stop-extends : (v w : World) → Extends v w → (r : MapId) → IsStop v r → IsStop w r
+stop-extends v w k r is = record {
+  node = is.node;
+  everywhere = record { known = more is.everywhere.known k.maps.more; values = λ x. k.maps.same r x is.everywhere.known ∙ is.everywhere.values x };
+  known = more is.known k.grows.more;
+  fails_now = λ X. k.grows.same_fails is.node [] X is.known ∙ is.fails_now X;
+  fails_once = λ e t X. k.grows.same_fails is.node (e ∷ t) X is.known ∙ is.fails_once e t X;
+  never_ends = λ t x. k.grows.same_ends is.node t x is.known ∙ is.never_ends t x;
+}
+  where
+    more : {a b c : ℕ} → a < b → b ≤ c → a < c
+    more {a} {b} {c} h l = omega (arith, h, l)
+
+pub skip-extends : (v w : World) → Extends v w → (keep : ℕ) (r : MapId) → IsSkip v keep r → IsSkip w keep r
+skip-extends v w k keep r is = record {
+  node = is.node;
+  everywhere = record { known = more is.everywhere.known k.maps.more; values = λ x. k.maps.same r x is.everywhere.known ∙ is.everywhere.values x };
+  known = more is.known k.grows.more;
+  never_fails = λ t X. k.grows.same_fails is.node t X is.known ∙ is.never_fails t X;
+  ends_now = λ x. k.grows.same_ends is.node [] x is.known ∙ is.ends_now x;
+  ends_once = λ e t x. k.grows.same_ends is.node (e ∷ t) x is.known ∙ is.ends_once e t x;
+}
+  where
+    more : {a b c : ℕ} → a < b → b ≤ c → a < c
+    more {a} {b} {c} h l = omega (arith, h, l)
+
+pub support-extends : (v w : World) → Extends v w → (count : ℕ) (map : MapId) (bits : ℕ) → HasNodes v map → IsSupport v count map bits → IsSupport w count map bits
+support-extends v w k count map bits has is = record {
+  within = is.within;
+  others = λ b l z x. k.maps.same map (turned x b) has.known ∙ is.others b l z x ∙ sym (k.maps.same map x has.known);
+}
 
 module _ (w : World) (vars : List (Name × Kind)) (layout : List (Name × Width × ℕ)) (n keep : ℕ) (closed : List Name) (frame : IsFrame vars layout n) (inside : keep < 2 ^ n) where
   few : n ≤ 24

@@ -52,7 +52,7 @@ invariant-in_turn-loop-left l = record {
   extends : Extends l.fn.world l.world;
   over : IsOver l.world l.frame.bits l.map;
   below : l.left ≤ length l.parts;
-  after : IsAfterIn l.world l.frame.vars l.frame.layout l.frame.keep l.frame.closed.items (seq (trees (drop l.left l.parts))) l.rest l.map;
+  after : IsAfterIn l.world l.frame.vars l.frame.layout l.frame.keep l.frame.closed.items (seq (trees (drop l.left l.parts))) l.fn.rest l.map;
 }
 
 abbrev pub decreases-in_turn-loop-left : goal.decreases-in_turn-loop-left

@@ -1,0 +1,332 @@
+use Rattle.occ_syntax.specs.Tree.{seq, par, select, alt, assign, skip, stop, receive, send, no_tree, and_tree, and_case, and_branch}
+use Rattle.occ_syntax.specs.Types.{all_types_kept, branches_kept, is_condition, types_kept, waiting_kept}
+use Rattle.occ_laws.proofs.Facts.{and_four}
+use Rattle.occ_guards.specs.Alternation.{IsAlternation}
+use Rattle.occ_guards.proofs.Alternatives.{alternation_grow}
+use Rattle.occ_syntax.specs.Usage.{AllKeepUsage, AreSeparate, BranchesKeepUsage, CasesKeepUsage, KeepsUsage}
+use Rattle.occ_syntax.specs.View.{numbers, exp, exps, tree, trees, cases, branches, waiting}
+use Rattle.occ_syntax.proofs.Views.{tree-Seq, tree-Par, tree-If, tree-Alt}
+use Rattle.occ_syntax.proofs.Weights.{weight, weight-seq, weight-par, weight-select, weight-alt, weight_in_all, weight_in_cases, weight_in_branches}
+use Rattle.occ_syntax.proofs.Counting.{weight-declaring}
+use Rattle.occ_mdd.specs.Maps.{value}
+use Rattle.occ_dd.specs.Store.{has}
+use Rattle.occ_frame.specs.After.{IsAfter}
+use Rattle.occ_frame.specs.Placed.{Fits, IsAround}
+use Rattle.occ_frame.proofs.After.{after-extends, after-over, over-extends}
+use Rattle.occ_frame.proofs.Placing.{branch_at, branch_condition, branch_wait, case_at, case_condition, fit_at, fits_alt, fits_assign, fits_can, fits_next, fits_par, fits_receive, fits_select, fits_send, fits_seq}
+use Rattle.occ_frame.proofs.Keeping.{keep-extends, keep_learnt, keep_none, none_may, set-extends, sets-extend}
+use Rattle.std.proofs.Common.{true, ◌*◌, ◌-◌, ◌≡◌, ◌≤◌, ◌<◌, ◌+◌, ◌++◌, cond, [], ◌∷◌, Some, List, drop, length, get_or, refl, sym, ap, ◌∙◌, subst, arith}
+use Rattle.occ_lift.proofs.Worlds.{extends_refl, extends_trans, has_nodes-extends, may_have, may_have-extends}
+use Rattle.occ_norm.specs.Parts.{IsAfterIn}
+use Rattle.occ_norm.proofs.Declaring.{bits_grow, opens_itself, opens_next, over_more}
+use Rattle.occ_norm.proofs.Opening.{after_from, freed_after}
+use Rattle.occ_norm.proofs.Steps.{as_is, case_in, empty_in, if_ok, in-extends, no_case_in, none_in, one_in, over_in, seq_in, skip-extends, skip_in, stop-extends, stop_in, support-extends, truth_here}
+use Rattle.occ_norm.proofs.Using.{branch_usage_at, branches_left, case_usage_at, cases_left, dropped_all, no_trees, one_tree, trees_left, types_at, usage_at, usage_inside}
+use Rattle.occ_norm.proofs.after.+after.Goals as goal
+
+-- ---- declarations
+pub after-declare-requires : goal.after-declare-requires
+after-declare-requires t c = fits_can _ _ _ _ _ c.loop-name.invariant.fits c.in-Some.ensures
+
+pub after-loop-name-smaller : goal.after-loop-name-smaller
+after-loop-name-smaller t c = let g = ap weight c.in-Some.ensures ∙ weight-declaring _ _ _ in omega (arith, g)
+
+pub after-loop-name-preserved : goal.after-loop-name-preserved
+after-loop-name-preserved t c =
+    let g = ap weight c.in-Some.ensures ∙ weight-declaring _ _ _ in
+    let before = c.loop-name.inner in
+    let now = c.declare.new.self in
+    let more : c.args.frame.now.bits ≤ before.bits = c.loop-name.invariant.more in
+    record {
+      fits = fits_next _ _ _ _ _ _ c.loop-name.invariant.fits c.in-Some.ensures c.in_ok-declare.ensures.vars;
+      usage = usage_inside _ _ _ _ c.in-Some.ensures c.loop-name.invariant.usage;
+      left = omega (arith, g, c.loop-name.invariant.left);
+      more = bits_grow before.vars before.layout before.bits now.vars now.layout now.bits c.in-Some.name c.in-Some.kind before.kept now.kept c.in_ok-declare.ensures.vars c.args.frame.now.bits more;
+      keep = c.declare.ensures.keep ∙ c.loop-name.invariant.keep;
+      opens = opens_next c.args.frame.now.vars c.args.frame.now.layout c.args.frame.now.bits c.args.frame.now.keep c.args.frame.now.closed.items (tree c.args.part.now) c.args.frame.now.inside
+          before.vars before.layout before.bits before.closed.items (tree c.loop-name.body.now) before.kept more c.in-Some.name c.in-Some.kind (tree c.in-Some.inside.now) now.vars now.layout now.bits now.closed.items
+          c.in-Some.ensures c.in_ok-declare.ensures.vars c.in_ok-declare.ensures.closed now.kept c.loop-name.invariant.opens;
+    }
+
+pub after-returns-clause-after : goal.after-returns-clause-after
+after-returns-clause-after t c =
+    let frame = c.args.frame.now in
+    let inner = c.loop-name.inner in
+    let w = c.freed.new.world in
+    let over = over-extends c.args.world.now w (extends_trans c.args.world.now c.undeclared.new.world w c.undeclared.ensures.extends c.freed.ensures.extends) frame.bits c.args.rest c.requires.rest in
+    let nodes = has_nodes-extends c.undeclared.new.world w c.freed.ensures.extends c.in_ok-map.map c.in_ok-map.ensures.nodes in
+    let rest_nodes = has_nodes-extends c.args.world.now c.undeclared.new.world c.undeclared.ensures.extends c.args.rest c.requires.rest.has in
+    let here = in-extends c.undeclared.new.world w c.freed.ensures.extends inner.vars inner.layout inner.keep inner.closed.items (tree c.loop-name.body.now) c.args.rest c.in_ok-map.map rest_nodes c.in_ok-map.ensures.nodes c.in_ok-map.ensures.after in
+    let kept = subst (λ k. IsAfterIn w inner.vars inner.layout k inner.closed.items (tree c.loop-name.body.now) c.args.rest c.in_ok-map.map) c.loop-name.invariant.keep here in
+    let bits = inner.kept.bits_are in
+    let few = inner.kept.few in
+    if_ok c.freed.result _ _
+    (λ r freed Γ around types. freed_after w frame.bits inner.bits frame.layout frame.keep frame.closed.items Γ (tree c.args.part.now) c.args.rest c.in_ok-map.map r
+    (c.loop-name.invariant.opens.opens w c.args.rest c.in_ok-map.map inner.bits (omega arith) (omega (arith, bits, few)) over
+      (λ Δ placed fit. after_from w inner.bits inner.layout frame.keep inner.closed.items Δ (tree c.loop-name.body.now) c.args.rest c.in_ok-map.map (λ x h. let k = nodes.nodes x h in (k.0, k.1)) (kept Δ placed fit))
+      Γ around types)
+    freed)
+    c.freed.ensures.freed
+
+-- ---- SEQ
+pub in_turn-loop-left-init : goal.in_turn-loop-left-init
+in_turn-loop-left-init t c = record {
+  extends = extends_refl c.args.world.now;
+  over = c.requires.rest;
+  below = omega arith;
+  after = subst (λ ps. IsAfterIn c.args.world.now c.args.frame.now.vars c.args.frame.now.layout c.args.frame.now.keep c.args.frame.now.closed.items (seq (trees ps)) c.args.rest c.args.rest) (sym (dropped_all c.args.parts.now))
+      (none_in c.args.world.now c.args.frame.now.vars c.args.frame.now.layout c.args.frame.now.bits c.args.frame.now.keep c.args.frame.now.closed.items c.args.frame.now.kept c.args.frame.now.inside c.args.rest c.requires.rest);
+}
+
+pub in_turn-after-requires : goal.in_turn-after-requires
+in_turn-after-requires t c =
+    let lt : c.loop-left.left - 1 < length c.args.parts.now = omega (arith, c.loop-left.invariant.below, c.loop-left-test.true) in
+    (omega (arith, weight_in_all c.args.parts.now (c.loop-left.left - 1) c.index-parts-left.result lt c.index-parts-left.is, c.decreases),
+    (fit_at c.args.frame.now.vars c.args.parts.now (c.loop-left.left - 1) c.index-parts-left.result c.requires.parts lt c.index-parts-left.is,
+      (usage_at c.args.parts.now (c.loop-left.left - 1) c.index-parts-left.result c.requires.usage lt c.index-parts-left.is,
+        c.loop-left.invariant.over)))
+
+pub in_turn-loop-left-preserved : goal.in_turn-loop-left-preserved
+in_turn-loop-left-preserved t c =
+    let frame = c.args.frame.now in
+    let lt : c.loop-left.left - 1 < length c.args.parts.now = omega (arith, c.loop-left.invariant.below, c.loop-left-test.true) in
+    let v = c.loop-left.world in
+    let w = c.after.new.world in
+    let old = c.loop-left.map in
+    let over = over-extends v w c.after.ensures.extends frame.bits old c.loop-left.invariant.over in
+    let fits = fit_at frame.vars c.args.parts.now (c.loop-left.left - 1) c.index-parts-left.result c.requires.parts lt c.index-parts-left.is in
+    let rest_nodes = has_nodes-extends c.args.world.now v c.loop-left.invariant.extends c.args.rest c.requires.rest.has in
+    record {
+      extends = extends_trans c.args.world.now v w c.loop-left.invariant.extends c.after.ensures.extends;
+      over = over_in w frame.vars frame.layout frame.bits frame.keep frame.closed.items frame.kept frame.inside (tree c.index-parts-left.result) old c.in_ok-next.next fits c.in_ok-next.ensures.nodes over c.in_ok-next.ensures.after;
+      below = omega (arith, c.loop-left.invariant.below);
+      after = subst (λ ps. IsAfterIn w frame.vars frame.layout frame.keep frame.closed.items (seq ps) c.args.rest c.in_ok-next.next)
+          (sym (trees_left c.args.parts.now c.loop-left.left c.index-parts-left.result (omega (arith, c.loop-left-test.true)) c.loop-left.invariant.below c.index-parts-left.is))
+          (seq_in w frame.vars frame.layout frame.bits frame.keep frame.closed.items frame.kept frame.inside (tree c.index-parts-left.result) (trees (drop c.loop-left.left c.args.parts.now)) c.args.rest old c.in_ok-next.next over.has
+          (in-extends v w c.after.ensures.extends frame.vars frame.layout frame.keep frame.closed.items (seq (trees (drop c.loop-left.left c.args.parts.now))) c.args.rest old rest_nodes c.loop-left.invariant.over.has c.loop-left.invariant.after)
+          c.in_ok-next.ensures.after);
+    }
+
+pub in_turn-returns-clause-after : goal.in_turn-returns-clause-after
+in_turn-returns-clause-after t c =
+    let none : c.loop-left.left ≡ 0 = omega (arith, c.loop-left-test.false) in
+    subst (λ k. IsAfterIn c.loop-left.world c.args.frame.now.vars c.args.frame.now.layout c.args.frame.now.keep c.args.frame.now.closed.items (seq (trees (drop k c.args.parts.now))) c.args.rest c.loop-left.map) none c.loop-left.invariant.after
+
+-- ---- IF
+pub first_choice-loop-left-init : goal.first_choice-loop-left-init
+first_choice-loop-left-init t c =
+    let frame = c.args.frame.now in
+    record {
+      extends = c.stop.ensures.extends;
+      nodes = c.in_ok-map.ensures.nodes;
+      below = omega arith;
+      after = subst (λ cs. IsAfterIn c.stop.new.world frame.vars frame.layout frame.keep frame.closed.items (select (cases cs)) c.args.rest c.in_ok-map.map) (sym (dropped_all c.args.choices.now))
+          (no_case_in c.stop.new.world frame.vars frame.layout frame.bits frame.keep frame.closed.items frame.kept frame.inside c.args.rest c.in_ok-map.map c.in_ok-map.ensures.stop);
+    }
+
+pub first_choice-after-requires : goal.first_choice-after-requires
+first_choice-after-requires t c =
+    let lt : c.loop-left.left - 1 < length c.args.choices.now = omega (arith, c.loop-left.invariant.below, c.loop-left-test.true) in
+    (omega (arith, weight_in_cases c.args.choices.now (c.loop-left.left - 1) c.index-choices-left.result lt c.index-choices-left.is, c.decreases),
+    (case_at c.args.frame.now.vars c.args.choices.now (c.loop-left.left - 1) c.index-choices-left.result c.requires.choices lt c.index-choices-left.is,
+      (case_usage_at c.args.choices.now (c.loop-left.left - 1) c.index-choices-left.result c.requires.usage lt c.index-choices-left.is,
+        over-extends c.args.world.now c.loop-left.world c.loop-left.invariant.extends c.args.frame.now.bits c.args.rest c.requires.rest)))
+
+pub first_choice-holds-requires : goal.first_choice-holds-requires
+first_choice-holds-requires t c = case_condition c.args.frame.now.vars c.args.frame.now.layout c.args.frame.now.bits c.args.frame.now.kept c.args.choices.now (c.loop-left.left - 1) c.index-choices-left.result c.requires.choices (omega (arith, c.loop-left.invariant.below, c.loop-left-test.true)) c.index-choices-left.is
+
+pub first_choice-loop-left-preserved : goal.first_choice-loop-left-preserved
+first_choice-loop-left-preserved t c =
+    let frame = c.args.frame.now in
+    let v = c.loop-left.world in
+    let u = c.holds.new.world in
+    let w = c.choose.new.world in
+    let chosen = c.in_ok-chosen.chosen in
+    let old = c.loop-left.map in
+    let vu = extends_trans v c.after.new.world u c.after.ensures.extends c.holds.ensures.extends in
+    let aw = extends_trans c.after.new.world u w c.holds.ensures.extends c.choose.ensures.extends in
+    let vw = extends_trans v u w vu c.choose.ensures.extends in
+    let rest_nodes = has_nodes-extends c.args.world.now v c.loop-left.invariant.extends c.args.rest c.requires.rest.has in
+    let rest_after = has_nodes-extends v c.after.new.world c.after.ensures.extends c.args.rest rest_nodes in
+    let chosen_here = has_nodes-extends c.after.new.world u c.holds.ensures.extends chosen c.in_ok-chosen.ensures.nodes in
+    let old_here = has_nodes-extends v u vu old c.loop-left.invariant.nodes in
+    record {
+      extends = extends_trans c.args.world.now v w c.loop-left.invariant.extends vw;
+      nodes = c.in_ok-next.ensures.nodes chosen_here old_here;
+      below = omega (arith, c.loop-left.invariant.below);
+      after = subst (λ cs. IsAfterIn w frame.vars frame.layout frame.keep frame.closed.items (select cs) c.args.rest c.in_ok-next.next)
+          (sym (cases_left c.args.choices.now c.loop-left.left c.index-choices-left.result (omega (arith, c.loop-left-test.true)) c.loop-left.invariant.below c.index-choices-left.is))
+          (case_in w frame.vars frame.layout frame.bits frame.keep frame.closed.items frame.kept frame.inside (exp c.index-choices-left.result.0) (tree c.index-choices-left.result.1) (cases (drop c.loop-left.left c.args.choices.now)) c.args.rest chosen old c.in_ok-next.next
+          (λ x. has u.store c.in_ok-set.set x)
+          (λ Γ around kept x h. c.in_ok-set.ensures.set.members x ∙ truth_here frame.vars frame.layout frame.bits frame.kept Γ around (exp c.index-choices-left.result.0) _)
+          (λ x. c.in_ok-next.ensures.map.values x ∙ (λ i. cond (has u.store c.in_ok-set.set x) (sym (c.choose.ensures.extends.maps.same chosen x chosen_here.known) i) (sym (c.choose.ensures.extends.maps.same old x old_here.known) i)))
+          (in-extends c.after.new.world w aw frame.vars frame.layout frame.keep frame.closed.items (tree c.index-choices-left.result.1) c.args.rest chosen rest_after c.in_ok-chosen.ensures.nodes c.in_ok-chosen.ensures.after)
+          (in-extends v w vw frame.vars frame.layout frame.keep frame.closed.items (select (cases (drop c.loop-left.left c.args.choices.now))) c.args.rest old rest_nodes c.loop-left.invariant.nodes c.loop-left.invariant.after));
+    }
+
+pub first_choice-returns-clause-after : goal.first_choice-returns-clause-after
+first_choice-returns-clause-after t c =
+    let none : c.loop-left.left ≡ 0 = omega (arith, c.loop-left-test.false) in
+    subst (λ k. IsAfterIn c.loop-left.world c.args.frame.now.vars c.args.frame.now.layout c.args.frame.now.keep c.args.frame.now.closed.items (select (cases (drop k c.args.choices.now))) c.args.rest c.loop-left.map) none c.loop-left.invariant.after
+
+-- ---- a part by its form
+pub undeclared-assigned-requires-clause-pairs : goal.undeclared-assigned-requires-clause-pairs
+unfolding tree
+undeclared-assigned-requires-clause-pairs t c = fits_assign c.args.frame.now.vars c.args.frame.now.layout c.args.frame.now.bits c.args.frame.now.kept _ _ _ c.requires.part (ap tree c.in-Assign.is ∙ (λ i. assign (numbers (sym c.items.ensures i)) (exps (sym c.items-in-Assign.ensures i))))
+
+pub undeclared-input-requires-clause-var : goal.undeclared-input-requires-clause-var
+unfolding tree
+undeclared-input-requires-clause-var t c = fits_receive c.args.frame.now.vars c.args.frame.now.layout c.args.frame.now.bits c.args.frame.now.kept _ _ _ c.requires.part (ap tree c.in-Input.is)
+
+pub undeclared-output-requires-clause-value : goal.undeclared-output-requires-clause-value
+unfolding tree
+undeclared-output-requires-clause-value t c = fits_send c.args.frame.now.vars c.args.frame.now.layout c.args.frame.now.bits c.args.frame.now.kept _ _ _ c.requires.part (ap tree c.in-Output.is)
+
+pub undeclared-in_turn-requires : goal.undeclared-in_turn-requires
+undeclared-in_turn-requires t c =
+    let e = (ap tree c.in-Seq.is ∙ tree-Seq c.in-Seq.parts ∙ ap (λ ps. seq (trees ps)) (sym c.items-in-Seq.ensures)) in
+    (omega (arith, weight-seq _ _ e, c.decreases), (fits_seq _ _ _ c.requires.part e, (subst KeepsUsage e c.requires.usage, c.requires.rest)))
+
+pub undeclared-at_once-requires : goal.undeclared-at_once-requires
+undeclared-at_once-requires t c =
+    let e = (ap tree c.in-Par.is ∙ tree-Par c.in-Par.parts ∙ ap (λ ps. par (trees ps)) (sym c.items-in-Par.ensures)) in
+    let usage = subst KeepsUsage e c.requires.usage in
+    (omega (arith, weight-par _ _ e, c.decreases), (fits_par _ _ _ c.requires.part e, (usage.0, (usage.1, c.requires.rest))))
+
+pub undeclared-first_choice-requires : goal.undeclared-first_choice-requires
+undeclared-first_choice-requires t c =
+    let e = (ap tree c.in-If.is ∙ tree-If c.in-If.choices ∙ ap (λ ps. select (cases ps)) (sym c.items-in-If.ensures)) in
+    (omega (arith, weight-select _ _ e, c.decreases), (fits_select _ _ _ c.requires.part e, (subst KeepsUsage e c.requires.usage, c.requires.rest)))
+
+pub undeclared-alternated-requires : goal.undeclared-alternated-requires
+undeclared-alternated-requires t c =
+    let e = (ap tree c.in-Alt.is ∙ tree-Alt c.in-Alt.alternatives ∙ ap (λ ps. alt (branches ps)) (sym c.items-in-Alt.ensures)) in
+    (omega (arith, weight-alt _ _ e, c.decreases), (fits_alt _ _ _ c.requires.part e, (subst KeepsUsage e c.requires.usage, c.requires.rest)))
+
+-- ---- ALT
+pub alternated-after-requires : goal.alternated-after-requires
+alternated-after-requires t c =
+    let lt : c.loop-left.left - 1 < length c.args.alternatives.now = omega (arith, c.loop-left.invariant.below, c.loop-left-test.true) in
+    (omega (arith, weight_in_branches c.args.alternatives.now (c.loop-left.left - 1) c.index-alternatives-left.result lt c.index-alternatives-left.is, c.decreases),
+    (branch_at c.args.frame.now.vars c.args.alternatives.now (c.loop-left.left - 1) c.index-alternatives-left.result c.requires.alternatives lt c.index-alternatives-left.is,
+      (branch_usage_at c.args.alternatives.now (c.loop-left.left - 1) c.index-alternatives-left.result c.requires.usage lt c.index-alternatives-left.is,
+        over-extends c.args.world.now c.loop-left.world c.loop-left.invariant.extends c.args.frame.now.bits c.args.rest c.requires.rest)))
+
+pub alternated-holds-requires : goal.alternated-holds-requires
+alternated-holds-requires t c = branch_condition c.args.frame.now.vars c.args.frame.now.layout c.args.frame.now.bits c.args.frame.now.kept c.args.alternatives.now (c.loop-left.left - 1) c.index-alternatives-left.result c.requires.alternatives (omega (arith, c.loop-left.invariant.below, c.loop-left-test.true)) c.index-alternatives-left.is
+
+pub alternated-and-requires-clause-waiting : goal.alternated-and-requires-clause-waiting
+alternated-and-requires-clause-waiting t c = has_nodes-extends c.loop-left.world c.holds.new.world (extends_trans c.loop-left.world c.after.new.world c.holds.new.world c.after.ensures.extends c.holds.ensures.extends) c.loop-left.alternation.waiting c.loop-left.invariant.waiting
+
+pub alternated-and-requires-clause-wait : goal.alternated-and-requires-clause-wait
+alternated-and-requires-clause-wait t c = branch_wait c.args.frame.now.vars c.args.frame.now.layout c.args.frame.now.bits c.args.frame.now.kept c.args.alternatives.now (c.loop-left.left - 1) c.index-alternatives-left.result c.requires.alternatives (omega (arith, c.loop-left.invariant.below, c.loop-left-test.true)) c.index-alternatives-left.is
+
+pub alternated-and-requires-clause-next : goal.alternated-and-requires-clause-next
+alternated-and-requires-clause-next t c =
+    let frame = c.args.frame.now in
+    let v = c.loop-left.world in
+    let u = c.after.new.world in
+    let fits = branch_at frame.vars c.args.alternatives.now (c.loop-left.left - 1) c.index-alternatives-left.result c.requires.alternatives (omega (arith, c.loop-left.invariant.below, c.loop-left-test.true)) c.index-alternatives-left.is in
+    let rest = over-extends c.args.world.now u (extends_trans c.args.world.now v u c.loop-left.invariant.extends c.after.ensures.extends) frame.bits c.args.rest c.requires.rest in
+    over-extends u c.holds.new.world c.holds.ensures.extends frame.bits c.in_ok-next.next
+    (over_in u frame.vars frame.layout frame.bits frame.keep frame.closed.items frame.kept frame.inside (tree c.index-alternatives-left.result.1) c.args.rest c.in_ok-next.next fits c.in_ok-next.ensures.nodes rest c.in_ok-next.ensures.after)
+
+pub alternated-loop-left-init : goal.alternated-loop-left-init
+alternated-loop-left-init t c = record {
+  extends = c.none.ensures.extends;
+  waiting = c.in_ok-alternation.ensures.waiting;
+  ready = c.in_ok-alternation.ensures.ready;
+  below = omega arith;
+  alternation = λ Γ around kept. subst (λ bs. IsAlternation c.none.new.world c.args.frame.now.layout c.args.frame.now.keep c.args.frame.now.closed.items Γ (branches bs) c.args.rest c.in_ok-alternation.alternation.waiting c.in_ok-alternation.alternation.ready)
+      (sym (dropped_all c.args.alternatives.now)) (c.in_ok-alternation.ensures.none c.args.frame.now.layout c.args.frame.now.keep c.args.frame.now.closed.items Γ c.args.rest);
+}
+
+pub alternated-loop-left-preserved : goal.alternated-loop-left-preserved
+alternated-loop-left-preserved t c =
+    let frame = c.args.frame.now in
+    let v = c.loop-left.world in
+    let a = c.after.new.world in
+    let u = c.holds.new.world in
+    let w = c.and.new.world in
+    let old = c.loop-left.alternation in
+    let item = c.index-alternatives-left.result in
+    let vu = extends_trans v a u c.after.ensures.extends c.holds.ensures.extends in
+    let vw = extends_trans v u w vu c.and.ensures.extends in
+    let rest_v = over-extends c.args.world.now v c.loop-left.invariant.extends frame.bits c.args.rest c.requires.rest in
+    let rest_a = over-extends v a c.after.ensures.extends frame.bits c.args.rest rest_v in
+    let rest_u = over-extends a u c.holds.ensures.extends frame.bits c.args.rest rest_a in
+    let left_is = branches_left c.args.alternatives.now c.loop-left.left item (omega (arith, c.loop-left-test.true)) c.loop-left.invariant.below c.index-alternatives-left.is in
+    let bs = branches (drop c.loop-left.left c.args.alternatives.now) in
+    record {
+      extends = extends_trans c.args.world.now v w c.loop-left.invariant.extends vw;
+      waiting = c.in_ok-more.ensures.waiting;
+      ready = c.in_ok-more.ensures.ready;
+      below = omega (arith, c.loop-left.invariant.below);
+      alternation = λ Γ around kept.
+          let types = and_four (is_condition Γ (exp item.0.condition)) (waiting_kept Γ (waiting item.0.wait)) (types_kept (tree item.1) Γ) (branches_kept bs Γ) (sym (ap (λ b. branches_kept b Γ) left_is) ∙ kept) in
+          subst (λ b. IsAlternation w frame.layout frame.keep frame.closed.items Γ b c.args.rest c.in_ok-more.more.waiting c.in_ok-more.more.ready) (sym left_is)
+          (c.in_ok-more.ensures.and Γ bs (exp item.0.condition) (tree item.1) c.args.rest around types.1
+            (λ x h. c.in_ok-enabled.ensures.set.members x ∙ truth_here frame.vars frame.layout frame.bits frame.kept Γ around (exp item.0.condition) _)
+            rest_u
+            (alternation_grow v u vu frame.layout frame.keep frame.closed.items Γ bs c.args.rest old.waiting old.ready c.loop-left.invariant.waiting c.loop-left.invariant.ready (c.loop-left.invariant.alternation Γ around types.3))
+            (after-extends a u c.holds.ensures.extends frame.layout frame.keep frame.closed.items Γ (tree item.1) c.args.rest c.in_ok-next.next rest_a.has c.in_ok-next.ensures.nodes (c.in_ok-next.ensures.after Γ around types.2)));
+    }
+
+pub alternated-returns-clause-after : goal.alternated-returns-clause-after
+alternated-returns-clause-after t c =
+    let frame = c.args.frame.now in
+    let none : c.loop-left.left ≡ 0 = omega (arith, c.loop-left-test.false) in
+    if_ok c.map.result _ _
+    (λ r is Γ around types. is frame.layout frame.keep frame.closed.items Γ (branches c.args.alternatives.now) c.args.rest
+    (subst (λ k. IsAlternation c.loop-left.world frame.layout frame.keep frame.closed.items Γ (branches (drop k c.args.alternatives.now)) c.args.rest c.loop-left.alternation.waiting c.loop-left.alternation.ready) none
+      (c.loop-left.invariant.alternation Γ around (subst (λ k. branches_kept (branches (drop k c.args.alternatives.now)) Γ ≡ true) (sym none) types))))
+    c.map.ensures.after
+
+pub undeclared-returns-in-Skip-clause-after : goal.undeclared-returns-in-Skip-clause-after
+unfolding tree
+undeclared-returns-in-Skip-clause-after t c =
+    let frame = c.args.frame.now in
+    as_is _ _ _ _ _ _ skip _ _ (ap tree c.in-Skip.is) (skip_in c.args.world.now frame.vars frame.layout frame.bits frame.keep frame.closed.items frame.kept frame.inside c.args.rest c.requires.rest)
+
+pub undeclared-returns-in-Stop-clause-after : goal.undeclared-returns-in-Stop-clause-after
+unfolding tree
+undeclared-returns-in-Stop-clause-after t c =
+    let frame = c.args.frame.now in
+    if_ok c.stop.result _ _
+    (λ r is. as_is _ _ _ _ _ _ stop _ _ (ap tree c.in-Stop.is) (stop_in c.stop.new.world frame.vars frame.layout frame.bits frame.keep frame.closed.items frame.kept frame.inside c.args.rest r is))
+    c.stop.ensures.stop
+
+pub undeclared-returns-in-Seq-clause-after : goal.undeclared-returns-in-Seq-clause-after
+undeclared-returns-in-Seq-clause-after t c =
+    if_ok c.in_turn.result _ _ (λ r is. as_is _ _ _ _ _ _ _ _ _ (ap tree c.in-Seq.is ∙ tree-Seq c.in-Seq.parts ∙ ap (λ ps. seq (trees ps)) (sym c.items-in-Seq.ensures)) is) c.in_turn.ensures.after
+
+pub undeclared-returns-in-Par-clause-after : goal.undeclared-returns-in-Par-clause-after
+undeclared-returns-in-Par-clause-after t c =
+    if_ok c.at_once.result _ _ (λ r is. as_is _ _ _ _ _ _ _ _ _ (ap tree c.in-Par.is ∙ tree-Par c.in-Par.parts ∙ ap (λ ps. par (trees ps)) (sym c.items-in-Par.ensures)) is) c.at_once.ensures.after
+
+pub undeclared-returns-in-If-clause-after : goal.undeclared-returns-in-If-clause-after
+undeclared-returns-in-If-clause-after t c =
+    if_ok c.first_choice.result _ _ (λ r is. as_is _ _ _ _ _ _ _ _ _ (ap tree c.in-If.is ∙ tree-If c.in-If.choices ∙ ap (λ ps. select (cases ps)) (sym c.items-in-If.ensures)) is) c.first_choice.ensures.after
+
+pub undeclared-returns-in-Alt-clause-after : goal.undeclared-returns-in-Alt-clause-after
+undeclared-returns-in-Alt-clause-after t c =
+    if_ok c.alternated.result _ _ (λ r is. as_is _ _ _ _ _ _ _ _ _ (ap tree c.in-Alt.is ∙ tree-Alt c.in-Alt.alternatives ∙ ap (λ ps. alt (branches ps)) (sym c.items-in-Alt.ensures)) is) c.alternated.ensures.after
+
+-- ---- PAR
+pub at_once-returns-then-is_empty-clause-after : goal.at_once-returns-then-is_empty-clause-after
+at_once-returns-then-is_empty-clause-after t c = ?
+
+pub at_once-after-requires : goal.at_once-after-requires
+at_once-after-requires t c =
+    let lt : 0 < length c.args.parts.now = omega (arith, c.if-parts-eq1.true) in
+    (omega (arith, weight_in_all c.args.parts.now 0 c.index-parts-0.result lt c.index-parts-0.is, c.decreases),
+    (fit_at c.args.frame.now.vars c.args.parts.now 0 c.index-parts-0.result c.requires.parts lt c.index-parts-0.is,
+      (usage_at c.args.parts.now 0 c.index-parts-0.result c.requires.usage lt c.index-parts-0.is, c.requires.rest)))
+
+pub at_once-returns-then-parts-eq1-clause-after : goal.at_once-returns-then-parts-eq1-clause-after
+at_once-returns-then-parts-eq1-clause-after t c =
+    let frame = c.args.frame.now in
+    if_ok c.after.result _ _
+    (λ r is. as_is _ _ _ _ _ _ (par (and_tree (tree c.index-parts-0.result) no_tree)) _ _ (ap par (one_tree c.args.parts.now c.index-parts-0.result c.if-parts-eq1.true c.index-parts-0.is))
+    (one_in c.after.new.world frame.vars frame.layout frame.bits frame.keep frame.closed.items frame.kept frame.inside (tree c.index-parts-0.result) c.args.rest r is))
+    c.after.ensures.after
