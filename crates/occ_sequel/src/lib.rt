@@ -1,6 +1,6 @@
 //! What follows processes that say what they change.
 #![tactic(auto)]
 
-mod sequel;
+mod joint;
 
-pub use sequel::sequel;
+pub use joint::sequel;
