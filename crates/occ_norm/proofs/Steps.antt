@@ -1,7 +1,7 @@
 -- The operators of the language on maps, in every environment of the variables in scope.
-use Rattle.std.proofs.Common.{◌≡◌, ◌<◌, ◌≤◌, ◌^◌, ◌↔◌, ◌==◌, ◌&&◌, ◌++◌, ℕ, Bool, true, false, List, [], ◌∷◌, Option, Some, None, Result, Ok, Err, IfOk, cond, refl, sym, ap, ◌∙◌, subst, arith}
+use Rattle.std.proofs.Common.{◌≡◌, ◌<◌, ◌≤◌, ◌^◌, ◌↔◌, ◌==◌, ◌&&◌, ◌++◌, ℕ, Bool, true, false, List, [], ◌∷◌, Option, Some, None, Result, Ok, Err, IfOk, bit_or, cond, refl, sym, ap, ◌∙◌, subst, arith}
 use Rattle.std.proofs.lemmas.Bool.{and_parts}
-use Rattle.std.proofs.lemmas.Nat.{pow_pos}
+use Rattle.std.proofs.lemmas.Nat.{or_lt, pow_pos}
 use Rattle.occ_base.specs.declared.event.Event.{Event}
 use Rattle.occ_base.specs.declared.names.Name.{Name}
 use Rattle.occ_base.specs.declared.width.Width.{Width}
@@ -75,6 +75,12 @@ skip-extends v w k keep r is = record {
   where
     more : {a b c : ℕ} → a < b → b ≤ c → a < c
     more {a} {b} {c} h l = omega (arith, h, l)
+
+pub over_skip : (w : World) (n keep : ℕ) (r : MapId) → HasNodes w r → IsSkip w keep r → IsOver w n r
+over_skip w n keep r has is = record { has = has; same = λ x y h l agree. is.everywhere.values x ∙ sym (is.everywhere.values y) }
+
+pub keep_below : (keep needed both n : ℕ) → keep < 2 ^ n → needed < 2 ^ n → both ≡ bit_or keep needed → both < 2 ^ n
+keep_below keep needed both n h k e = subst (λ b. b < 2 ^ n) (sym e) (or_lt n keep needed h k)
 
 pub support-extends : (v w : World) → Extends v w → (count : ℕ) (map : MapId) (bits : ℕ) → HasNodes v map → IsSupport v count map bits → IsSupport w count map bits
 support-extends v w k count map bits has is = record {

@@ -1,6 +1,6 @@
 -- The parts of lists, one by one from the end: their usage, and the list that is left.
-use Rattle.std.proofs.Common.{true, ◌≡◌, ◌<◌, ◌≤◌, ◌+◌, ◌-◌, ℕ, zero, suc, List, [], ◌∷◌, length, get_or, drop, refl, sym, ap, ◌∙◌, subst, arith}
-use Rattle.std.proofs.lemmas.Bool.{and_parts}
+use Rattle.std.proofs.Common.{Bool, true, false, ◌==◌, ◌≡◌, ◌<◌, ◌≤◌, ◌+◌, ◌-◌, ℕ, zero, suc, List, [], ◌∷◌, length, get_or, drop, refl, sym, ap, ◌∙◌, subst, arith}
+use Rattle.std.proofs.lemmas.Bool.{and_parts, eqb-true}
 use Rattle.std.proofs.lemmas.List.{drop_more}
 use Rattle.occ_syntax.specs.declared.expr.Expr.{Expr}
 use Rattle.occ_syntax.specs.declared.expr.Guard.{Guard}
@@ -67,3 +67,11 @@ pub types_at : (ps : List Proc) (i : ℕ) (p : Proc) (Γ : Environment) → all_
 types_at [] i p Γ h k e = absurd (omega (arith, k))
 types_at (q ∷ ps) zero p Γ h k e = ap (λ r. types_kept (tree r) Γ) e ∙ (and_parts (types_kept (tree q) Γ) (all_types_kept (trees ps) Γ) h).0
 types_at (q ∷ ps) (suc i) p Γ h k e = types_at ps i p Γ (and_parts (types_kept (tree q) Γ) (all_types_kept (trees ps) Γ) h).1 (omega (arith, k)) e
+
+-- whether a list is empty, as code asks it
+pub no_parts : (ps : List Proc) {b : Bool} → b ≡ (length ps == 0) → b ≡ true → trees ps ≡ no_tree
+no_parts ps e h = no_trees ps (eqb-true (length ps) 0 (sym e ∙ h))
+
+pub some_parts : (ps : List Proc) (left : ℕ) {b : Bool} → left ≡ 0 → b ≡ (length ps == 0) → b ≡ false → left < length ps
+some_parts [] left none e h = absurd (let f : true ≡ false = sym e ∙ h in cc)
+some_parts (p ∷ ps) left none e h = omega (arith, none)
