@@ -1,1 +1,3 @@
+pub mod Offering
 pub mod Alternation
+pub mod Inputs

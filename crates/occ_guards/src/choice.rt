@@ -1,18 +1,21 @@
-ghost use Rattle.std.specs.Prelude.{◌≡◌, ℕ, ◌+◌, ◌^◌, ◌≤◌, ◌<◌, true, List, length, IfOk, IsSome};
+ghost use Rattle.std.specs.Prelude.{◌≡◌, ℕ, ◌+◌, ◌^◌, ◌≤◌, ◌<◌, true, List, length, take, IfOk, IsSome};
 ghost use Rattle.std.specs.List.{All};
 ghost use Rattle.occ_bits.specs.Layout.{environment_in};
-ghost use Rattle.occ_dd.specs.Store.{IsKnown as IsSetKnown};
+ghost use Rattle.occ_bits.specs.Words.{number_at};
+ghost use Rattle.occ_dd.specs.Store.{IsKnown as IsSetKnown, has};
 ghost use Rattle.occ_follow.specs.Sequence.{HasNodes};
 ghost use Rattle.occ_lift.specs.Maps.{Extends, MayHaveNodes};
 ghost use Rattle.occ_syntax.specs.Scopes.{variable_width};
 ghost use Rattle.occ_syntax.specs.Types.{type_of};
 ghost use Rattle.occ_syntax.specs.Scopes.{Environment};
-ghost use Rattle.occ_syntax.specs.Tree.{Branches, Exp, Tree, alt, and_branch, no_branch, receive, send};
+ghost use Rattle.occ_syntax.specs.Tree.{Branches, Exp, Tree, alt, and_branch, input, no_branch, output, receive, send};
 ghost use Rattle.occ_syntax.specs.Types.{is_condition, types_kept, waiting_kept};
 ghost use Rattle.occ_syntax.specs.View.{exp, waiting};
 ghost use Rattle.occ_frame.specs.After.{IsAfter, IsOver};
 ghost use Rattle.occ_frame.specs.Placed.{CanWait, IsAround};
-ghost use Rattle.occ_guards.specs.Alternation.{IsAlternation, IsEnabledBy};
+ghost use Rattle.occ_guards.specs.Alternation.{IsAlternation, IsEnabledBy, IsOffered, IsUnited};
+ghost use Rattle.occ_guards.specs.Inputs.{AreInputs, AreOutputs};
+ghost use Rattle.occ_guards.specs.Offering.{IsGuarded};
 
 use occ_base::{Dir, Event, Memory, Name};
 use occ_dd::SetId;
@@ -57,6 +60,7 @@ fn input_of(
     requires next { HasNodes world.old next }
     ensures extends { Extends world.old world.new }
     ensures nodes { IfOk result (HasNodes world.new) }
+    ensures inputs { IfOk result (AreInputs world.new inputs.chan inputs.first 0 inputs.keep value next) }
 {
     let change = (u64::from(value) << inputs.first) & inputs.keep;
     let there = shifted(alloc, world, next, change)?;
@@ -80,9 +84,11 @@ fn input_from(
     requires left { left ≤ 8 }
     requires first { inputs.first + left ≤ 64 }
     requires below { inputs.first < 64 }
+    requires room { value + 2 ^ left ≤ 256 }
     requires next { HasNodes world.old next }
     ensures extends { Extends world.old world.new }
     ensures nodes { IfOk result (HasNodes world.new) }
+    ensures inputs { IfOk result (AreInputs world.new inputs.chan inputs.first left inputs.keep value next) }
 {
     if left == 0 {
         return input_of(alloc, world, inputs, value, next);
@@ -92,7 +98,7 @@ fn input_from(
     let zero = cofactor(world, next, bit, false)?;
     let one = cofactor(world, next, bit, true)?;
     let low = input_from(alloc, world, inputs, digit, value, zero)?;
-    let high = input_from(alloc, world, inputs, digit, value | 1 << digit, one)?;
+    let high = input_from(alloc, world, inputs, digit, value + (1 << digit), one)?;
     merged(alloc, world, low, high)
 }
 
@@ -109,6 +115,8 @@ pub fn input(
     requires next { IsOver world.old frame.now.bits next }
     ensures extends { Extends world.old world.new }
     ensures nodes { IfOk result (HasNodes world.new) }
+    ensures guarded { IfOk result (λ r. (Γ : Environment) → IsAround Γ frame.now.vars → types_kept (receive chan.0 var.0) Γ ≡ true
+        → IsGuarded world.new frame.now.layout frame.now.keep frame.now.closed.items Γ (input chan.0 var.0) next r) }
     ensures after { IfOk result (λ r. (Γ : Environment) → IsAround Γ frame.now.vars → types_kept (receive chan.0 var.0) Γ ≡ true
         → IsAfter world.new frame.now.layout frame.now.keep frame.now.closed.items Γ (receive chan.0 var.0) next r) }
 {
@@ -116,9 +124,10 @@ pub fn input(
         return stop(alloc, world);
     }
     let (width, first) = frame.slot(var);
-    let keep = frame.keep & bits_from(first, width.bits());
+    let bits = width.bits();
+    let keep = frame.keep & bits_from(first, bits);
     let inputs = Inputs { chan, first, keep };
-    let map = input_from(alloc, world, inputs, u32::from(width.bits()), 0, next)?;
+    let map = input_from(alloc, world, inputs, u32::from(bits), 0, next)?;
     rebased(alloc, world, keep, map)
 }
 
@@ -135,11 +144,14 @@ fn output_from(
 ) -> Result<MapId, Memory>
     requires few { length digits.now ≤ 8 }
     requires left { left ≤ length digits.now }
+    requires room { value + 2 ^ left ≤ 256 }
     requires digits { All (IsSetKnown world.old.store) digits.now }
     requires set { IsSetKnown world.old.store set }
     requires next { HasNodes world.old outputs.next }
     ensures extends { Extends world.old world.new }
     ensures nodes { IfOk result (HasNodes world.new) }
+    ensures outputs { IfOk result (AreOutputs world.new outputs.chan (has world.old.store set)
+        (λ x. value + number_at world.old.store (take left digits.now) x) outputs.next) }
 {
     if set == world.store.empty() {
         return stop(alloc, world);
@@ -156,7 +168,7 @@ fn output_from(
     let digit = digits[place];
     let with = within(world, set, digit)?;
     let outside = without(world, set, digit)?;
-    let one = value | 1 << place;
+    let one = value + (1 << place);
     let high = output_from(alloc, world, outputs, digits, place, with, one)?;
     let low = output_from(alloc, world, outputs, digits, place, outside, value)?;
     choose(world, digit, high, low)
@@ -175,10 +187,13 @@ pub fn output(
     requires next { IsOver world.old frame.now.bits next }
     ensures extends { Extends world.old world.new }
     ensures nodes { IfOk result (HasNodes world.new) }
+    ensures guarded { IfOk result (λ r. (Γ : Environment) → IsAround Γ frame.now.vars → types_kept (send chan.0 (exp value.now)) Γ ≡ true
+        → IsGuarded world.new frame.now.layout frame.now.keep frame.now.closed.items Γ (output chan.0 (exp value.now)) next r) }
     ensures after { IfOk result (λ r. (Γ : Environment) → IsAround Γ frame.now.vars → types_kept (send chan.0 (exp value.now)) Γ ≡ true
         → IsAfter world.new frame.now.layout frame.now.keep frame.now.closed.items Γ (send chan.0 (exp value.now)) next r) }
 {
-    if frame.is_closed(chan) {
+    let closed = frame.is_closed(chan);
+    if closed {
         return stop(alloc, world);
     }
     let digits = digits(alloc, world, frame, value)?;
@@ -256,6 +271,7 @@ impl Alternation {
         ensures extends { Extends world.old world.new }
         ensures waiting { IfOk result (λ r. HasNodes world.new r.waiting) }
         ensures ready { IfOk result (λ r. MayHaveNodes world.new r.ready) }
+        ensures united { IfOk result (λ r. (r.waiting ≡ self.waiting) × IsUnited world.new (has world.old.store enabled) self.ready next r.ready) }
     {
         let nothing = constant(world, None)?;
         let there = choose(world, enabled, next, nothing)?;
@@ -281,6 +297,7 @@ impl Alternation {
         ensures extends { Extends world.old world.new }
         ensures waiting { IfOk result (λ r. HasNodes world.new r.waiting) }
         ensures ready { IfOk result (λ r. MayHaveNodes world.new r.ready) }
+        ensures offered { IfOk result (λ r. (r.ready ≡ self.ready) × IsOffered world.new (has world.old.store enabled) self.waiting offered r.waiting) }
     {
         let stopped = stop(alloc, world)?;
         let there = choose(world, enabled, offered, stopped)?;

@@ -1,4 +1,5 @@
-ghost use Rattle.std.specs.Prelude.{◌≡◌, ℕ, ◌+◌, ◌^◌, ◌≤◌, ◌<◌, true, Some, drop, length, slice_get, bit_or, IfOk};
+ghost use Rattle.std.specs.Prelude.{◌≡◌, ℕ, ◌+◌, ◌^◌, ◌≤◌, ◌<◌, true, Some, drop, length, slice_get, bit_or, if◌then◌else◌, IfOk};
+ghost use Rattle.std.specs.Int.{bit_at};
 ghost use Rattle.occ_bits.specs.Layout.{IsLayout};
 ghost use Rattle.occ_follow.specs.Sequence.{HasNodes};
 ghost use Rattle.occ_lift.specs.Maps.{Extends, IsSkip};
@@ -6,11 +7,14 @@ ghost use Rattle.occ_syntax.specs.Scopes.{Environment};
 ghost use Rattle.occ_syntax.specs.Tree.{par};
 ghost use Rattle.occ_syntax.specs.Types.{all_types_kept};
 ghost use Rattle.occ_syntax.specs.Usage.{AllKeepUsage, AreSeparate};
-ghost use Rattle.occ_syntax.specs.View.{tree, trees};
+ghost use Rattle.occ_syntax.specs.View.{numbers, tree, trees};
 ghost use Rattle.occ_frame.specs.After.{IsAfter, IsOver, WritesWithin};
 ghost use Rattle.occ_frame.specs.Changes.{IsSupport};
 ghost use Rattle.occ_frame.specs.Placed.{IsAround};
-ghost use Rattle.occ_sides.specs.Sides.{AreUsers, closed_from, sole_of};
+ghost use Rattle.occ_sides.specs.Sides.{AreUsers, AreWritten, closed_from, sole_of};
+ghost use Rattle.occ_sides.specs.Spans.{covers, is_of};
+ghost use Rattle.occ_base.specs.Width.{bits_of};
+ghost use Rattle.occ_syntax.specs.Names.{is_in};
 
 use crate::users::{Users, shared, sole, users_of};
 use occ_base::{Memory, Name, Width};
@@ -56,11 +60,7 @@ impl Sides {
         let keep = frame.keep | needed;
         let ended = skip(alloc, world, keep)?;
         let users = users_of(alloc, parts, frame.closed.as_slice())?;
-        let mut written: u64 = 0;
-        for part in parts {
-            let bits = written_bits(alloc, frame, part)?;
-            written |= bits;
-        }
+        let written = all_written(alloc, frame, parts)?;
         Ok(Sides {
             needed,
             keep,
@@ -87,23 +87,57 @@ pub fn side_frame(
     frame.with(alloc, sides.keep, closed)
 }
 
+// Whether a name is among some.
+fn has_name(names: &[Name], name: Name) -> bool
+    ensures { result ≡ is_in (numbers names.now) name.0 }
+{
+    names.contains(&name)
+}
+
+// The bits of a variable, if its name is among some.
+fn entry_bits(entry: &(Name, Width, u32), names: &[Name]) -> u64
+    requires { entry.now.2 + bits_of entry.now.1 ≤ 64 }
+    ensures { (k : ℕ) → k < 64 → bit_at result k ≡ (if is_of (numbers names.now) k entry.now then 1 else 0) }
+{
+    let named = has_name(names, entry.0);
+    if !named {
+        return 0;
+    }
+    bits_from(entry.2, entry.1.bits())
+}
+
 // The bits of the variables of some names.
 fn bits_of_names(entries: &[(Name, Width, u32)], names: &[Name]) -> u64
     requires { IsLayout entries.now }
+    ensures { (k : ℕ) → k < 64 → bit_at result k ≡ (if covers entries.now (numbers names.now) k then 1 else 0) }
 {
     let mut bits: u64 = 0;
     for entry in entries {
-        if names.contains(&entry.0) {
-            bits |= bits_from(entry.2, entry.1.bits());
-        }
+        let more = entry_bits(entry, names);
+        bits |= more;
     }
     bits
 }
 
 /// The bits of the variables that a part writes.
-pub fn written_bits(alloc: Global, frame: &Frame, part: &Proc) -> Result<u64, Memory> {
+pub fn written_bits(alloc: Global, frame: &Frame, part: &Proc) -> Result<u64, Memory>
+    ensures small { IfOk result (λ r. r < 2 ^ 64) }
+    ensures written { IfOk result (AreWritten frame.now.layout (tree part.now)) }
+{
     let names = written(alloc, part)?;
     Ok(bits_of_names(frame.layout.items(), names.as_slice()))
+}
+
+// The bits of the variables that some parts write.
+fn all_written(alloc: Global, frame: &Frame, parts: &[Proc]) -> Result<u64, Memory>
+    ensures { IfOk result (AreWritten frame.now.layout (par (trees parts.now))) }
+{
+    let mut written: u64 = 0;
+    for part in parts {
+        let bits = written_bits(alloc, frame, part)?;
+        written |= bits;
+    }
+    Ok(written)
 }
 
 /// The map of a part of a PAR beside those behind it, if there are any.
@@ -128,10 +162,12 @@ pub fn beside(
         → (place + 1 < length parts.now → IsAfter world.old frame.now.layout sides.now.keep (closed_from (place + 1) sides.now.users.items) Γ (par (trees (drop (place + 1) parts.now))) sides.now.ended others)
         → IsAfter world.new frame.now.layout sides.now.keep (closed_from place sides.now.users.items) Γ (par (trees (drop place parts.now))) sides.now.ended r) }
 {
-    if parts.len() - place == 1 {
+    let left = parts.len() - place;
+    if left == 1 {
         return Ok(first);
     }
     let bits = written_bits(alloc, frame, &parts[place])?;
     let closed = shared(alloc, sides.users.as_slice(), place)?;
-    woven(alloc, world, bits, &closed, first, others)
+    let both = woven(alloc, world, bits, closed.as_slice(), first, others)?;
+    Ok(both)
 }

@@ -1,3 +1,10 @@
+ghost use Rattle.std.specs.Prelude.{◌≡◌, ◌==◌, ◌&&◌, ◌++◌, ◌∷◌, [], List, length, not, if◌then◌else◌, OnOk, IfOk};
+ghost use Rattle.occ_base.specs.declared.names.Name.{Name};
+ghost use Rattle.occ_syntax.specs.View.{tree, trees};
+ghost use Rattle.indexmap.specs.IndexMap.{get};
+ghost use Rattle.occ_sides.specs.Sides.{AreUsers, shared_of, sole_of, uses};
+ghost use Rattle.occ_sides.specs.Spans.{IsSpan, first_of, has_end_on, listed, noted, same_name, user_of};
+
 use indexmap::IndexMap;
 use occ_base::{Dir, Memory, Name};
 use occ_names::ends;
@@ -12,12 +19,21 @@ pub struct Users {
     pub last: usize,
 }
 
-// Notes that a part uses a channel.
-fn note(used: &mut IndexMap<Name, (usize, usize)>, chan: Name, place: usize) -> Result<(), Memory> {
-    let first = match used.get(&chan) {
-        Some(users) => users.0,
+// The first place of a channel, where this place is the next one.
+fn first_place(used: &IndexMap<Name, (usize, usize)>, chan: Name, place: usize) -> usize
+    ensures { result ≡ first_of (get same_name used.now chan) place }
+{
+    match used.get(&chan) {
+        Some(places) => places.0,
         None => place,
-    };
+    }
+}
+
+// Notes that a part uses a channel.
+fn note(used: &mut IndexMap<Name, (usize, usize)>, chan: Name, place: usize) -> Result<(), Memory>
+    ensures { OnOk result ((c : Name) → get same_name used.new c ≡ noted (same_name chan c) (get same_name used.old c) place) }
+{
+    let first = first_place(used, chan, place);
     used.insert(chan, (first, place))?;
     Ok(())
 }
@@ -27,51 +43,127 @@ fn note_all(
     used: &mut IndexMap<Name, (usize, usize)>,
     ends: &[(Name, Dir)],
     place: usize,
-) -> Result<(), Memory> {
+) -> Result<(), Memory>
+    ensures { OnOk result ((c : Name) → get same_name used.new c ≡ noted (has_end_on ends.now c) (get same_name used.old c) place) }
+{
     for end in ends {
         note(used, end.0, place)?;
     }
     Ok(())
 }
 
-/// The channels among some that the parts use, each with the first and the last part that does.
-pub fn users_of(alloc: Global, parts: &[Proc], closed: &[Name]) -> Result<Vec<Users>, Memory> {
+// Notes the channels that a part uses.
+fn note_part(
+    alloc: Global,
+    used: &mut IndexMap<Name, (usize, usize)>,
+    part: &Proc,
+    place: usize,
+) -> Result<(), Memory>
+    ensures { OnOk result ((c : Name) → get same_name used.new c ≡ noted (uses (tree part.now) c.0) (get same_name used.old c) place) }
+{
+    let found = ends(alloc, part)?;
+    note_all(used, found.as_slice(), place)?;
+    Ok(())
+}
+
+// The channels that the parts use, each with the first and the last part that does.
+fn places_of(alloc: Global, parts: &[Proc]) -> Result<IndexMap<Name, (usize, usize)>, Memory>
+    ensures { IfOk result (λ r. (c : Name) → IsSpan (trees parts.now) (length parts.now) c.0 (get same_name r c)) }
+{
     let mut used = IndexMap::new(alloc);
     for place in 0..parts.len() {
-        let ends = ends(alloc, &parts[place])?;
-        note_all(&mut used, ends.as_slice(), place)?;
+        note_part(alloc, &mut used, &parts[place], place)?;
     }
+    Ok(used)
+}
+
+// Adds the user of a channel, if there is one.
+fn add(users: &mut Vec<Users>, chan: Name, places: Option<(usize, usize)>) -> Result<(), Memory>
+    ensures { OnOk result (users.new.items ≡ users.old.items ++ user_of chan places) }
+{
+    if let Some((first, last)) = places {
+        users.push(Users { chan, first, last })?;
+    }
+    Ok(())
+}
+
+// The first and the last place of a channel.
+fn found_places(used: &IndexMap<Name, (usize, usize)>, chan: Name) -> Option<(usize, usize)>
+    ensures { result ≡ get same_name used.now chan }
+{
+    match used.get(&chan) {
+        Some(places) => Some(*places),
+        None => None,
+    }
+}
+
+// The users of those of some channels that are used.
+fn listed(
+    alloc: Global,
+    used: &IndexMap<Name, (usize, usize)>,
+    chans: &[Name],
+) -> Result<Vec<Users>, Memory>
+    ensures { IfOk result (λ r. r.items ≡ listed (get same_name used.now) chans.now) }
+{
     let mut users = Vec::new(alloc);
-    for chan in closed {
-        if let Some(found) = used.get(chan) {
-            users.push(Users {
-                chan: *chan,
-                first: found.0,
-                last: found.1,
-            })?;
-        }
+    for chan in chans {
+        let places = found_places(used, *chan);
+        add(&mut users, *chan, places)?;
     }
     Ok(users)
 }
 
+/// The channels among some that the parts use, each with the first and the last part that does.
+pub fn users_of(alloc: Global, parts: &[Proc], closed: &[Name]) -> Result<Vec<Users>, Memory>
+    ensures { IfOk result (λ r. AreUsers (trees parts.now) closed.now r.items) }
+{
+    let used = places_of(alloc, parts)?;
+    let users = listed(alloc, &used, closed)?;
+    Ok(users)
+}
+
+// Adds a channel, if it is wanted.
+fn push_if(chans: &mut Vec<Name>, chan: Name, wanted: bool) -> Result<(), Memory>
+    ensures { OnOk result (chans.new.items ≡ chans.old.items ++ (if wanted then chan ∷ [] else [])) }
+{
+    if wanted {
+        chans.push(chan)?;
+    }
+    Ok(())
+}
+
+fn is_sole(user: &Users, place: usize) -> bool
+    ensures { result ≡ (user.now.first == place && user.now.last == place) }
+{
+    user.first == place && user.last == place
+}
+
+fn is_shared(user: &Users, place: usize) -> bool
+    ensures { result ≡ (user.now.first == place && not (user.now.last == place)) }
+{
+    user.first == place && user.last != place
+}
+
 /// The channels that one part alone uses.
-pub fn sole(alloc: Global, users: &[Users], place: usize) -> Result<Vec<Name>, Memory> {
+pub fn sole(alloc: Global, users: &[Users], place: usize) -> Result<Vec<Name>, Memory>
+    ensures { IfOk result (λ r. r.items ≡ sole_of place users.now) }
+{
     let mut chans = Vec::new(alloc);
     for user in users {
-        if user.first == place && user.last == place {
-            chans.push(user.chan)?;
-        }
+        let wanted = is_sole(user, place);
+        push_if(&mut chans, user.chan, wanted)?;
     }
     Ok(chans)
 }
 
 /// The channels that a part and one behind it use, and none in front of it.
-pub fn shared(alloc: Global, users: &[Users], place: usize) -> Result<Vec<Name>, Memory> {
+pub fn shared(alloc: Global, users: &[Users], place: usize) -> Result<Vec<Name>, Memory>
+    ensures { IfOk result (λ r. r.items ≡ shared_of place users.now) }
+{
     let mut chans = Vec::new(alloc);
     for user in users {
-        if user.first == place && user.last != place {
-            chans.push(user.chan)?;
-        }
+        let wanted = is_shared(user, place);
+        push_if(&mut chans, user.chan, wanted)?;
     }
     Ok(chans)
 }

@@ -1,1 +1,6 @@
 pub mod Keeping
+pub mod Places
+pub mod Written
+pub mod Apart
+pub mod Substituted
+pub mod Assigning

@@ -1,5 +1,5 @@
 -- The bits that an assignment writes.
-use Rattle.std.specs.Prelude.{ℕ, ◌<◌, List}
+use Rattle.std.specs.Prelude.{◌<◌, List}
 use Rattle.std.specs.List.{All}
 use Rattle.occ_dd.specs.Store.{IsKnown}
 use Rattle.occ_dd.specs.declared.store.Store.{Store}

@@ -1,4 +1,4 @@
-ghost use Rattle.std.specs.Prelude.{◌≡◌, ℕ, ◌+◌, ◌≤◌, ◌<◌, true, length, IfOk, OnOk};
+ghost use Rattle.std.specs.Prelude.{◌≡◌, ℕ, ◌+◌, ◌++◌, ◌≤◌, ◌<◌, true, length, IfOk, OnOk};
 ghost use Rattle.std.specs.List.{All};
 ghost use Rattle.occ_bits.specs.Layout.{environment_in};
 ghost use Rattle.occ_dd.specs.Store.{IsKnown as IsSetKnown};
@@ -11,9 +11,10 @@ ghost use Rattle.occ_syntax.specs.View.{exp, exps, numbers};
 ghost use Rattle.occ_syntax.specs.Scopes.{Environment};
 ghost use Rattle.occ_syntax.specs.Tree.{assign};
 ghost use Rattle.occ_frame.specs.After.{IsAfter, IsOver};
-ghost use Rattle.occ_frame.specs.Kept.{KeepMaps};
+ghost use Rattle.occ_frame.specs.Changes.{IsChanged};
 ghost use Rattle.occ_frame.specs.Placed.{IsAround};
 ghost use Rattle.occ_writes.specs.Writes.{AreWrites, IsWrite};
+ghost use Rattle.occ_writes.specs.Written.{Adds, AreAssigned, IsSubstituted, KeepSubstituted, digit_writes, step};
 
 use occ_base::{Memory, Name};
 use occ_dd::SetId;
@@ -35,7 +36,8 @@ pub struct Write {
 // Adds the writes of some digits, in a row from a bit on.
 fn add_digits(sets: &[SetId], first: u32, writes: &mut Vec<Write>) -> Result<(), Memory>
     requires { first + length sets.now ≤ 64 }
-    ensures { OnOk result ((s : Store) → AreWrites s writes.old.items → All (IsSetKnown s) sets.now → AreWrites s writes.new.items) }
+    ensures writes { OnOk result ((s : Store) → AreWrites s writes.old.items → All (IsSetKnown s) sets.now → AreWrites s writes.new.items) }
+    ensures each { OnOk result (writes.new.items ≡ writes.old.items ++ digit_writes first sets.now) }
 {
     for place in 0..sets.len() {
         let bit = first + place as u32;
@@ -60,6 +62,7 @@ fn add_writes(
     requires agree { agree (variable_width (environment_in frame.now.layout) var.0) (type_of (environment_in frame.now.layout) (exp value.now)) ≡ true }
     ensures extends { Extends world.old world.new }
     ensures writes { OnOk result (AreWrites world.new.store writes.new.items) }
+    ensures adds { OnOk result (Adds world.new.store frame.now.layout var.0 (exp value.now) writes.old.items writes.new.items) }
 {
     let (_, first) = frame.slot(var);
     let word = digits(alloc, world, frame, value)?;
@@ -79,6 +82,7 @@ fn writes_of(
     requires same { length vars.now ≡ length values.now }
     ensures extends { Extends world.old world.new }
     ensures writes { IfOk result (λ r. AreWrites world.new.store r.items) }
+    ensures assigned { IfOk result (λ r. AreAssigned world.new.store frame.now.layout (numbers vars.now) (exps values.now) r.items) }
 {
     let mut writes = Vec::new(alloc);
     for place in 0..vars.len() {
@@ -105,10 +109,10 @@ fn substituted(
     requires left { left ≤ length writes.now }
     requires writes { AreWrites world.old.store writes.now }
     requires map { HasNodes world.old map }
-    requires memo { KeepMaps world.old memo.old }
+    requires memo { KeepSubstituted world.old writes.now memo.old }
     ensures extends { Extends world.old world.new }
-    ensures memo { KeepMaps world.new memo.new }
-    ensures nodes { IfOk result (HasNodes world.new) }
+    ensures memo { KeepSubstituted world.new writes.now memo.new }
+    ensures substituted { IfOk result (IsSubstituted world.new writes.now left map) }
 {
     if left == 0 {
         return Ok(map);
@@ -144,6 +148,7 @@ fn written(
     requires map { HasNodes world.old map }
     ensures extends { Extends world.old world.new }
     ensures nodes { IfOk result (HasNodes world.new) }
+    ensures changed { IfOk result (IsChanged world.new (step world.old.store keep write) map) }
 {
     if !has_bit(keep, write.bit) {
         return Ok(map);

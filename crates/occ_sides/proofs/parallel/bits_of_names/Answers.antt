@@ -1,9 +1,18 @@
+use Rattle.std.proofs.lemmas.Nat.Bits.{bit_at-zero}
 use Rattle.occ_base.specs.declared.width.Width.TheVariants.{Bool as TruthValue}
 use Rattle.occ_frame.proofs.Placing.{entry_at}
-use Rattle.std.proofs.Common.{◌≡◌, ◌≤◌, ◌<◌, ◌+◌, ◌++◌, [], ◌∷◌, Some, List, length, get_or, refl, sym, ap, ◌∙◌, subst, arith}
-use Rattle.occ_lift.proofs.Worlds.{extends_refl, extends_trans, has_nodes-extends, may_have, may_have-extends}
-use Rattle.occ_frame.proofs.Keeping.{keep-extends, keep_learnt, keep_none, none_may, set-extends, sets-extend}
+use Rattle.occ_syntax.specs.View.{numbers}
+use Rattle.occ_sides.proofs.Writing.{bits_end, bits_more}
 use Rattle.occ_sides.proofs.parallel.bits_of_names.Goals as goal
 
-pub bits_from-bits-requires : goal.bits_from-bits-requires
-bits_from-bits-requires c = omega (arith, c.bits.ensures, entry_at c.args.entries.now c.requires c.loop-entry.entry-index (record { 0 = record { 0 = 0 }; 1 = TruthValue; 2 = 0 }) c.loop-entry-test.true)
+pub entry_bits-more-requires : goal.entry_bits-more-requires
+entry_bits-more-requires c = entry_at c.args.entries.now c.requires c.loop-entry.entry-index (record { 0 = record { 0 = 0 }; 1 = TruthValue; 2 = 0 }) c.loop-entry-test.true
+
+pub loop-entry-init : goal.loop-entry-init
+loop-entry-init c = λ k h. bit_at-zero k
+
+pub loop-entry-preserved : goal.loop-entry-preserved
+loop-entry-preserved c = bits_more _ _ _ (numbers c.args.names.now) _ _ c.loop-entry-test.true c.loop-entry.invariant c.entry_bits-more.ensures
+
+pub returns : goal.returns
+returns c = bits_end _ _ (numbers c.args.names.now) _ c.loop-entry-test.false c.loop-entry.invariant

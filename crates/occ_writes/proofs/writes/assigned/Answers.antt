@@ -1,19 +1,61 @@
 use Rattle.occ_bits.specs.Layout.{environment_in}
 use Rattle.occ_frame.proofs.Placing.{pairs_length}
-use Rattle.std.proofs.Common.{◌≡◌, ◌≤◌, ◌<◌, ◌+◌, ◌++◌, [], ◌∷◌, Some, List, length, get_or, refl, sym, ap, ◌∙◌, subst, arith}
-use Rattle.occ_lift.proofs.Worlds.{extends_refl, extends_trans, has_nodes-extends, may_have, may_have-extends}
-use Rattle.occ_frame.proofs.Keeping.{keep-extends, keep_learnt, keep_none, none_may, set-extends, sets-extend}
+use Rattle.std.proofs.Common.{get_or, refl, sym, ◌∙◌, subst, arith}
+use Rattle.occ_lift.proofs.Worlds.{extends_refl, extends_trans, has_nodes-extends}
+use Rattle.std.proofs.Common.{take, add-one}
+use Rattle.occ_frame.specs.Changes.{IsChanged}
+use Rattle.occ_syntax.specs.View.{exps, numbers}
+use Rattle.occ_writes.specs.Writes.{AreWrites}
+use Rattle.occ_writes.specs.Written.{AreAssigned, change_by}
+use Rattle.occ_writes.proofs.Assigning.{assign_after, changed_more, changed_start}
 use Rattle.occ_writes.proofs.Keeping.{writes-extend}
+use Rattle.occ_writes.proofs.Substituted.{keep_substituted_none, substituted_by}
+use Rattle.occ_writes.proofs.Written.{assigned-keeps}
 use Rattle.occ_writes.proofs.writes.assigned.Goals as goal
 
 pub writes_of-requires-clause-same : goal.writes_of-requires-clause-same
 writes_of-requires-clause-same c = pairs_length (environment_in c.args.frame.now.layout) c.args.vars.now c.args.values.now c.requires.pairs
 
 pub substituted-requires-clause-map : goal.substituted-requires-clause-map
-substituted-requires-clause-map c = (has_nodes-extends c.args.world.now c.writes_of.new.world c.writes_of.ensures.extends c.args.rest c.requires.rest)
+substituted-requires-clause-map c = (has_nodes-extends c.args.world.now c.writes_of.new.world c.writes_of.ensures.extends c.args.rest c.requires.rest.has)
 
 pub substituted-requires-clause-memo : goal.substituted-requires-clause-memo
-substituted-requires-clause-memo c = keep_none c.writes_of.new.world c.new-memo.result c.new-memo.ensures
+substituted-requires-clause-memo c = keep_substituted_none c.writes_of.new.world c.deref.result.now c.new-memo.result c.new-memo.ensures
+
+pub loop-write-init : goal.loop-write-init
+loop-write-init c = record {
+  extends = extends_refl c.substituted.new.world;
+  nodes = c.in_ok-map.ensures.substituted.has;
+  writes = subst (λ ws. AreWrites c.substituted.new.world.store ws) (sym c.deref-write-items.ensures.value) (writes-extend c.writes_of.new.world c.substituted.new.world c.substituted.ensures.extends c.in_ok-writes.writes.items c.in_ok-writes.ensures.writes);
+  changed = changed_start c.substituted.new.world c.substituted.new.world.store c.args.frame.now.keep c.deref-write-items.result.now c.in_ok-map.map c.in_ok-map.ensures.substituted.has;
+}
 
 pub loop-write-preserved : goal.loop-write-preserved
-loop-write-preserved c = record { extends = extends_trans c.args.world.now c.loop-write.world c.written.new.world c.loop-write.invariant.extends c.written.ensures.extends; nodes = c.in_ok-next.ensures.nodes; writes = writes-extend c.loop-write.world c.written.new.world c.written.ensures.extends _ c.loop-write.invariant.writes }
+loop-write-preserved c = record {
+  extends = extends_trans c.substituted.new.world c.loop-write.world c.written.new.world c.loop-write.invariant.extends c.written.ensures.extends;
+  nodes = c.in_ok-next.ensures.nodes;
+  writes = writes-extend c.loop-write.world c.written.new.world c.written.ensures.extends _ c.loop-write.invariant.writes;
+  changed = subst (λ n. IsChanged c.written.new.world (change_by c.substituted.new.world.store c.args.frame.now.keep (take n c.deref-write-items.result.now)) c.in_ok-map.map c.in_ok-next.next) (sym (add-one c.loop-write.write-index))
+      (changed_more c.substituted.new.world c.loop-write.world c.written.new.world c.loop-write.invariant.extends c.written.ensures.extends c.args.frame.now.keep c.deref-write-items.result.now
+      (subst (λ ws. AreWrites c.substituted.new.world.store ws) (sym c.deref-write-items.ensures.value) (writes-extend c.writes_of.new.world c.substituted.new.world c.substituted.ensures.extends c.in_ok-writes.writes.items c.in_ok-writes.ensures.writes))
+      c.loop-write.write-index (get_or c.deref-write-items.result.now c.loop-write.write-index (record { bit = 0; set = record { 0 = 0 } })) (record { bit = 0; set = record { 0 = 0 } })
+      c.in_ok-map.map c.loop-write.map c.in_ok-next.next (omega arith) refl
+      (has_nodes-extends c.substituted.new.world c.loop-write.world c.loop-write.invariant.extends c.in_ok-map.map c.in_ok-map.ensures.substituted.has)
+      c.loop-write.invariant.nodes c.loop-write.invariant.changed c.in_ok-next.ensures.changed);
+}
+
+pub returns-clause-after : goal.returns-clause-after
+returns-clause-after c =
+    assign_after c.args.world.now c.substituted.new.world c.loop-write.world (extends_trans c.args.world.now c.writes_of.new.world c.substituted.new.world c.writes_of.ensures.extends c.substituted.ensures.extends) c.loop-write.invariant.extends
+    c.args.frame.now.vars c.args.frame.now.layout c.args.frame.now.bits c.args.frame.now.keep c.args.frame.now.closed.items c.args.frame.now.kept c.args.frame.now.inside
+    (numbers c.args.vars.now) (exps c.args.values.now) c.args.rest c.in_ok-map.map c.loop-write.map c.requires.pairs c.requires.rest
+    c.deref-write-items.result.now
+    (subst (λ ws. AreWrites c.substituted.new.world.store ws) (sym c.deref-write-items.ensures.value) (writes-extend c.writes_of.new.world c.substituted.new.world c.substituted.ensures.extends c.in_ok-writes.writes.items c.in_ok-writes.ensures.writes))
+    (subst (λ ws. AreAssigned c.substituted.new.world.store c.args.frame.now.layout (numbers c.args.vars.now) (exps c.args.values.now) ws) (sym c.deref-write-items.ensures.value)
+    (assigned-keeps c.writes_of.new.world.store c.substituted.new.world.store c.substituted.ensures.extends.grows.stored c.args.frame.now.layout (numbers c.args.vars.now) (exps c.args.values.now) c.in_ok-writes.writes.items c.in_ok-writes.ensures.assigned))
+    (substituted_by c.substituted.new.world c.deref.result.now c.deref-write-items.result.now c.len.result c.args.rest c.in_ok-map.map (c.deref.ensures.value ∙ sym c.deref-write-items.ensures.value)
+    (c.len.ensures ∙ sym c.deref-write-items.ensures.len) c.in_ok-map.ensures.substituted)
+    c.loop-write.write-index c.loop-write-test.false c.loop-write.invariant.changed
+
+pub returns-clause-extends : goal.returns-clause-extends
+returns-clause-extends c = extends_trans c.args.world.now c.substituted.new.world c.loop-write.world (extends_trans c.args.world.now c.writes_of.new.world c.substituted.new.world c.writes_of.ensures.extends c.substituted.ensures.extends) c.loop-write.invariant.extends

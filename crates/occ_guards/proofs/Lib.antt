@@ -1,0 +1,14 @@
+pub mod Offering
+pub mod Making
+pub mod Branching
+pub mod Alternating
+pub mod Joining
+pub mod Placed
+pub mod Receiving
+pub mod Guarding
+pub mod Alternatives
+pub mod Steps
+pub mod Adding
+pub mod Done
+pub mod Rooms
+pub mod Values
