@@ -1,0 +1,45 @@
+-- Lines as a part.
+use Rattle.std.proofs.Common.{◌≡◌, ℕ, Bool, true, false, List, Option, Some, None, refl, sym, ap, ◌∙◌, ◌⊎◌, inl, inr}
+use Rattle.std.specs.Prelude.{is_some}
+use Rattle.occ_lex.specs.declared.token.Line.{Line}
+use Rattle.occ_symbol.specs.declared.symbol.Row.{Row}
+use Rattle.occ_symbol.specs.Symbols.{rows_of}
+use Rattle.occ_draft.specs.Forest.{Forest, Laid, lines_at}
+use Rattle.occ_layout.specs.declared.placed.Frame.TheVariants as frame
+use Rattle.occ_layout.specs.Layout.{least_bad}
+use Rattle.occ_layout.specs.Nesting.{Nest}
+use Rattle.occ_layout.specs.Whole.{every_line, is_single}
+use Rattle.occ_layout.proofs.Levels.{good_nest}
+use Rattle.occ_layout.proofs.Framed.{single_of}
+use Rattle.occ_layout.proofs.Options.{options_of}
+use Rattle.occ_kept.specs.Sound.{are_placed}
+use Rattle.occ_parse.proofs.Placed.{placed_from}
+use Rattle.occ_reading.specs.declared.bound.Bound.TheVariants as bound
+use Rattle.occ_reading.specs.declared.fault.ParseFault.{ParseFault}
+use Rattle.occ_reading.specs.declared.fault.ParseFault.TheVariants as fault
+use Rattle.occ_reading.specs.Limits.{stopped}
+use Rattle.occ_reading.specs.Reading.{AreForms}
+use Rattle.occ_part.specs.Parts.{AreJudged, IsWellLaid, IsIllLaid, badly, behind, IsPart, IsNoPart}
+
+module _ (rows : List Laid) (stop : Option ParseFault) (more : Bool) (r : Option ℕ) (m : more ≡ is_some stop) (h : r ≡ least_bad frame.Part more rows) where
+  good : r ≡ None → stop ≡ None → least_bad frame.Part false rows ≡ None
+  good n s = ap (λ a. least_bad frame.Part a rows) (sym (m ∙ ap (λ t. is_some t) s)) ∙ sym h ∙ n
+
+  pub good_nests : r ≡ None → stop ≡ None → Nest 1 1 rows
+  good_nests n s = good_nest frame.Part false rows (good n s)
+
+  pub good_laid : (f : Forest) → r ≡ None → stop ≡ None → lines_at 1 f ≡ rows → IsWellLaid rows stop f
+  good_laid f n s e = record { lines = e; good = good n s; whole = s }
+
+  pub bad_line : (n : ℕ) → r ≡ Some n → IsIllLaid rows stop (fault.Form n)
+  bad_line n e = badly n (ap (λ a. least_bad frame.Part a rows) (sym m) ∙ sym h ∙ e)
+
+  pub line_behind : (f : ParseFault) → r ≡ None → stop ≡ Some f → IsIllLaid rows stop f
+  line_behind f n s = behind f s (ap (λ a. least_bad frame.Part a rows) (sym (m ∙ ap (λ t. is_some t) s)) ∙ sym h ∙ n)
+
+-- a part has no replicators, and declares nothing among choices and alternatives
+pub part_single : (rows : List Laid) (stop : Option ParseFault) (f : Forest) → IsWellLaid rows stop f → every_line is_single f ≡ true
+part_single rows stop f w = single_of frame.Part 1 rows f (λ k. refl) w.lines w.good
+
+pub part_placed : (rows : List Laid) (stop : Option ParseFault) (f : Forest) → IsWellLaid rows stop f → are_placed f ≡ true
+part_placed rows stop f w = placed_from f (options_of frame.Part false 1 rows f w.lines w.good)

@@ -1,0 +1,10 @@
+mod Single
+mod Kept
+mod Rows
+mod Listed
+mod Known
+mod Laid
+mod Scoped
+mod Typed
+mod Covered
+mod Formed

@@ -1,0 +1,4 @@
+pub mod Elements
+pub mod Arrays
+pub mod Parts
+pub mod Resolving
