@@ -1,6 +1,8 @@
 -- Lines as a part.
-use Rattle.std.proofs.Common.{◌≡◌, ℕ, Bool, true, false, List, Option, Some, None, refl, sym, ap, ◌∙◌, ◌⊎◌, inl, inr}
+use Rattle.std.proofs.Common.{◌≡◌, ℕ, Bool, true, false, List, [], ◌∷◌, map, Option, Some, None, refl, sym, ap, subst, ◌∙◌}
 use Rattle.std.specs.Prelude.{is_some}
+use Rattle.occ_base.specs.declared.names.Name.{Name}
+use Rattle.occ_syntax.specs.View.{numbers}
 use Rattle.occ_lex.specs.declared.token.Line.{Line}
 use Rattle.occ_symbol.specs.declared.symbol.Row.{Row}
 use Rattle.occ_symbol.specs.Symbols.{rows_of}
@@ -43,3 +45,28 @@ part_single rows stop f w = single_of frame.Part 1 rows f (λ k. refl) w.lines w
 
 pub part_placed : (rows : List Laid) (stop : Option ParseFault) (f : Forest) → IsWellLaid rows stop f → are_placed f ≡ true
 part_placed rows stop f w = placed_from f (options_of frame.Part false 1 rows f w.lines w.good)
+
+-- ---- the lines of a part
+
+pub judged_of : (text : List ℕ) (old : List (List ℕ)) (lines : List Line) (rows : List Row) (laid : List Laid) (stop : Option ParseFault) → rows ≡ rows_of text old lines
+    → AreForms (stopped bound.Script rows None).0 laid → (stopped bound.Script rows None).1 ≡ stop → AreJudged text old lines laid stop
+judged_of text old lines rows laid stop e f s = record {
+  forms = subst (λ rs. AreForms (stopped bound.Script rs None).0 laid) e f;
+  stop_is = sym (ap (λ rs. (stopped bound.Script rs None).1) e) ∙ s;
+}
+
+pub is_part : (text : List ℕ) (old : List (List ℕ)) (lines : List Line) (laid : List Laid) (stop : Option ParseFault) (f : Forest) → AreJudged text old lines laid stop → IsWellLaid laid stop f
+    → IsPart text old lines f
+is_part text old lines laid stop f j w = record { laid = laid; stop = stop; judged = j; well = w }
+
+pub is_no_part : (text : List ℕ) (old : List (List ℕ)) (lines : List Line) (laid : List Laid) (stop : Option ParseFault) (f : ParseFault) → AreJudged text old lines laid stop → IsIllLaid laid stop f
+    → IsNoPart text old lines f
+is_no_part text old lines laid stop f j w = record { laid = laid; stop = stop; judged = j; ill = w }
+
+-- arrays by their numbers
+pub names_are : (arrays : List Name) (xs : List ℕ) → numbers arrays ≡ xs → arrays ≡ map (λ x. record { 0 = x }) xs
+names_are arrays xs e = again arrays ∙ ap (map (λ x. record { 0 = x })) e
+  where
+    again : (arrays : List Name) → arrays ≡ map (λ x. record { 0 = x }) (numbers arrays)
+    again [] = refl
+    again (x ∷ arrays) = ap (λ xs. x ∷ xs) (again arrays)

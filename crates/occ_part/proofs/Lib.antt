@@ -8,3 +8,4 @@ mod Scoped
 mod Typed
 mod Covered
 mod Formed
+mod Once

@@ -1,6 +1,7 @@
 -- The arrays of which lines name elements.
-use Rattle.std.specs.Prelude.{ℕ, List, [], ◌∷◌, Option, Some, None}
+use Rattle.std.specs.Prelude.{ℕ, List, [], ◌∷◌, map, Option, Some, None}
 use Rattle.std.specs.List.{flat_map}
+use Rattle.occ_base.specs.declared.names.Name.{Name}
 use Rattle.occ_names.specs.Once.{same_number, with_all}
 use Rattle.occ_form.specs.declared.form.Declared.{Declared}
 use Rattle.occ_form.specs.declared.form.Declared.TheVariants as declared
@@ -41,3 +42,7 @@ line_arrays nothing = []
 -- the arrays of lines, each once, where it is named first
 abbrev pub arrays_of : List Laid → List ℕ
 arrays_of lines = with_all same_number [] (flat_map (λ line. line_arrays line.shape) lines)
+
+-- the arrays of lines as names
+abbrev pub array_names : List Laid → List Name
+array_names lines = map (λ x. record { 0 = x }) (arrays_of lines)

@@ -1,12 +1,10 @@
-ghost use Rattle.std.specs.Prelude.{◌≡◌, ◌⊎◌, ℕ, List, length, IfOk, IfErr, OnOk};
+ghost use Rattle.std.specs.Prelude.{◌≡◌, ◌⊎◌, ℕ, List, IfOk, IfErr};
 ghost use Rattle.std.specs.List.{AllByRecursion};
-ghost use Rattle.occ_base.specs.declared.names.Name.{Name};
-ghost use Rattle.occ_syntax.specs.View.{numbers};
 ghost use Rattle.occ_lex.specs.Placed.{IsLineOf};
 ghost use Rattle.occ_symbol.specs.Symbols.{Extends, with_names_of_all};
 ghost use Rattle.occ_draft.specs.Forest.{forest, in_nodes, lines_at};
 ghost use Rattle.occ_layout.specs.Layout.{laid_rows};
-ghost use Rattle.occ_part.specs.Arrays.{arrays_of};
+ghost use Rattle.occ_part.specs.Arrays.{array_names, arrays_of};
 ghost use Rattle.occ_part.specs.Elements.{elements_in, with_arrays};
 ghost use Rattle.occ_part.specs.Parts.{IsIllLaid, IsNoPart, IsPart, IsWellLaid};
 
@@ -61,10 +59,10 @@ pub fn form(
 ) -> Result<Raw, ParseFault>
     requires { AllByRecursion (IsLineOf text.now) lines.now }
     ensures found { IfOk result (λ raw. IsPart text.now names.old lines.now raw.lines) }
-    ensures elements { IfOk result (λ raw. (arrays : List Name) × (numbers arrays ≡ arrays_of (lines_at 1 raw.lines))
-        × (names.new ≡ with_arrays (with_names_of_all text.now names.old lines.now) arrays)
-        × ((t : List (List ℕ)) → Extends names.new t → raw.elements ≡ elements_in t arrays)) }
-    ensures refused { IfErr result (λ fault. IsNoPart text.now names.old lines.now fault ⊎ (fault ≡ ParseFault.Memory)) }
+    ensures table { IfOk result (λ raw. names.new ≡ with_arrays (with_names_of_all text.now names.old lines.now) (array_names (lines_at 1 raw.lines))) }
+    ensures elements { IfOk result (λ raw. (t : List (List ℕ)) → Extends names.new t → raw.elements ≡ elements_in t (array_names (lines_at 1 raw.lines))) }
+    ensures refused { IfErr result (λ fault.
+        (IsNoPart text.now names.old lines.now fault × (names.new ≡ with_names_of_all text.now names.old lines.now)) ⊎ (fault ≡ ParseFault.Memory)) }
     ensures extends { Extends names.old names.new }
 {
     let rows = rows(alloc, names, text, lines)?;

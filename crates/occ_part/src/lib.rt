@@ -7,14 +7,18 @@ mod elements;
 mod expression;
 mod faults;
 mod forming;
+mod laws;
 mod line;
 mod naming;
 mod process;
 mod raw;
 mod resolving;
 mod rows;
+#[cfg(test)]
+mod tests;
 
 pub use forming::form;
+pub use laws::one_reading_of_a_part;
 pub use occ_reading::ParseFault;
 pub use raw::Raw;
 pub use resolving::resolve;
