@@ -1,7 +1,7 @@
 -- The elements of arrays have their numbers in the table, and each number is that of its element.
 use Rattle.std.proofs.Common.{◌≡◌, ℕ, zero, suc, ◌+◌, ◌<◌, ◌≤◌, ◌==◌, Bool, true, false, true≢false, cond, nat_lt, List, [], ◌∷◌, ◌++◌, length, get_or, Option, Some, None, refl, sym, ap, subst, ◌∙◌, arith, ◌&&◌, ⊎_elim}
 use Rattle.std.specs.List.{AllByRecursion}
-use Rattle.std.proofs.lemmas.Bool.{and_parts, eqb-true, eqb-refl, ltb-true, cases_lt, cases_Bool}
+use Rattle.std.proofs.lemmas.Bool.{and_parts, eqb-true, ltb-true, cases_lt, cases_Bool}
 use Rattle.occ_base.specs.declared.names.Name.{Name}
 use Rattle.occ_form.specs.declared.form.Declared.{Declared}
 use Rattle.occ_form.specs.declared.form.Declared.TheVariants as declared
@@ -9,8 +9,14 @@ use Rattle.occ_kept.specs.Agreement.{Has}
 use Rattle.occ_unroll.specs.Numbers.{number_in}
 use Rattle.occ_parse.proofs.Places.{knows as in_table}
 use Rattle.occ_part.specs.Elements.{Elements, element_count, elements_in, named_row, no_elements, row_in, row_number, with_arrays_in, with_row}
+use Rattle.occ_part.proofs.Single.{eqb-refl}
 use Rattle.occ_part.specs.Parts.{IsNumbered}
 use Rattle.occ_part.proofs.Rows.{count_is}
+
+abbrev pub is_some_element : Declared → Bool
+is_some_element (declared.Plain y) = false
+is_some_element (declared.Element y j) = true
+is_some_element (declared.Array y c) = false
 
 module _ (t : List (List ℕ)) where
   row_number_is : (x k m j : ℕ) → j < m → row_number (row_in t x k m) j ≡ number_in t x (Some (k + j))
@@ -19,22 +25,20 @@ module _ (t : List (List ℕ)) where
   row_number_is x k (suc m) (suc j) h = let e : k + 1 + j ≡ k + suc j = omega arith in row_number_is x (k + 1) m j (omega (arith, h)) ∙ ap (λ i. number_in t x (Some i)) e
 
   -- the row of an array, and the number of an element in it
-  row : ℕ → List Name
+  abbrev row : ℕ → List Name
   row x = row_in t x 0 element_count
 
   row_is : (x j : ℕ) → j < 256 → row_number (row x) j ≡ number_in t x (Some j)
-  unfolding row
   row_is x j h = row_number_is x 0 element_count j (omega (arith, h, count_is))
 
   -- ---- what each name is
 
-  pub IsRight : Elements → Declared → ℕ → Type 0
+  abbrev pub IsRight : Elements → Declared → ℕ → Type 0
   IsRight e (declared.Plain y) n = y.0 ≡ n
   IsRight e (declared.Element y j) n = (e.number y.0 j ≡ n) × (number_in t y.0 (Some j) ≡ n) × Has (in_table t) y.0 (Some j)
   IsRight e (declared.Array y c) n = ⊥
 
   pub right_numbered : (e : Elements) (d : Declared) (n : ℕ) → IsRight e d n → IsNumbered e d n
-  unfolding IsRight
   right_numbered e (declared.Plain y) n h = h
   right_numbered e (declared.Element y j) n h = h.0
   right_numbered e (declared.Array y c) n h = h
@@ -60,18 +64,16 @@ module _ (t : List (List ℕ)) where
   number_at false x y j r o n e s h old now = old
 
   right_kept : (e : Elements) (x : Name) (d : Declared) (n : ℕ) → IsRight e d n → IsRight (with_row e x (row_in t x.0 0 element_count)) d n
-  unfolding IsRight row
   right_kept e x (declared.Plain y) n h = h
   right_kept e x (declared.Element y j) n h =
       (number_at (x.0 == y.0) x.0 y.0 j (row_in t x.0 0 element_count) (e.number y.0 j) n refl refl (small y.0 j h.2) h.0 h.1, h.1, h.2)
   right_kept e x (declared.Array y c) n h = h
 
   -- all elements of an array are in the table
-  pub AreThere : ℕ → Type 0
+  abbrev pub AreThere : ℕ → Type 0
   AreThere x = (j : ℕ) → j < 256 → Has (in_table t) x (Some j)
 
   right_row : (e : Elements) (x : Name) → AreThere x.0 → ((n : ℕ) → IsRight e (e.named n) n) → (n : ℕ) → IsRight (with_row e x (row_in t x.0 0 element_count)) ((with_row e x (row_in t x.0 0 element_count)).named n) n
-  unfolding IsRight AreThere row
   right_row e x there h n =
       let new = with_row e x (row_in t x.0 0 element_count) in
       row_right (IsRight new) x 0 element_count e.named (λ i. right_kept e x (e.named i) i (h i))
@@ -84,15 +86,9 @@ module _ (t : List (List ℕ)) where
   right_all e (x ∷ xs) there h = right_all (with_row e x (row_in t x.0 0 element_count)) xs there.1 (right_row e x there.0 h)
 
   pub all_right : (xs : List Name) → AllByRecursion (λ (x : Name). AreThere x.0) xs → (n : ℕ) → IsRight (elements_in t xs) ((elements_in t xs).named n) n
-  unfolding IsRight
   all_right xs there = right_all no_elements xs there (λ n. refl)
 
   -- ---- the elements of each array
-
-  abbrev pub is_some_element : Declared → Bool
-  is_some_element (declared.Plain y) = false
-  is_some_element (declared.Element y j) = true
-  is_some_element (declared.Array y c) = false
 
   pub record Covers (e : Elements) (x : ℕ) : Type 0 where
     pub number : (j : ℕ) → j < 256 → e.number x j ≡ number_in t x (Some j)
@@ -124,14 +120,12 @@ module _ (t : List (List ℕ)) where
       (cases_lt k j)
 
   covers_row : (e : Elements) (x : Name) → Covers (with_row e x (row_in t x.0 0 element_count)) x.0
-  unfolding row
   covers_row e x = record {
     number = λ j h. number_at (x.0 == x.0) x.0 x.0 j (row_in t x.0 0 element_count) (number_in t x.0 (Some j)) (number_in t x.0 (Some j)) refl refl h refl refl;
     element = λ j h. element_in_row x 0 element_count e.named j (omega arith) (omega (arith, h, count_is));
   }
 
   covers_kept : (e : Elements) (x : Name) (y : ℕ) → Covers e y → Covers (with_row e x (row_in t x.0 0 element_count)) y
-  unfolding row
   covers_kept e x y c = record {
     number = λ j h. number_at (x.0 == y) x.0 y j (row_in t x.0 0 element_count) (e.number y j) (number_in t y (Some j)) refl refl h (c.number j h) refl;
     element = λ j h. element_kept x 0 (row_in t x.0 0 element_count) e.named (number_in t y (Some j)) (c.element j h);

@@ -1,7 +1,7 @@
 -- What is known of a part that is read.
-use Rattle.std.proofs.Common.{◌≡◌, ℕ, zero, suc, ◌+◌, ◌<◌, ◌≤◌, ◌==◌, Bool, true, false, true≢false, cond, nat_lt, List, [], ◌∷◌, ◌++◌, length, Option, Some, None, refl, sym, ap, subst, ◌∙◌, arith, rules, ◌&&◌, ⊎_elim}
+use Rattle.std.proofs.Common.{◌≡◌, ℕ, zero, suc, ◌+◌, ◌<◌, ◌≤◌, ◌==◌, Bool, true, false, true≢false, cond, nat_lt, List, [], ◌∷◌, ◌++◌, length, Option, Some, None, refl, sym, ap, subst, ◌∙◌, arith, rules, ◌&&◌, ◌||◌, ⊎_elim}
 use Rattle.std.specs.List.{AllByRecursion, list_all, list_any, flat_map}
-use Rattle.std.proofs.lemmas.Bool.{and_parts, and_from, eqb-true, eqb-refl, ltb-true, cases_lt}
+use Rattle.std.proofs.lemmas.Bool.{and_parts, and_from, eqb-true, ltb-true, cases_lt}
 use Rattle.std.proofs.lemmas.Grind.{flat_map-append}
 use Rattle.occ_base.specs.declared.names.Name.{Name}
 use Rattle.occ_base.specs.Names.{IsDistinct}
@@ -29,6 +29,7 @@ use Rattle.occ_parse.proofs.Knowing.{EachLine, IsLineOf, each_map, each_of_lines
 use Rattle.occ_parse.proofs.Places.{knows as in_table, HasElement, HasPlace, all_brought_in, are_known, element_place, forest_all, known_step, lines_places, one_to_one, places_extend, small_at}
 use Rattle.occ_part.specs.Arrays.{arrays_of, declared_array, line_arrays}
 use Rattle.occ_part.specs.Elements.{Elements, element_count, elements_in, no_elements, with_arrays}
+use Rattle.occ_part.proofs.Single.{eqb-refl}
 use Rattle.occ_part.specs.Parts.{AreJudged, IsGood, IsWellLaid, is_element, is_itself, knows}
 use Rattle.occ_part.proofs.Known.{arrays_known, arrays_pass, lines_are_of, lines_pass_test, names_pass}
 use Rattle.occ_part.proofs.Laid.{part_placed, part_single}
@@ -50,7 +51,7 @@ module _ (P : ℕ → Type 0) where
   one_front true fs y h = h
   one_front false fs y h = front fs (y ∷ []) h
 
-  there_at : (b : Bool) (x y : ℕ) (fs : List ℕ) → (y == x) ≡ b → (list_any (λ z. y == z) fs ≡ true → P y) → P x → cond b true (list_any (λ z. y == z) fs) ≡ true → P y
+  there_at : (b : Bool) (x y : ℕ) (fs : List ℕ) → (y == x) ≡ b → (list_any (λ z. y == z) fs ≡ true → P y) → P x → (b || list_any (λ z. y == z) fs) ≡ true → P y
   there_at true x y fs e f p h = subst P (sym (eqb-true y x e)) p
   there_at false x y fs e f p h = f h
 
@@ -82,11 +83,11 @@ module _ (P : ℕ → Type 0) where
 
   -- ---- the places that lines declare
 
-  At : ℕ → Option ℕ → Type 0
+  abbrev At : ℕ → Option ℕ → Type 0
   At x None = Unit {0}
   At x (Some k) = P x
 
-  IsAt : Place → Type 0
+  abbrev IsAt : Place → Type 0
   IsAt p = At p.name p.element
 
   both_places : (ps qs : List Place) → AllByRecursion IsAt ps → AllByRecursion IsAt qs → AllByRecursion IsAt (ps ++ qs)
@@ -94,12 +95,10 @@ module _ (P : ℕ → Type 0) where
   both_places (p ∷ ps) qs h g = (h.0, both_places ps qs h.1 g)
 
   elements_at : (x k n : ℕ) → P x → AllByRecursion IsAt (elements_from x k n)
-  unfolding IsAt At
   elements_at x k zero h = tt
   elements_at x k (suc n) h = (h, elements_at x (k + 1) n h)
 
   declared_at : (d : Declared) → AllByRecursion P (declared_array d) → AllByRecursion IsAt (places d)
-  unfolding IsAt At
   declared_at (declared.Plain x) h = (tt, tt)
   declared_at (declared.Element x k) h = (h.0, tt)
   declared_at (declared.Array x n) h = elements_at x.0 0 n h.0
@@ -118,7 +117,6 @@ module _ (P : ℕ → Type 0) where
       (params_at ps (back (declared_array p.declared) others h))
 
   shape_at : (s : Shape) → AllByRecursion P (line_arrays s) → AllByRecursion IsAt (declared_places s)
-  unfolding IsAt At
   shape_at (header name params) h = params_at params h
   shape_at close h = tt
   shape_at skip h = tt
@@ -133,11 +131,10 @@ module _ (P : ℕ → Type 0) where
   shape_at (guard e w) h = tt
   shape_at nothing h = tt
 
-  arrays_in : Laid → List ℕ
+  abbrev arrays_in : Laid → List ℕ
   arrays_in line = line_arrays line.shape
 
   lines_at_all : (level : ℕ) (f : Forest) → AllByRecursion P (flat_map arrays_in (lines_at level f)) → AllByRecursion IsAt (lines_places f)
-  unfolding arrays_in
   lines_at_all level no_line h = tt
   lines_at_all level (and_line number s below rest) h =
       let inner = lines_at (level + 1) below in
@@ -151,7 +148,6 @@ module _ (P : ℕ → Type 0) where
       (lines_at_all level rest (back (flat_map (λ (l : Laid). line_arrays l.shape) inner) (flat_map (λ (l : Laid). line_arrays l.shape) others) split)))
 
   arrays_at_all : (f : Forest) → AllByRecursion P (arrays_of (lines_at 1 f)) → AllByRecursion IsAt (lines_places f)
-  unfolding arrays_in
   arrays_at_all f h = lines_at_all 1 f (once_all [] (flat_map (λ (l : Laid). line_arrays l.shape) (lines_at 1 f)) h)
 
 -- ---- the table
@@ -188,21 +184,14 @@ all_below n (x ∷ arrays) h =
 
 element_has : (t : List (List ℕ)) (x k m j : ℕ) → k ≤ j → j < k + m → AllByRecursion (HasPlace t) (elements_from x k m) → HasElement t x (Some j)
 element_has t x k zero j a b h = absurd (omega (arith, a, b))
-element_has t x k (suc m) j a b h = pick (k == j) refl
-  where
-    pick : (c : Bool) → (k == j) ≡ c → HasElement t x (Some j)
-    pick true e = subst (λ i. HasElement t x (Some i)) (eqb-true k j e) h.0
-    pick false e = element_has t x (k + 1) m j (later (k == j) e a) (omega (arith, b)) h.1
-      where
-        later : (c : Bool) → (k == j) ≡ false → k ≤ j → k + 1 ≤ j
-        later c e a = ⊎_elim (λ (l : k < j). omega (arith, l)) (λ (l : j ≤ k). absurd (true≢false (sym (sym (ap (λ i. k == i) (same l)) ∙ eqb-refl k) ∙ e))) (cases_lt k j)
-        same : j ≤ k → k ≡ j
-        same l = omega (arith, l, a)
+element_has t x k (suc m) j a b h = ⊎_elim
+    (λ (l : k < j). element_has t x (k + 1) m j (omega (arith, l)) (omega (arith, b)) h.1)
+    (λ (l : j ≤ k). let same : k ≡ j = omega (arith, l, a) in subst (λ i. HasElement t x (Some i)) same h.0)
+    (cases_lt k j)
 
 -- all elements of the arrays are in the table
 there_all : (t : List (List ℕ)) (arrays : List Name) → AllByRecursion (λ (x : Name). is_plain t x.0 ≡ true) arrays → AllByRecursion (HasPlace t) (all_elements arrays)
     → AllByRecursion (λ (x : Name). AreThere t x.0) arrays
-unfolding AreThere
 there_all t [] p h = tt
 there_all t (x ∷ arrays) p h =
     let first = all_front (HasPlace t) (elements_from x.0 0 element_count) (all_elements arrays) h in
@@ -215,16 +204,17 @@ there_all t (x ∷ arrays) p h =
 
 -- ---- names of their own
 
+abbrev Own : List (List ℕ) → Elements → ℕ → Type 0
+Own t e x = Covers t e x × AreThere t x
+
 module _ (t : List (List ℕ)) (distinct : IsDistinct t) (e : Elements) (right : (n : ℕ) → IsRight t e (e.named n) n) where
   itself : (x : ℕ) (d : Declared) → IsRight t e d x → is_plain t x ≡ true → is_itself d x ≡ true
-  unfolding IsRight
   itself x (declared.Plain y) h p = ap (λ n. n == x) h ∙ eqb-refl x
   itself x (declared.Element y j) h p =
-      let same = (one_to_one t distinct).element x None y.0 (Some j) p h.2 (sym h.1) in absurd cc
+      let same : None ≡ Some j = (one_to_one t distinct).element x None y.0 (Some j) p h.2 (sym h.1) in absurd cc
   itself x (declared.Array y c) h p = absurd h
 
   element_of : (x k : ℕ) (d : Declared) → Has (in_table t) x (Some k) → IsRight t e d (number_in t x (Some k)) → is_some_element d ≡ true → is_element d x k ≡ true
-  unfolding IsRight
   element_of x k (declared.Plain y) h r s = absurd cc
   element_of x k (declared.Element y j) h r s =
       let u = one_to_one t distinct in
@@ -234,11 +224,7 @@ module _ (t : List (List ℕ)) (distinct : IsDistinct t) (e : Elements) (right :
       and_from (y.0 == x) (j == k) (ap (λ n. n == x) name ∙ eqb-refl x) (ap (λ n. n == k) place_is ∙ eqb-refl k)
   element_of x k (declared.Array y c) h r s = absurd cc
 
-  Own : ℕ → Type 0
-  Own x = Covers t e x × AreThere t x
-
-  own_step : (x : ℕ) (k : Option ℕ) → is_plain t x ≡ true → small_at k ≡ true → IsAt Own (record { name = x; element = k }) → Has (knows e) x k
-  unfolding IsAt At Own AreThere
+  own_step : (x : ℕ) (k : Option ℕ) → is_plain t x ≡ true → small_at k ≡ true → IsAt (Own t e) (record { name = x; element = k }) → Has (knows e) x k
   own_step x None p s o = itself x (e.named x) (right x) p
   own_step x (Some k) p s o =
       let within : k < 256 = ltb-true _ _ s in
@@ -248,7 +234,6 @@ module _ (t : List (List ℕ)) (distinct : IsDistinct t) (e : Elements) (right :
 -- ---- the whole part
 
 eq_step : (x : ℕ) (k : Option ℕ) (e : Elements) → e ≡ no_elements → IsAt (λ y. ⊥) (record { name = x; element = k }) → Has (knows e) x k
-unfolding IsAt At
 eq_step x None e is o = ap (λ (d : Elements). is_itself (d.named x) x) is ∙ eqb-refl x
 eq_step x (Some k) e is o = absurd o
 
@@ -258,11 +243,10 @@ two_all P Q (x ∷ xs) h g = ((h.0, g.0), two_all P Q xs h.1 g.1)
 
 module _ (text : List ℕ) (old : List (List ℕ)) (lines : List Line) (laid : List Laid) (stop : Option ParseFault) (f : Forest) (t : List (List ℕ))
     (ok : AllByRecursion (IsTextLine text) lines) (judged : AreJudged text old lines laid stop) (well : IsWellLaid laid stop f) where
-  base : List (List ℕ)
+  abbrev base : List (List ℕ)
   base = with_names_of_all text old lines
 
   each : Extends base t → EachLine (IsLineOf t) f
-  unfolding base
   each grows = each_of_lines (IsLineOf t) 1 f (subst (AllByRecursion (λ (line : Laid). IsLineOf t line.shape)) (sym well.lines) (lines_are_of text old t lines laid stop ok grows judged))
 
   plain : Extends base t → EachLine (λ s. shape_passes (is_plain t) s ≡ true) f
@@ -279,7 +263,6 @@ module _ (text : List ℕ) (old : List (List ℕ)) (lines : List Line) (laid : L
     grows = subst (Extends base) (sym brought) (places_extend base (all_elements arrays))
 
     theres : AllByRecursion (λ (x : Name). AreThere t x.0) arrays
-    unfolding base
     theres =
         let low = arrays_known text old base lines laid stop arrays ok (extends_same base) judged once in
         let has_all = all_brought_in base (all_elements arrays) t (all_below (length base) arrays low) (extends_eq (with_places base (all_elements arrays)) t brought) in
@@ -290,7 +273,6 @@ module _ (text : List ℕ) (old : List (List ℕ)) (lines : List Line) (laid : L
     right n = subst (λ (d : Elements). IsRight t d (d.named n) n) (sym is) (all_right t arrays theres n)
 
     owns : AllByRecursion (Own t e) (arrays_of (lines_at 1 f))
-    unfolding Own
     owns =
         let covers : AllByRecursion (λ (x : Name). Covers t e x.0) arrays = subst (λ (d : Elements). AllByRecursion (λ (x : Name). Covers t d x.0) arrays) (sym is) (covers_all t no_elements arrays) in
         let all = numbers_all (λ x. Covers t e x × AreThere t x) arrays (two_all (λ (x : Name). Covers t e x.0) (λ (x : Name). AreThere t x.0) arrays covers theres) in
@@ -319,6 +301,5 @@ module _ (text : List ℕ) (old : List (List ℕ)) (lines : List Line) (laid : L
 
   pub good_part : (arrays : List Name) → numbers_of arrays ≡ arrays_of laid → t ≡ with_arrays (with_names_of_all text old lines) arrays → (e : Elements) → e ≡ elements_in t arrays
       → (0 < length arrays → IsDistinct t) → IsGood f e
-  unfolding base
   good_part [] once table e is d = good [] once table e is (known_without e once table is)
   good_part (x ∷ xs) once table e is d = good (x ∷ xs) once table e is (known (x ∷ xs) once table e is (d (omega arith)))

@@ -42,6 +42,9 @@ module _ {V : Type 0} (items : V → List Name) where
       → names_found more ≡ named_row x 0 (items v) (names_found places)
       → kept_in new items more ≡ with_row (kept_in old items places) x (items v)
   row_more old new places more x v h e =
-      let number : (λ y k. number_found items (lookup (λ (key : Name). y == key.0) new) k) ≡ (λ y k. cond (x.0 == y) (row_number (items v) k) (number_found items (lookup (λ (key : Name). y == key.0) old) k)) =
+      let after : ℕ → ℕ → ℕ = λ y k. number_found items (lookup (λ (key : Name). y == key.0) new) k in
+      let before : ℕ → ℕ → ℕ = λ y k. number_found items (lookup (λ (key : Name). y == key.0) old) k in
+      let wanted : ℕ → ℕ → ℕ = λ y k. cond (x.0 == y) (row_number (items v) k) (before y k) in
+      let number : after ≡ wanted =
       fun_ext (λ y. fun_ext (λ k. ap (λ o. number_found items o k) (h (record { 0 = y })) ∙ found_cond (x.0 == y) v (lookup (λ (key : Name). y == key.0) old) k)) in
       λ i. record { number = number i; named = e i }

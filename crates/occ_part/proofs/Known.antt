@@ -43,11 +43,10 @@ module _ (test : ℕ → Bool) where
   item_pass : (i : Item) → item_passes test i ≡ true → list_all test (item_array i) ≡ true
   item_pass i h = array_passes i.name.0 i.index (and_parts (test i.name.0) (place_passes test i.index) h).0
 
-  items : List Item → List ℕ
+  abbrev items : List Item → List ℕ
   items is = flat_map item_array is
 
   items_both : (xs ys : List Item) → list_all test (items xs) ≡ true → list_all test (items ys) ≡ true → list_all test (items (xs ++ ys)) ≡ true
-  unfolding items
   items_both [] ys h k = k
   items_both (x ∷ xs) ys h k = append_passes (item_array x) (items xs) (items (xs ++ ys)) h (λ m. items_both xs ys m k)
     where
@@ -56,7 +55,6 @@ module _ (test : ℕ → Bool) where
       append_passes (a ∷ as) bs cs h f = let parts = and_parts (test a) (list_all test (as ++ bs)) h in and_from (test a) (list_all test (as ++ cs)) parts.0 (append_passes as bs cs parts.1 f)
 
   said_pass : (e : Said) → said_passes test e ≡ true → list_all test (items (items_in e)) ≡ true
-  unfolding items
   said_pass (item i) h = both (item_array i) [] (item_pass i h) refl
   said_pass (numeral value) h = refl
   said_pass (typed value width) h = refl
@@ -68,22 +66,18 @@ module _ (test : ℕ → Bool) where
       items_both (items_in left) (items_in right) (said_pass left parts.0) (said_pass right parts.1)
 
   all_said_pass : (es : List Said) → list_all (said_passes test) es ≡ true → list_all test (items (items_in_all es)) ≡ true
-  unfolding items
   all_said_pass [] h = refl
   all_said_pass (e ∷ es) h =
       let parts = and_parts (said_passes test e) (list_all (said_passes test) es) h in
       items_both (items_in e) (items_in_all es) (said_pass e parts.0) (all_said_pass es parts.1)
 
   two_pass : (c x : Item) → item_passes test c ≡ true → item_passes test x ≡ true → list_all test (items (c ∷ x ∷ [])) ≡ true
-  unfolding items
   two_pass c x h k = both (item_array c) (item_array x ++ []) (item_pass c h) (both (item_array x) [] (item_pass x k) refl)
 
   out_pass : (c : Item) (e : Said) → item_passes test c ≡ true → said_passes test e ≡ true → list_all test (items (c ∷ items_in e)) ≡ true
-  unfolding items
   out_pass c e h k = both (item_array c) (items (items_in e)) (item_pass c h) (said_pass e k)
 
   waiting_pass : (w : Waiting) → waiting_passes test w ≡ true → list_all test (items (items_of_waiting w)) ≡ true
-  unfolding items
   waiting_pass ready h = refl
   waiting_pass (input c x) h = let parts = and_parts (item_passes test c) (item_passes test x) h in two_pass c x parts.0 parts.1
   waiting_pass (output c e) h = let parts = and_parts (item_passes test c) (said_passes test e) h in out_pass c e parts.0 parts.1
@@ -94,7 +88,6 @@ module _ (test : ℕ → Bool) where
   declared_pass (declared.Array x n) h = and_from (test x.0) true h refl
 
   shape_pass : (s : Shape) → shape_passes test s ≡ true → list_all test (line_arrays s) ≡ true
-  unfolding items
   shape_pass (header name params) h =
       flat (λ (p : Param). declared_array p.declared) (param_passes test) (λ p k. declared_pass p.declared (and_parts (declared_passes test p.declared) _ k).0) params
       (and_parts (test name.0) (list_all (param_passes test) params) h).1

@@ -1,7 +1,7 @@
 -- Lines without replicators.
-use Rattle.std.proofs.Common.{◌≡◌, ℕ, Bool, true, false, not, ◌&&◌, Option, Some, None, refl, sym, ap, ◌∙◌}
+use Rattle.std.proofs.Common.{◌≡◌, ◌==◌, ℕ, Bool, true, false, not, ◌&&◌, Option, Some, None, refl, sym, ap, ◌∙◌}
 use Rattle.std.specs.Prelude.{is_some}
-use Rattle.std.proofs.lemmas.Bool.{and_parts}
+use Rattle.std.proofs.lemmas.Bool.{and_parts, eq-eqb}
 use Rattle.occ_form.specs.declared.form.Group.{Group}
 use Rattle.occ_form.specs.declared.form.Times.{Times}
 use Rattle.occ_form.specs.Shape.{Shape, group}
@@ -27,3 +27,6 @@ singles f number s below rest e h =
     let parts = and_parts (is_single s) (every_line is_single below && every_line is_single rest) (sym (ap (every_line is_single) e) ∙ h) in
     let more = and_parts (every_line is_single below) (every_line is_single rest) parts.1 in
     record { line = parts.0; below = more.0; rest = more.1 }
+
+pub eqb-refl : (n : ℕ) → (n == n) ≡ true
+eqb-refl n = eq-eqb n n refl

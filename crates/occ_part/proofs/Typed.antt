@@ -1,7 +1,7 @@
 -- A part without a fault keeps names, types and directions in its scope.
 use Rattle.std.proofs.Common.{◌≡◌, ℕ, ◌+◌, Bool, true, false, true≢false, cond, ◌==◌, ◌&&◌, ◌||◌, List, [], ◌∷◌, ◌++◌, Option, Some, None, is_none, is_some, refl, sym, ap, subst, ◌∙◌}
 use Rattle.std.specs.List.{AllByRecursion, list_all, list_any, flat_map}
-use Rattle.std.proofs.lemmas.Bool.{and_parts, and_from, eqb-true, eqb-refl}
+use Rattle.std.proofs.lemmas.Bool.{and_parts, and_from, eqb-true}
 use Rattle.occ_base.specs.declared.names.Name.{Name}
 use Rattle.occ_syntax.specs.declared.scope.Kind.{Kind}
 use Rattle.occ_syntax.specs.Scopes.{environment}
@@ -25,6 +25,7 @@ use Rattle.occ_reading.specs.declared.fault.ParseFault.{ParseFault}
 use Rattle.occ_reading.specs.declared.fault.ParseFault.TheVariants as fault
 use Rattle.occ_reading.specs.Drafts.{as_fault, name_fault_on, type_fault_on}
 use Rattle.occ_part.specs.Elements.{Elements, numbers}
+use Rattle.occ_part.proofs.Single.{eqb-refl}
 use Rattle.occ_part.specs.Parts.{Part, IsGood, IsNumbered, is_element, is_itself, knows}
 use Rattle.occ_part.specs.Resolving.{fault_in, part_fault, part_process, scope_of, scope_params}
 
@@ -115,7 +116,7 @@ module _ (e : Elements) (numbered : (n : ℕ) → IsNumbered e (e.named n) n) wh
       (and_parts (is_none (environment scope entry.0.0)) (is_width (width_of_kind entry.1)) parts.0).1 (scope_widths scope parts.1)
 
   -- no place of a name is declared already
-  IsAbsent : Sorts → Declared → Type 0
+  abbrev IsAbsent : Sorts → Declared → Type 0
   IsAbsent Γ d = list_any (is_there Γ) (places d) ≡ false
 
   skipped : (b : Bool) (s : Sort) (o : Option Sort) → b ≡ false → (is_some o || false) ≡ false → (is_some (cond b (Some s) o) || false) ≡ false
@@ -131,7 +132,6 @@ module _ (e : Elements) (numbered : (n : ℕ) → IsNumbered e (e.named n) n) wh
   not_both a b i j false h f = refl
 
   absent_behind : (Γ : Sorts) (d c : Declared) (s : Sort) (n m : ℕ) → IsNumbered e d n → IsNumbered e c m → (n ≡ m → ⊥) → IsAbsent Γ c → IsAbsent (record { declared = d; sort = s } ∷ Γ) c
-  unfolding IsAbsent
   absent_behind Γ (declared.Plain x) (declared.Plain y) s n m h g f a =
       skipped (y.0 == x.0) s (sort_at Γ y.0 None) (not_same y.0 x.0 (y.0 == x.0) refl (λ t. f (sym h ∙ sym t ∙ g))) a
   absent_behind Γ (declared.Plain x) (declared.Element y j) s n m h g f a = a
@@ -166,7 +166,6 @@ module _ (e : Elements) (numbered : (n : ℕ) → IsNumbered e (e.named n) n) wh
 
   once_behind : (Γ : Sorts) (scope : List (Name × Kind)) → scope_kept scope ≡ true → AllByRecursion (λ (entry : Name × Kind). IsAbsent Γ (e.named entry.0.0)) scope
       → redeclares_some Γ (param_entries (scope_params e scope)) ≡ false
-  unfolding IsAbsent
   once_behind Γ [] h a = refl
   once_behind Γ (entry ∷ scope) h a =
       let parts = and_parts (can_declare (environment scope) entry.0.0 (width_of_kind entry.1)) (scope_kept scope) h in
@@ -180,7 +179,6 @@ module _ (e : Elements) (numbered : (n : ℕ) → IsNumbered e (e.named n) n) wh
   nothing_there (p ∷ ps) = nothing_there ps
 
   none_there : (scope : List (Name × Kind)) → AllByRecursion (λ (entry : Name × Kind). IsAbsent [] (e.named entry.0.0)) scope
-  unfolding IsAbsent
   none_there [] = tt
   none_there (entry ∷ scope) = (nothing_there (places (e.named entry.0.0)), none_there scope)
 
