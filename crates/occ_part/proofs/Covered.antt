@@ -1,7 +1,7 @@
 -- The elements of arrays have their numbers in the table, and each number is that of its element.
-use Rattle.std.proofs.Common.{◌≡◌, ℕ, zero, suc, ◌+◌, ◌<◌, ◌≤◌, ◌==◌, Bool, true, false, true≢false, cond, nat_lt, List, [], ◌∷◌, ◌++◌, length, get_or, Option, Some, None, refl, sym, ap, subst, ◌∙◌, arith, ◌&&◌, ⊎_elim}
+use Rattle.std.proofs.Common.{◌≡◌, ℕ, zero, suc, ◌+◌, ◌<◌, ◌≤◌, ◌==◌, Bool, true, false, true≢false, cond, nat_lt, List, [], ◌∷◌, Some, refl, sym, ap, subst, ◌∙◌, arith, ⊎_elim}
 use Rattle.std.specs.List.{AllByRecursion}
-use Rattle.std.proofs.lemmas.Bool.{and_parts, eqb-true, ltb-true, cases_lt, cases_Bool}
+use Rattle.std.proofs.lemmas.Bool.{and_parts, eqb-true, ltb-true, cases_lt}
 use Rattle.occ_base.specs.declared.names.Name.{Name}
 use Rattle.occ_form.specs.declared.form.Declared.{Declared}
 use Rattle.occ_form.specs.declared.form.Declared.TheVariants as declared
@@ -11,7 +11,7 @@ use Rattle.occ_parse.proofs.Places.{knows as in_table}
 use Rattle.occ_part.specs.Elements.{Elements, element_count, elements_in, named_row, no_elements, row_in, row_number, with_arrays_in, with_row}
 use Rattle.occ_part.proofs.Single.{eqb-refl}
 use Rattle.occ_part.specs.Parts.{IsNumbered}
-use Rattle.occ_part.proofs.Rows.{count_is}
+use Rattle.occ_part.proofs.Counted.{count_is}
 
 abbrev pub is_some_element : Declared → Bool
 is_some_element (declared.Plain y) = false
@@ -29,7 +29,7 @@ module _ (t : List (List ℕ)) where
   row x = row_in t x 0 element_count
 
   row_is : (x j : ℕ) → j < 256 → row_number (row x) j ≡ number_in t x (Some j)
-  row_is x j h = row_number_is x 0 element_count j (omega (arith, h, count_is))
+  row_is x j h = let e : 0 + j ≡ j = omega arith in row_number_is x 0 element_count j (omega (arith, h, count_is)) ∙ ap (λ i. number_in t x (Some i)) e
 
   -- ---- what each name is
 
@@ -63,6 +63,10 @@ module _ (t : List (List ℕ)) where
   number_at true x y j r o n e s h old now = ap (λ l. row_number l j) s ∙ row_is x j h ∙ ap (λ z. number_in t z (Some j)) (eqb-true x y e) ∙ now
   number_at false x y j r o n e s h old now = old
 
+  number_here : (b : Bool) (x j : ℕ) (r : List Name) (o : ℕ) → (x == x) ≡ b → r ≡ row x → j < 256 → cond b (row_number r j) o ≡ number_in t x (Some j)
+  number_here true x j r o e s h = ap (λ l. row_number l j) s ∙ row_is x j h
+  number_here false x j r o e s h = absurd (true≢false (sym (eqb-refl x) ∙ e))
+
   right_kept : (e : Elements) (x : Name) (d : Declared) (n : ℕ) → IsRight e d n → IsRight (with_row e x (row_in t x.0 0 element_count)) d n
   right_kept e x (declared.Plain y) n h = h
   right_kept e x (declared.Element y j) n h =
@@ -79,7 +83,7 @@ module _ (t : List (List ℕ)) where
       row_right (IsRight new) x 0 element_count e.named (λ i. right_kept e x (e.named i) i (h i))
       (λ j a b.
       let within : j < 256 = omega (arith, b, count_is) in
-      (number_at (x.0 == x.0) x.0 x.0 j (row_in t x.0 0 element_count) (number_in t x.0 (Some j)) (number_in t x.0 (Some j)) refl refl within refl refl, refl, there j within)) n
+      (number_here (x.0 == x.0) x.0 j (row_in t x.0 0 element_count) (e.number x.0 j) refl refl within, refl, there j within)) n
 
   right_all : (e : Elements) (xs : List Name) → AllByRecursion (λ (x : Name). AreThere x.0) xs → ((n : ℕ) → IsRight e (e.named n) n) → (n : ℕ) → IsRight (with_arrays_in t e xs) ((with_arrays_in t e xs).named n) n
   right_all e [] there h = h
@@ -121,7 +125,7 @@ module _ (t : List (List ℕ)) where
 
   covers_row : (e : Elements) (x : Name) → Covers (with_row e x (row_in t x.0 0 element_count)) x.0
   covers_row e x = record {
-    number = λ j h. number_at (x.0 == x.0) x.0 x.0 j (row_in t x.0 0 element_count) (number_in t x.0 (Some j)) (number_in t x.0 (Some j)) refl refl h refl refl;
+    number = λ j h. number_here (x.0 == x.0) x.0 j (row_in t x.0 0 element_count) (e.number x.0 j) refl refl h;
     element = λ j h. element_in_row x 0 element_count e.named j (omega arith) (omega (arith, h, count_is));
   }
 

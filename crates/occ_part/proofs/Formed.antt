@@ -1,7 +1,7 @@
 -- What is known of a part that is read.
-use Rattle.std.proofs.Common.{◌≡◌, ℕ, zero, suc, ◌+◌, ◌<◌, ◌≤◌, ◌==◌, Bool, true, false, true≢false, cond, nat_lt, List, [], ◌∷◌, ◌++◌, length, Option, Some, None, refl, sym, ap, subst, ◌∙◌, arith, rules, ◌&&◌, ◌||◌, ⊎_elim}
+use Rattle.std.proofs.Common.{◌≡◌, ℕ, zero, suc, ◌+◌, ◌<◌, ◌≤◌, ◌==◌, Bool, true, false, true≢false, cond, nat_lt, List, [], ◌∷◌, ◌++◌, length, Option, Some, None, refl, sym, ap, subst, ◌∙◌, arith, rules, ◌||◌, ⊎_elim}
 use Rattle.std.specs.List.{AllByRecursion, list_all, list_any, flat_map}
-use Rattle.std.proofs.lemmas.Bool.{and_parts, and_from, eqb-true, ltb-true, cases_lt}
+use Rattle.std.proofs.lemmas.Bool.{and_from, eqb-true, ltb-true, cases_lt}
 use Rattle.std.proofs.lemmas.Grind.{flat_map-append}
 use Rattle.occ_base.specs.declared.names.Name.{Name}
 use Rattle.occ_base.specs.Names.{IsDistinct}
@@ -9,7 +9,7 @@ use Rattle.occ_syntax.specs.View.{numbers as numbers_of}
 use Rattle.occ_lex.specs.declared.token.Line.{Line}
 use Rattle.occ_lex.specs.Placed.{IsLineOf as IsTextLine}
 use Rattle.occ_symbol.specs.Symbols.{Extends, with_names_of_all}
-use Rattle.occ_symbol.proofs.Interned.{extends_eq, extends_same, extends_trans, longer}
+use Rattle.occ_symbol.proofs.Interned.{extends_eq, extends_same}
 use Rattle.occ_names.specs.Once.{has, same_number, with_one, with_all}
 use Rattle.occ_form.specs.declared.form.Declared.{Declared}
 use Rattle.occ_form.specs.declared.form.Declared.TheVariants as declared
@@ -26,14 +26,14 @@ use Rattle.occ_reading.specs.declared.fault.ParseFault.{ParseFault}
 use Rattle.occ_parse.proofs.Texts.{is_plain, plain_table}
 use Rattle.occ_parse.proofs.Small.{shape_small}
 use Rattle.occ_parse.proofs.Knowing.{EachLine, IsLineOf, each_map, each_of_lines, line_passes, line_small, lines_sound}
-use Rattle.occ_parse.proofs.Places.{knows as in_table, HasElement, HasPlace, all_brought_in, are_known, element_place, forest_all, known_step, lines_places, one_to_one, places_extend, small_at}
+use Rattle.occ_parse.proofs.Places.{knows as in_table, HasElement, HasPlace, all_brought_in, are_known, forest_all, known_step, lines_places, one_to_one, places_extend, small_at}
 use Rattle.occ_part.specs.Arrays.{arrays_of, declared_array, line_arrays}
 use Rattle.occ_part.specs.Elements.{Elements, element_count, elements_in, no_elements, with_arrays}
 use Rattle.occ_part.proofs.Single.{eqb-refl}
 use Rattle.occ_part.specs.Parts.{AreJudged, IsGood, IsWellLaid, is_element, is_itself, knows}
 use Rattle.occ_part.proofs.Known.{arrays_known, arrays_pass, lines_are_of, lines_pass_test, names_pass}
-use Rattle.occ_part.proofs.Laid.{part_placed, part_single}
-use Rattle.occ_part.proofs.Rows.{count_is}
+use Rattle.occ_part.proofs.Laid.{part_placed}
+use Rattle.occ_part.proofs.Counted.{count_is}
 use Rattle.occ_part.proofs.Covered.{AreThere, Covers, IsRight, all_right, covers_all, is_some_element, right_numbered}
 
 -- ---- lists in which each item stands once
@@ -241,13 +241,13 @@ two_all : {A : Type 0} (P Q : A → Type 0) (xs : List A) → AllByRecursion P x
 two_all P Q [] h g = tt
 two_all P Q (x ∷ xs) h g = ((h.0, g.0), two_all P Q xs h.1 g.1)
 
-module _ (text : List ℕ) (old : List (List ℕ)) (lines : List Line) (laid : List Laid) (stop : Option ParseFault) (f : Forest) (t : List (List ℕ))
-    (ok : AllByRecursion (IsTextLine text) lines) (judged : AreJudged text old lines laid stop) (well : IsWellLaid laid stop f) where
+module _ (text : List ℕ) (old : List (List ℕ)) (lines : List Line) (laid : List Laid) (halt : Option ParseFault) (f : Forest) (t : List (List ℕ))
+    (ok : AllByRecursion (IsTextLine text) lines) (judged : AreJudged text old lines laid halt) (well : IsWellLaid laid halt f) where
   abbrev base : List (List ℕ)
   base = with_names_of_all text old lines
 
   each : Extends base t → EachLine (IsLineOf t) f
-  each grows = each_of_lines (IsLineOf t) 1 f (subst (AllByRecursion (λ (line : Laid). IsLineOf t line.shape)) (sym well.lines) (lines_are_of text old t lines laid stop ok grows judged))
+  each grows = each_of_lines (IsLineOf t) 1 f (subst (AllByRecursion (λ (line : Laid). IsLineOf t line.shape)) (sym well.lines) (lines_are_of text old t lines laid halt ok grows judged))
 
   plain : Extends base t → EachLine (λ s. shape_passes (is_plain t) s ≡ true) f
   plain grows = each_map (IsLineOf t) (λ s. shape_passes (is_plain t) s ≡ true) (line_passes t (is_plain t) (plain_table t)) f (each grows)
@@ -264,9 +264,9 @@ module _ (text : List ℕ) (old : List (List ℕ)) (lines : List Line) (laid : L
 
     theres : AllByRecursion (λ (x : Name). AreThere t x.0) arrays
     theres =
-        let low = arrays_known text old base lines laid stop arrays ok (extends_same base) judged once in
+        let low = arrays_known text old base lines laid halt arrays ok (extends_same base) judged once in
         let has_all = all_brought_in base (all_elements arrays) t (all_below (length base) arrays low) (extends_eq (with_places base (all_elements arrays)) t brought) in
-        let passes = lines_pass_test t (is_plain t) (plain_table t) laid (lines_are_of text old t lines laid stop ok grows judged) in
+        let passes = lines_pass_test t (is_plain t) (plain_table t) laid (lines_are_of text old t lines laid halt ok grows judged) in
         there_all t arrays (names_pass (is_plain t) arrays (ap (list_all (is_plain t)) once ∙ arrays_pass (is_plain t) laid passes)) has_all
 
     right : (n : ℕ) → IsRight t e (e.named n) n
@@ -285,9 +285,8 @@ module _ (text : List ℕ) (old : List (List ℕ)) (lines : List Line) (laid : L
 
     good : AreKnown (knows e) f → IsGood f e
     good k = record {
-      single = part_single laid stop f well;
       sound = lines_sound t f (each grows);
-      placed = part_placed laid stop f well;
+      placed = part_placed laid halt f well;
       known = k;
       numbered = λ n. right_numbered t e (e.named n) n (right n);
     }

@@ -1,5 +1,5 @@
 -- The arrays of a part's lines are names of the table.
-use Rattle.std.proofs.Common.{◌≡◌, ℕ, ◌<◌, Bool, true, false, cond, nat_lt, List, [], ◌∷◌, ◌++◌, length, Option, Some, None, refl, sym, ap, ◌∙◌, ◌&&◌}
+use Rattle.std.proofs.Common.{◌≡◌, ℕ, ◌<◌, Bool, true, false, cond, nat_lt, List, [], ◌∷◌, ◌++◌, length, Option, Some, None, refl, ap, ◌∙◌}
 use Rattle.std.specs.List.{AllByRecursion, list_all, flat_map}
 use Rattle.std.proofs.lemmas.Bool.{and_parts, and_from, ltb-true}
 use Rattle.occ_base.specs.declared.names.Name.{Name}
@@ -15,7 +15,7 @@ use Rattle.occ_form.specs.declared.form.Param.{Param}
 use Rattle.occ_form.specs.declared.phrase.Index.{Index}
 use Rattle.occ_form.specs.Shape.{Said, item, numeral, typed, truth, negation, complement, operation, Waiting, ready, input, output, Shape, header, close, skip, stop, assign, receive, send, group, declare, condition, guard, nothing}
 use Rattle.occ_draft.specs.Forest.{Laid}
-use Rattle.occ_draft.specs.Names.{items_in, items_in_all, items_of_waiting, uses}
+use Rattle.occ_draft.specs.Names.{items_in, items_in_all, items_of_waiting}
 use Rattle.occ_kept.specs.Passing.{place_passes, item_passes, declared_passes, said_passes, waiting_passes, param_passes, shape_passes}
 use Rattle.occ_reading.specs.declared.bound.Bound.TheVariants as bound
 use Rattle.occ_reading.specs.declared.fault.ParseFault.{ParseFault}
@@ -50,9 +50,9 @@ module _ (test : ℕ → Bool) where
   items_both [] ys h k = k
   items_both (x ∷ xs) ys h k = append_passes (item_array x) (items xs) (items (xs ++ ys)) h (λ m. items_both xs ys m k)
     where
-      append_passes : (as bs cs : List ℕ) → list_all test (as ++ bs) ≡ true → (list_all test bs ≡ true → list_all test cs ≡ true) → list_all test (as ++ cs) ≡ true
+      append_passes : (ms bs cs : List ℕ) → list_all test (ms ++ bs) ≡ true → (list_all test bs ≡ true → list_all test cs ≡ true) → list_all test (ms ++ cs) ≡ true
       append_passes [] bs cs h f = f h
-      append_passes (a ∷ as) bs cs h f = let parts = and_parts (test a) (list_all test (as ++ bs)) h in and_from (test a) (list_all test (as ++ cs)) parts.0 (append_passes as bs cs parts.1 f)
+      append_passes (a ∷ ms) bs cs h f = let parts = and_parts (test a) (list_all test (ms ++ bs)) h in and_from (test a) (list_all test (ms ++ cs)) parts.0 (append_passes ms bs cs parts.1 f)
 
   said_pass : (e : Said) → said_passes test e ≡ true → list_all test (items (items_in e)) ≡ true
   said_pass (item i) h = both (item_array i) [] (item_pass i h) refl
@@ -130,9 +130,9 @@ each_line : {P Q : Laid → Type 0} → ((l : Laid) → P l → Q l) → (lines 
 each_line f [] h = tt
 each_line f (l ∷ lines) h = (f l h.0, each_line f lines h.1)
 
-pub lines_are_of : (text : List ℕ) (old t : List (List ℕ)) (lines : List Line) (laid : List Laid) (stop : Option ParseFault) → AllByRecursion (IsTextLine text) lines
-    → Extends (with_names_of_all text old lines) t → AreJudged text old lines laid stop → AllByRecursion (λ (line : Laid). IsLineOf t line.shape) laid
-lines_are_of text old t lines laid stop h e j =
+pub lines_are_of : (text : List ℕ) (old t : List (List ℕ)) (lines : List Line) (laid : List Laid) (halt : Option ParseFault) → AllByRecursion (IsTextLine text) lines
+    → Extends (with_names_of_all text old lines) t → AreJudged text old lines laid halt → AllByRecursion (λ (line : Laid). IsLineOf t line.shape) laid
+lines_are_of text old t lines laid halt h e j =
     let rows = rows_of text old lines in
     lines_of_rows t (stopped bound.Script rows None).0 laid (stopped_keeps (λ row. AreOf t row.symbols) bound.Script rows None (rows_are text old t lines h e)) j.forms
 
@@ -149,8 +149,8 @@ names_below n [] h = tt
 names_below n (x ∷ arrays) h =
     let parts = and_parts (nat_lt x.0 n) (list_all (λ x. nat_lt x n) (numbers arrays)) h in (ltb-true _ _ parts.0, names_below n arrays parts.1)
 
-pub arrays_known : (text : List ℕ) (old t : List (List ℕ)) (lines : List Line) (laid : List Laid) (stop : Option ParseFault) (arrays : List Name) → AllByRecursion (IsTextLine text) lines
-    → Extends (with_names_of_all text old lines) t → AreJudged text old lines laid stop → numbers arrays ≡ arrays_of laid → AllByRecursion (λ (x : Name). x.0 < length t) arrays
-arrays_known text old t lines laid stop arrays h e j n =
+pub arrays_known : (text : List ℕ) (old t : List (List ℕ)) (lines : List Line) (laid : List Laid) (halt : Option ParseFault) (arrays : List Name) → AllByRecursion (IsTextLine text) lines
+    → Extends (with_names_of_all text old lines) t → AreJudged text old lines laid halt → numbers arrays ≡ arrays_of laid → AllByRecursion (λ (x : Name). x.0 < length t) arrays
+arrays_known text old t lines laid halt arrays h e j n =
     let test : ℕ → Bool = λ x. nat_lt x (length t) in
-    names_below (length t) arrays (ap (list_all test) n ∙ arrays_pass test laid (lines_pass_test t test (in_table t) laid (lines_are_of text old t lines laid stop h e j)))
+    names_below (length t) arrays (ap (list_all test) n ∙ arrays_pass test laid (lines_pass_test t test (in_table t) laid (lines_are_of text old t lines laid halt h e j)))

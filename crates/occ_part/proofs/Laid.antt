@@ -21,6 +21,7 @@ use Rattle.occ_reading.specs.declared.fault.ParseFault.{ParseFault}
 use Rattle.occ_reading.specs.declared.fault.ParseFault.TheVariants as fault
 use Rattle.occ_reading.specs.Limits.{stopped}
 use Rattle.occ_reading.specs.Reading.{AreForms}
+use Rattle.occ_part.specs.Arrays.{array_names, arrays_of}
 use Rattle.occ_part.specs.Parts.{AreJudged, IsWellLaid, IsIllLaid, badly, behind, IsPart, IsNoPart}
 
 module _ (rows : List Laid) (stop : Option ParseFault) (more : Bool) (r : Option ℕ) (m : more ≡ is_some stop) (h : r ≡ least_bad frame.Part more rows) where
@@ -70,3 +71,6 @@ names_are arrays xs e = again arrays ∙ ap (map (λ x. record { 0 = x })) e
     again : (arrays : List Name) → arrays ≡ map (λ x. record { 0 = x }) (numbers arrays)
     again [] = refl
     again (x ∷ arrays) = ap (λ xs. x ∷ xs) (again arrays)
+
+pub named_here : (arrays : List Name) (laid : List Laid) (f : Forest) → numbers arrays ≡ arrays_of laid → lines_at 1 f ≡ laid → arrays ≡ array_names (lines_at 1 f)
+named_here arrays laid f e h = names_are arrays (arrays_of laid) e ∙ ap array_names (sym h)

@@ -1,6 +1,6 @@
 mod Single
 mod Kept
-mod Rows
+mod Counted
 mod Listed
 mod Known
 mod Laid

@@ -3,9 +3,9 @@ use Rattle.std.proofs.Common.{◌≡◌, ℕ, ◌+◌, ◌<◌, ◌≤◌, List,
 use Rattle.std.specs.List.{flat_map}
 use Rattle.std.proofs.lemmas.List.{drop_more, drop_all}
 use Rattle.occ_names.specs.Once.{same_number, with_one, with_all}
-use Rattle.occ_form.specs.declared.form.Item.{Item}
+use Rattle.occ_syntax.specs.declared.expr.Op.{Op}
 use Rattle.occ_form.specs.declared.phrase.Phrase.{Phrase}
-use Rattle.occ_form.specs.Shape.{said, all_said, shape}
+use Rattle.occ_form.specs.Shape.{Said, operation, said, all_said, shape}
 use Rattle.occ_draft.specs.Names.{items_in, items_in_all}
 use Rattle.occ_draft.specs.Forest.{Laid}
 use Rattle.occ_layout.specs.declared.placed.Placed.{Placed}
@@ -45,6 +45,10 @@ module _ {A : Type 0} (f : A → List ℕ) (xs : List A) (i : ℕ) where
       ∙ sym (noted-append fs (f (get_or xs i z)) rest)
       ∙ sym (ap (λ ys. noted fs (flat_map f ys)) (drop_more xs i z h))
 
+  pub noted_at : (z : A) (fs gs : List ℕ) → i < length xs → gs ≡ noted fs (f (get_or xs i z))
+      → noted gs (flat_map f (drop (i + 1) xs)) ≡ noted fs (flat_map f (drop i xs))
+  noted_at z fs gs h p = noted_more (get_or xs i z) z fs gs h refl p
+
   pub noted_done : (fs : List ℕ) → length xs ≤ i → noted fs (flat_map f (drop i xs)) ≡ fs
   noted_done fs h = ap (λ ys. noted fs (flat_map f ys)) (drop_all i xs h)
 
@@ -69,3 +73,12 @@ module _ (ps : List Phrase) (i : ℕ) where
 pub lines_flat : (rows : List Placed) → flat_map (λ (line : Laid). line_arrays line.shape) (laid_rows rows) ≡ flat_map (λ (p : Placed). line_arrays (shape p.form)) rows
 lines_flat [] = refl
 lines_flat (p ∷ rows) = ap (λ zs. line_arrays (shape p.form) ++ zs) (lines_flat rows)
+
+-- the two operands of an operation
+pub noted_two : (e l r l' r' : Said) (op : Op) (fs gs hs : List ℕ) → e ≡ operation op l r → l' ≡ l → r' ≡ r → gs ≡ noted fs (flat_map item_array (items_in l'))
+    → hs ≡ noted gs (flat_map item_array (items_in r')) → hs ≡ noted fs (flat_map item_array (items_in e))
+noted_two e l r l' r' op fs gs hs d a b g h =
+    noted_both item_array (items_in l') (items_in r') fs gs hs g h
+    ∙ ap (λ x. noted fs (flat_map item_array (items_in x ++ items_in r'))) a
+    ∙ ap (λ x. noted fs (flat_map item_array (items_in l ++ items_in x))) b
+    ∙ sym (ap (λ x. noted fs (flat_map item_array (items_in x))) d)

@@ -1,10 +1,10 @@
 -- Lines have one reading as a part, since a line has one form and lines are those of one forest.
-use Rattle.std.proofs.Common.{◌≡◌, ℕ, true, false, List, [], ◌∷◌, Option, Some, None, refl, sym, ap, ◌∙◌}
+use Rattle.std.proofs.Common.{◌≡◌, ℕ, false, List, [], ◌∷◌, Option, Some, None, refl, sym, ap, ◌∙◌}
 use Rattle.std.specs.Prelude.{is_some}
 use Rattle.occ_lex.specs.declared.token.Line.{Line}
 use Rattle.occ_symbol.specs.declared.symbol.Row.{Row}
 use Rattle.occ_symbol.specs.Symbols.{rows_of}
-use Rattle.occ_draft.specs.Forest.{Forest, Laid, lines_at}
+use Rattle.occ_draft.specs.Forest.{Forest, Laid}
 use Rattle.occ_layout.specs.declared.placed.Frame.TheVariants as frame
 use Rattle.occ_layout.specs.Layout.{least_bad}
 use Rattle.occ_layout.proofs.Once.{one_forest_of}
@@ -77,4 +77,4 @@ module _ (one : OneForm) where
 
     pub not_both : (f : Forest) (g : ParseFault) → IsPart text old lines f → IsNoPart text old lines g → ⊥
     not_both f g x y =
-        not_ill x.laid y.laid x.stop y.stop x.judged y.judged x.well.whole (ap (λ ls. least_bad frame.Part false ls) refl ∙ x.well.good) y.ill
+        not_ill x.laid y.laid x.stop y.stop x.judged y.judged x.well.whole x.well.good y.ill

@@ -1,5 +1,5 @@
 -- Lines without replicators.
-use Rattle.std.proofs.Common.{◌≡◌, ◌==◌, ℕ, Bool, true, false, not, ◌&&◌, Option, Some, None, refl, sym, ap, ◌∙◌}
+use Rattle.std.proofs.Common.{◌≡◌, ◌==◌, ℕ, true, not, ◌&&◌, Option, Some, None, refl, sym, ap, ◌∙◌}
 use Rattle.std.specs.Prelude.{is_some}
 use Rattle.std.proofs.lemmas.Bool.{and_parts, eq-eqb}
 use Rattle.occ_form.specs.declared.form.Group.{Group}
@@ -17,10 +17,10 @@ pub no_times : (s : Shape) (g : Group) (times : Option Times) → is_single s �
 no_times s g times h e = none_of times (sym (ap is_single e) ∙ h)
 
 -- a line with those below it and those behind
-pub record Singles (s : Shape) (below rest : Forest) : Type 0 where
+pub record Singles (s : Shape) (inner others : Forest) : Type 0 where
   pub line : is_single s ≡ true
-  pub below : every_line is_single below ≡ true
-  pub rest : every_line is_single rest ≡ true
+  pub below : every_line is_single inner ≡ true
+  pub rest : every_line is_single others ≡ true
 
 pub singles : (f : Forest) (number : ℕ) (s : Shape) (below rest : Forest) → f ≡ and_line number s below rest → every_line is_single f ≡ true → Singles s below rest
 singles f number s below rest e h =

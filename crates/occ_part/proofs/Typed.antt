@@ -1,5 +1,5 @@
 -- A part without a fault keeps names, types and directions in its scope.
-use Rattle.std.proofs.Common.{◌≡◌, ℕ, ◌+◌, Bool, true, false, true≢false, cond, ◌==◌, ◌&&◌, ◌||◌, List, [], ◌∷◌, ◌++◌, Option, Some, None, is_none, is_some, refl, sym, ap, subst, ◌∙◌}
+use Rattle.std.proofs.Common.{◌≡◌, ℕ, Bool, true, false, true≢false, cond, ◌==◌, ◌&&◌, ◌||◌, List, [], ◌∷◌, ◌++◌, Option, Some, None, is_none, is_some, refl, sym, ap, ◌∙◌}
 use Rattle.std.specs.List.{AllByRecursion, list_all, list_any, flat_map}
 use Rattle.std.proofs.lemmas.Bool.{and_parts, and_from, eqb-true}
 use Rattle.occ_base.specs.declared.names.Name.{Name}
@@ -11,14 +11,13 @@ use Rattle.occ_form.specs.declared.form.Declared.{Declared}
 use Rattle.occ_form.specs.declared.form.Declared.TheVariants as declared
 use Rattle.occ_form.specs.declared.form.Param.{Param}
 use Rattle.occ_draft.specs.declared.sort.Sort.{Sort}
-use Rattle.occ_draft.specs.Forest.{Forest}
 use Rattle.occ_draft.specs.Judging.{or_else, first_fault}
 use Rattle.occ_draft.specs.Names.{is_there, name_fault, redeclares_some}
 use Rattle.occ_draft.specs.Places.{Place, Sorts, places, param_entries, sort_of, sort_at}
-use Rattle.occ_draft.specs.Types.{type_fault, direction_fault}
+use Rattle.occ_draft.specs.Types.{type_fault}
 use Rattle.occ_draft.specs.Unrolled.{named, params_named}
 use Rattle.occ_kept.specs.Agreement.{AreIn, Has, IsOneToOne}
-use Rattle.occ_kept.specs.Programs.{IsInOrderWith, KeepsTypes}
+use Rattle.occ_kept.specs.Programs.{KeepsTypes}
 use Rattle.occ_kept.specs.Sound.{has_width}
 use Rattle.occ_kept.proofs.Params.{program_kept}
 use Rattle.occ_reading.specs.declared.fault.ParseFault.{ParseFault}
@@ -27,7 +26,7 @@ use Rattle.occ_reading.specs.Drafts.{as_fault, name_fault_on, type_fault_on}
 use Rattle.occ_part.specs.Elements.{Elements, numbers}
 use Rattle.occ_part.proofs.Single.{eqb-refl}
 use Rattle.occ_part.specs.Parts.{Part, IsGood, IsNumbered, is_element, is_itself, knows}
-use Rattle.occ_part.specs.Resolving.{fault_in, part_fault, part_process, scope_of, scope_params}
+use Rattle.occ_part.specs.Resolving.{part_fault, part_process, scope_of, scope_params}
 
 -- ---- no faults
 

@@ -9,7 +9,6 @@ use Rattle.occ_symbol.specs.Symbols.{rows_of}
 use Rattle.occ_draft.specs.Forest.{Forest, Laid, lines_at}
 use Rattle.occ_layout.specs.declared.placed.Frame.TheVariants as frame
 use Rattle.occ_layout.specs.Layout.{least_bad}
-use Rattle.occ_layout.specs.Whole.{every_line, is_single}
 use Rattle.occ_reading.specs.declared.bound.Bound.TheVariants as bound
 use Rattle.occ_reading.specs.declared.fault.ParseFault.{ParseFault}
 use Rattle.occ_reading.specs.declared.fault.ParseFault.TheVariants as fault
@@ -45,10 +44,9 @@ IsNumbered e (declared.Plain y) n = y.0 ≡ n
 IsNumbered e (declared.Element y j) n = e.number y.0 j ≡ n
 IsNumbered e (declared.Array y c) n = ⊥
 
--- The lines of a part have no replicator, forms that reading gives, and declarations in front of processes alone; and the
--- names that they declare have numbers of their own.
+-- The lines of a part have forms that reading gives, and declarations in front of processes alone; and the names that they
+-- declare have numbers of their own.
 pub record IsGood (lines : Forest) (e : Elements) : Type 0 where
-  pub single : every_line is_single lines ≡ true
   pub sound : are_sound lines ≡ true
   pub placed : are_placed lines ≡ true
   pub known : AreKnown (knows e) lines

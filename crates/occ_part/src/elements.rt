@@ -2,26 +2,18 @@
 
 ghost use Rattle.std.specs.Prelude.{◌≡◌, ◌≤◌, length, OnOk};
 ghost use Rattle.occ_part.specs.Elements.{named_row, names_found, no_elements, with_row};
+ghost use Rattle.occ_part.specs.Seen.{seen};
 
 use indexmap::IndexMap;
 use occ_base::{Memory, Name};
 use occ_form::Declared;
 use std::alloc::Global;
-use std::marker::Model;
 
 /// The names of the elements of arrays, to be looked up by array and place, and by name.
 #[derive(Drop)]
 pub struct Elements {
     rows: IndexMap<Name, Vec<Name>>,
     places: IndexMap<Name, Declared>,
-}
-
-impl Model for Elements {
-    ghost use Rattle.occ_part.specs.Elements.{Elements as Seen, kept_in};
-
-    ghost Value = { Seen };
-
-    ghost view = { λ e. kept_in e.rows.entries (λ row. row.items) e.places.entries };
 }
 
 /// Notes that the names of a row are the elements of an array, from the first on.
@@ -42,7 +34,7 @@ fn note_row(
 impl Elements {
     /// No elements. It takes no memory.
     pub fn new(alloc: Global) -> Elements
-        ensures { result ≡ no_elements }
+        ensures { seen result ≡ no_elements }
     {
         Elements {
             rows: IndexMap::new(alloc),
@@ -53,7 +45,7 @@ impl Elements {
     /// Adds the elements of an array, from the first on.
     pub fn add(&mut self, array: Name, row: Vec<Name>) -> Result<(), Memory>
         requires { length row.items ≤ 256 }
-        ensures { OnOk result (self.new ≡ with_row self.old array row.items) }
+        ensures { OnOk result (seen self.new ≡ with_row (seen self.old) array row.items) }
     {
         note_row(&mut self.places, array, row.as_slice())?;
         self.rows.insert(array, row)?;
@@ -62,7 +54,7 @@ impl Elements {
 
     /// The name of the element of an array at a place, and 0 where it isn't there. It takes no memory.
     pub fn number(&self, array: Name, k: u16) -> Name
-        ensures { result.0 ≡ self.now.number array.0 k }
+        ensures { result.0 ≡ (seen self.now).number array.0 k }
     {
         match self.rows.get(&array) {
             Some(row) => match row.get(k as usize) {
@@ -75,7 +67,7 @@ impl Elements {
 
     /// What a name is: an element, or else a name by itself. It takes no memory.
     pub fn declared(&self, name: Name) -> Declared
-        ensures { result ≡ self.now.named name.0 }
+        ensures { result ≡ (seen self.now).named name.0 }
     {
         match self.places.get(&name) {
             Some(declared) => *declared,

@@ -7,6 +7,7 @@ ghost use Rattle.occ_draft.specs.Types.{channel_here, sort_here};
 ghost use Rattle.occ_draft.specs.Unrolled.{expression as expression_of, item_exp, item_number, value as value_of, values as all_values, waited};
 ghost use Rattle.occ_unroll.specs.Present.{values_of};
 ghost use Rattle.occ_part.specs.Elements.{numbers};
+ghost use Rattle.occ_part.specs.Seen.{seen};
 
 use crate::elements::Elements;
 use crate::naming::item_name;
@@ -21,7 +22,7 @@ use std::alloc::Global;
 fn item_expression(elements: &Elements, context: &Context, item: Item, width: Width) -> Expr
     ensures { let Γ = context.now.scopes in
         let ρ = values_of context.now.values in
-        exp result ≡ item_exp (sort_here Γ ρ item) (ρ item.name.0) (item_number (numbers elements.now) ρ item) width }
+        exp result ≡ item_exp (sort_here Γ ρ item) (ρ item.name.0) (item_number (numbers (seen elements.now)) ρ item) width }
 {
     if let Some(Sort::Counter { .. }) = context.sort(item) {
         return Expr::Word {
@@ -40,7 +41,7 @@ pub fn expression(
     phrase: &Phrase,
     width: Width,
 ) -> Result<Expr, Memory>
-    ensures expression { IfOk result (λ e. exp e ≡ expression_of (numbers elements.now) context.now.scopes (values_of context.now.values) (said phrase.now) width) }
+    ensures expression { IfOk result (λ e. exp e ≡ expression_of (numbers (seen elements.now)) context.now.scopes (values_of context.now.values) (said phrase.now) width) }
 {
     match phrase {
         Phrase::Item(item) => Ok(item_expression(elements, context, *item, width)),
@@ -79,7 +80,7 @@ pub fn values(
     left: &[Item],
     right: &[Phrase],
 ) -> Result<Exprs, Memory>
-    ensures values { IfOk result (λ es. exps es ≡ all_values (numbers elements.now) context.now.scopes (values_of context.now.values) left.now (all_said right.now)) }
+    ensures { IfOk result (λ es. exps es ≡ all_values (numbers (seen elements.now)) context.now.scopes (values_of context.now.values) left.now (all_said right.now)) }
 {
     let mut values = Exprs::new(alloc);
     for i in 0..left.len().min(right.len()) {
@@ -96,7 +97,7 @@ pub fn left_names(
     context: &Context,
     items: &[Item],
 ) -> Result<NameList, Memory>
-    ensures names { IfOk result (λ xs. numbers_of xs ≡ map (item_number (numbers elements.now) (values_of context.now.values)) items.now) }
+    ensures names { IfOk result (λ xs. numbers_of xs ≡ map (item_number (numbers (seen elements.now)) (values_of context.now.values)) items.now) }
 {
     let mut list = NameList::new(alloc);
     for item in items {
@@ -114,8 +115,8 @@ pub fn output(
     value: &Phrase,
 ) -> Result<(Name, Expr), Memory>
     ensures output { IfOk result (λ r. let Γ = context.now.scopes in let ρ = values_of context.now.values in
-        (r.0.0 ≡ item_number (numbers elements.now) ρ chan)
-        × (exp r.1 ≡ value_of (numbers elements.now) Γ ρ (channel_here Γ ρ chan) (said value.now))) }
+        (r.0.0 ≡ item_number (numbers (seen elements.now)) ρ chan)
+        × (exp r.1 ≡ value_of (numbers (seen elements.now)) Γ ρ (channel_here Γ ρ chan) (said value.now))) }
 {
     let name = item_name(elements, context, chan);
     let value = expression(alloc, elements, context, value, context.channel_width(chan))?;
@@ -124,8 +125,8 @@ pub fn output(
 
 /// An input's channel and variable.
 pub fn input(elements: &Elements, context: &Context, chan: Item, var: Item) -> (Name, Name)
-    ensures chan { result.0.0 ≡ item_number (numbers elements.now) (values_of context.now.values) chan }
-    ensures var { result.1.0 ≡ item_number (numbers elements.now) (values_of context.now.values) var }
+    ensures chan { result.0.0 ≡ item_number (numbers (seen elements.now)) (values_of context.now.values) chan }
+    ensures var { result.1.0 ≡ item_number (numbers (seen elements.now)) (values_of context.now.values) var }
 {
     let chan = item_name(elements, context, chan);
     let var = item_name(elements, context, var);
@@ -139,7 +140,7 @@ pub fn wait(
     context: &Context,
     wants: &Wants,
 ) -> Result<Wait, Memory>
-    ensures wait { IfOk result (λ w. waiting_view w ≡ waited (numbers elements.now) context.now.scopes (values_of context.now.values) (waiting_said wants.now)) }
+    ensures wait { IfOk result (λ w. waiting_view w ≡ waited (numbers (seen elements.now)) context.now.scopes (values_of context.now.values) (waiting_said wants.now)) }
 {
     match wants {
         Wants::Skip => Ok(Wait::Skip),

@@ -6,6 +6,7 @@ ghost use Rattle.occ_draft.specs.Forest.{forest, in_nodes, lines_at};
 ghost use Rattle.occ_layout.specs.Layout.{laid_rows};
 ghost use Rattle.occ_part.specs.Arrays.{array_names, arrays_of};
 ghost use Rattle.occ_part.specs.Elements.{elements_in, with_arrays};
+ghost use Rattle.occ_part.specs.Shown.{elements_of, lines_of};
 ghost use Rattle.occ_part.specs.Parts.{IsIllLaid, IsNoPart, IsPart, IsWellLaid};
 
 use crate::arrays::arrays;
@@ -58,16 +59,19 @@ pub fn form(
     lines: &[Line],
 ) -> Result<Raw, ParseFault>
     requires { AllByRecursion (IsLineOf text.now) lines.now }
-    ensures found { IfOk result (λ raw. IsPart text.now names.old lines.now raw.lines) }
-    ensures table { IfOk result (λ raw. names.new ≡ with_arrays (with_names_of_all text.now names.old lines.now) (array_names (lines_at 1 raw.lines))) }
-    ensures elements { IfOk result (λ raw. (t : List (List ℕ)) → Extends names.new t → raw.elements ≡ elements_in t (array_names (lines_at 1 raw.lines))) }
+    ensures found { IfOk result (λ raw. IsPart text.now names.old lines.now (lines_of raw)) }
+    ensures table { IfOk result (λ raw. names.new ≡ with_arrays (with_names_of_all text.now names.old lines.now) (array_names (lines_at 1 (lines_of raw)))) }
+    ensures elements { IfOk result (λ raw. (t : List (List ℕ)) → Extends names.new t → elements_of raw ≡ elements_in t (array_names (lines_at 1 (lines_of raw)))) }
     ensures refused { IfErr result (λ fault.
         (IsNoPart text.now names.old lines.now fault × (names.new ≡ with_names_of_all text.now names.old lines.now)) ⊎ (fault ≡ ParseFault.Memory)) }
     ensures extends { Extends names.old names.new }
 {
     let rows = rows(alloc, names, text, lines)?;
     let judged = judge_rows(alloc, Bound::Script, &rows, None)?;
-    let Laid { nodes, arrays } = laid_out(alloc, judged)?;
-    let elements = elements(alloc, names, arrays.names())?;
-    Ok(Raw { nodes, elements })
+    let laid = laid_out(alloc, judged)?;
+    let elements = elements(alloc, names, laid.arrays.names())?;
+    Ok(Raw {
+        nodes: laid.nodes,
+        elements,
+    })
 }

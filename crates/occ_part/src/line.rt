@@ -9,6 +9,7 @@ ghost use Rattle.occ_unroll.specs.Guards.{guard_condition, guard_wait};
 ghost use Rattle.occ_unroll.specs.Present.{values_of};
 ghost use Rattle.occ_unroll.specs.Reading.{is_group, is_guard};
 ghost use Rattle.occ_part.specs.Elements.{numbers};
+ghost use Rattle.occ_part.specs.Seen.{seen};
 
 use crate::elements::Elements;
 use crate::expression::{expression, input, left_names, output, values, wait};
@@ -27,8 +28,8 @@ fn assign(
     right: &[Phrase],
 ) -> Result<Proc, Memory>
     ensures tree { IfOk result (λ p. let ρ = values_of context.now.values in
-        tree p ≡ assignment (map (item_number (numbers elements.now) ρ) left.now)
-        (all_values (numbers elements.now) context.now.scopes ρ left.now (all_said right.now))) }
+        tree p ≡ assignment (map (item_number (numbers (seen elements.now)) ρ) left.now)
+        (all_values (numbers (seen elements.now)) context.now.scopes ρ left.now (all_said right.now))) }
 {
     let vars = left_names(alloc, elements, context, left)?;
     let values = values(alloc, elements, context, left, right)?;
@@ -44,7 +45,7 @@ pub fn simple(
     form: &Form,
 ) -> Result<Proc, Memory>
     requires simple { is_group (shape form.now) ≡ false }
-    ensures tree { IfOk result (λ p. (below : Lines) → tree p ≡ process (numbers elements.now) (shape form.now) below context.now.scopes (values_of context.now.values)) }
+    ensures tree { IfOk result (λ p. (below : Lines) → tree p ≡ process (numbers (seen elements.now)) (shape form.now) below context.now.scopes (values_of context.now.values)) }
 {
     match form {
         Form::Stop => Ok(Proc::Stop),
@@ -72,8 +73,8 @@ pub fn guard(
     form: &Form,
 ) -> Result<Guard, Memory>
     requires guard { is_guard (shape form.now) ≡ true }
-    ensures condition { IfOk result (λ g. exp g.condition ≡ guard_condition (numbers elements.now) context.now.scopes (values_of context.now.values) (shape form.now)) }
-    ensures wait { IfOk result (λ g. waiting g.wait ≡ guard_wait (numbers elements.now) context.now.scopes (values_of context.now.values) (shape form.now)) }
+    ensures condition { IfOk result (λ g. exp g.condition ≡ guard_condition (numbers (seen elements.now)) context.now.scopes (values_of context.now.values) (shape form.now)) }
+    ensures wait { IfOk result (λ g. waiting g.wait ≡ guard_wait (numbers (seen elements.now)) context.now.scopes (values_of context.now.values) (shape form.now)) }
 {
     match form {
         Form::Input { chan, var } => {

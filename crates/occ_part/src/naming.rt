@@ -5,6 +5,7 @@ ghost use Rattle.occ_draft.specs.Places.{declared_in, entries_of};
 ghost use Rattle.occ_draft.specs.Unrolled.{all_named, item_number, named};
 ghost use Rattle.occ_unroll.specs.Present.{values_of};
 ghost use Rattle.occ_part.specs.Elements.{numbers};
+ghost use Rattle.occ_part.specs.Seen.{seen};
 
 use crate::elements::Elements;
 use occ_base::{Memory, Name};
@@ -14,7 +15,7 @@ use occ_unroll::Context;
 
 /// The number of what an item names, and 0 where its index is below 0. It takes no memory.
 pub fn item_name(elements: &Elements, context: &Context, item: Item) -> Name
-    ensures { result.0 ≡ item_number (numbers elements.now) (values_of context.now.values) item }
+    ensures { result.0 ≡ item_number (numbers (seen elements.now)) (values_of context.now.values) item }
 {
     match item.index {
         None => item.name,
@@ -36,7 +37,7 @@ pub fn declare(
 ) -> Result<(), Memory>
     ensures scopes { OnOk result (context.new.scopes ≡ declared_in context.old.scopes (entries_of kind declared.now)) }
     ensures values { OnOk result (context.new.values ≡ context.old.values) }
-    ensures waiting { OnOk result (waiting.new ≡ waiting.old ++ all_named (numbers elements.now) kind declared.now) }
+    ensures waiting { OnOk result (waiting.new ≡ waiting.old ++ all_named (numbers (seen elements.now)) kind declared.now) }
 {
     context.scopes.declare_all(kind, declared)?;
     name_all(elements, kind, declared, waiting)
@@ -48,7 +49,7 @@ fn name_all(
     declared: &[Declared],
     waiting: &mut Scope,
 ) -> Result<(), Memory>
-    ensures { OnOk result (waiting.new ≡ waiting.old ++ all_named (numbers elements.now) kind declared.now) }
+    ensures { OnOk result (waiting.new ≡ waiting.old ++ all_named (numbers (seen elements.now)) kind declared.now) }
 {
     for d in declared {
         name_places(elements, kind, *d, waiting)?;
@@ -63,7 +64,7 @@ fn name_places(
     declared: Declared,
     waiting: &mut Scope,
 ) -> Result<(), Memory>
-    ensures { OnOk result (waiting.new ≡ waiting.old ++ named (numbers elements.now) kind declared) }
+    ensures { OnOk result (waiting.new ≡ waiting.old ++ named (numbers (seen elements.now)) kind declared) }
 {
     match declared {
         Declared::Plain(name) => waiting.push((name, kind)),
@@ -81,7 +82,7 @@ fn name_elements(
     count: u8,
     waiting: &mut Scope,
 ) -> Result<(), Memory>
-    ensures { OnOk result (waiting.new ≡ waiting.old ++ named (numbers elements.now) kind (Declared.Array array count)) }
+    ensures { OnOk result (waiting.new ≡ waiting.old ++ named (numbers (seen elements.now)) kind (Declared.Array array count)) }
 {
     for k in 0..count {
         let name = elements.number(array, u16::from(k));

@@ -8,6 +8,7 @@ ghost use Rattle.occ_draft.specs.Unrolled.{as_parts, branch_line, branches_then,
 ghost use Rattle.occ_layout.specs.Whole.{every_line, is_single};
 ghost use Rattle.occ_unroll.specs.Present.{values_of};
 ghost use Rattle.occ_part.specs.Elements.{numbers};
+ghost use Rattle.occ_part.specs.Seen.{seen};
 
 use crate::elements::Elements;
 use crate::expression::expression;
@@ -30,7 +31,7 @@ pub fn slot(
     nodes: &[Node],
 ) -> Result<Proc, Memory>
     requires { every_line is_single (forest nodes.now) ≡ true }
-    ensures tree { IfOk result (λ p. tree p ≡ slot_of (unrolled (numbers elements.now) (forest nodes.now)) context.old.scopes (values_of context.old.values)) }
+    ensures tree { IfOk result (λ p. tree p ≡ slot_of (unrolled (numbers (seen elements.now)) (forest nodes.now)) context.old.scopes (values_of context.old.values)) }
     ensures scopes { OnOk result (context.new.scopes ≡ context.old.scopes) }
     ensures values { OnOk result (context.new.values ≡ context.old.values) }
 {
@@ -65,7 +66,7 @@ fn add_slots(
 ) -> Result<(), Memory>
     requires { every_line is_single (forest nodes.now) ≡ true }
     ensures parts { OnOk result (trees (in_procs parts.new) ≡ trees_then (trees (in_procs parts.old))
-        (as_parts (unrolled (numbers elements.now) (forest nodes.now)) context.old.scopes (values_of context.old.values))) }
+        (as_parts (unrolled (numbers (seen elements.now)) (forest nodes.now)) context.old.scopes (values_of context.old.values))) }
     ensures scopes { OnOk result (context.new.scopes ≡ context.old.scopes) }
     ensures values { OnOk result (context.new.values ≡ context.old.values) }
 {
@@ -101,7 +102,7 @@ fn process(
 ) -> Result<Proc, Memory>
     requires line { is_single (shape form.now) ≡ true }
     requires below { every_line is_single (forest below.now) ≡ true }
-    ensures tree { IfOk result (λ p. tree p ≡ process_of (numbers elements.now) (shape form.now) (unrolled (numbers elements.now) (forest below.now)) context.old.scopes (values_of context.old.values)) }
+    ensures tree { IfOk result (λ p. tree p ≡ process_of (numbers (seen elements.now)) (shape form.now) (unrolled (numbers (seen elements.now)) (forest below.now)) context.old.scopes (values_of context.old.values)) }
     ensures scopes { OnOk result (context.new.scopes ≡ context.old.scopes) }
     ensures values { OnOk result (context.new.values ≡ context.old.values) }
 {
@@ -120,7 +121,7 @@ fn construct(
     below: &[Node],
 ) -> Result<Proc, Memory>
     requires { every_line is_single (forest below.now) ≡ true }
-    ensures tree { IfOk result (λ p. tree p ≡ construct_of group None (unrolled (numbers elements.now) (forest below.now)) context.old.scopes (values_of context.old.values)) }
+    ensures tree { IfOk result (λ p. tree p ≡ construct_of group None (unrolled (numbers (seen elements.now)) (forest below.now)) context.old.scopes (values_of context.old.values)) }
     ensures scopes { OnOk result (context.new.scopes ≡ context.old.scopes) }
     ensures values { OnOk result (context.new.values ≡ context.old.values) }
 {
@@ -159,7 +160,7 @@ fn add_choices(
 ) -> Result<(), Memory>
     requires { every_line is_single (forest nodes.now) ≡ true }
     ensures list { OnOk result (cases (in_choices list.new) ≡ cases_then (cases (in_choices list.old))
-        ((unrolled (numbers elements.now) (forest nodes.now)).cases context.old.scopes (values_of context.old.values))) }
+        ((unrolled (numbers (seen elements.now)) (forest nodes.now)).cases context.old.scopes (values_of context.old.values))) }
     ensures scopes { OnOk result (context.new.scopes ≡ context.old.scopes) }
     ensures values { OnOk result (context.new.values ≡ context.old.values) }
 {
@@ -182,7 +183,7 @@ fn add_choice(
     requires line { is_single (shape form.now) ≡ true }
     requires below { every_line is_single (forest below.now) ≡ true }
     ensures list { OnOk result (cases (in_choices list.new) ≡ cases_then (cases (in_choices list.old))
-        (case_line (numbers elements.now) (shape form.now) (unrolled (numbers elements.now) (forest below.now)) no_lines context.old.scopes (values_of context.old.values))) }
+        (case_line (numbers (seen elements.now)) (shape form.now) (unrolled (numbers (seen elements.now)) (forest below.now)) no_lines context.old.scopes (values_of context.old.values))) }
     ensures scopes { OnOk result (context.new.scopes ≡ context.old.scopes) }
     ensures values { OnOk result (context.new.values ≡ context.old.values) }
 {
@@ -209,7 +210,7 @@ fn add_alternatives(
 ) -> Result<(), Memory>
     requires { every_line is_single (forest nodes.now) ≡ true }
     ensures list { OnOk result (branches (in_alternatives list.new) ≡ branches_then (branches (in_alternatives list.old))
-        ((unrolled (numbers elements.now) (forest nodes.now)).branches context.old.scopes (values_of context.old.values))) }
+        ((unrolled (numbers (seen elements.now)) (forest nodes.now)).branches context.old.scopes (values_of context.old.values))) }
     ensures scopes { OnOk result (context.new.scopes ≡ context.old.scopes) }
     ensures values { OnOk result (context.new.values ≡ context.old.values) }
 {
@@ -232,7 +233,7 @@ fn add_alternative(
     requires line { is_single (shape form.now) ≡ true }
     requires below { every_line is_single (forest below.now) ≡ true }
     ensures list { OnOk result (branches (in_alternatives list.new) ≡ branches_then (branches (in_alternatives list.old))
-        (branch_line (numbers elements.now) (shape form.now) (unrolled (numbers elements.now) (forest below.now)) no_lines context.old.scopes (values_of context.old.values))) }
+        (branch_line (numbers (seen elements.now)) (shape form.now) (unrolled (numbers (seen elements.now)) (forest below.now)) no_lines context.old.scopes (values_of context.old.values))) }
     ensures scopes { OnOk result (context.new.scopes ≡ context.old.scopes) }
     ensures values { OnOk result (context.new.values ≡ context.old.values) }
 {

@@ -3,6 +3,8 @@ ghost use Rattle.occ_syntax.specs.Scopes.{environment};
 ghost use Rattle.occ_syntax.specs.Types.{scope_kept, types_kept};
 ghost use Rattle.occ_syntax.specs.View.{tree};
 ghost use Rattle.occ_part.specs.Resolving.{part_fault, part_process, scope_params};
+ghost use Rattle.occ_part.specs.Seen.{seen};
+ghost use Rattle.occ_part.specs.Shown.{part_of};
 
 use crate::elements::Elements;
 use crate::faults::fault_in;
@@ -21,7 +23,7 @@ fn params_of(
     elements: &Elements,
     scope: &[(Name, Kind)],
 ) -> Result<Vec<Param>, Memory>
-    ensures { IfOk result (λ params. params.items ≡ scope_params elements.now scope.now) }
+    ensures { IfOk result (λ params. params.items ≡ scope_params (seen elements.now) scope.now) }
 {
     let mut params = Vec::new(alloc);
     for entry in scope {
@@ -39,10 +41,10 @@ fn params_of(
 /// has one. `Memory` comes only for want of memory. Where no name stands twice in the scope and its widths are widths, the process
 /// keeps names, types and directions in it.
 pub fn resolve(alloc: Global, scope: &Scope, raw: &Raw) -> Result<Proc, ParseFault>
-    ensures fault { IfOk result (λ p. part_fault raw.now scope.now ≡ None) }
-    ensures found { IfOk result (λ p. tree p ≡ part_process raw.now scope.now) }
+    ensures fault { IfOk result (λ p. part_fault (part_of raw.now) scope.now ≡ None) }
+    ensures found { IfOk result (λ p. tree p ≡ part_process (part_of raw.now) scope.now) }
     ensures typed { IfOk result (λ p. scope_kept scope.now ≡ true → types_kept (tree p) (environment scope.now) ≡ true) }
-    ensures refused { IfErr result (λ fault. (part_fault raw.now scope.now ≡ Some fault) ⊎ (fault ≡ ParseFault.Memory)) }
+    ensures refused { IfErr result (λ fault. (part_fault (part_of raw.now) scope.now ≡ Some fault) ⊎ (fault ≡ ParseFault.Memory)) }
 {
     let params = params_of(alloc, &raw.elements, scope.items())?;
     let mut context = Context::new(alloc);
@@ -51,5 +53,6 @@ pub fn resolve(alloc: Global, scope: &Scope, raw: &Raw) -> Result<Proc, ParseFau
     if let Some(fault) = fault_in(alloc, &mut context.scopes, nodes)? {
         return Err(fault);
     }
-    Ok(slot(alloc, &raw.elements, &mut context, nodes)?)
+    let process = slot(alloc, &raw.elements, &mut context, nodes)?;
+    Ok(process)
 }

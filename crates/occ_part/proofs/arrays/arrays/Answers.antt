@@ -7,8 +7,8 @@ use Rattle.occ_part.specs.Arrays.{line_arrays}
 use Rattle.occ_part.proofs.Listed.{lines_flat, noted_done, noted_more}
 use Rattle.occ_part.proofs.arrays.arrays.Goals as goal
 
-pub loop-line-first : goal.loop-line-first
-loop-line-first c =
+pub loop-line-init : goal.loop-line-init
+loop-line-init c =
     ap (λ ks. with_all same_number ks (flat_map (λ (p : Placed). line_arrays (shape p.form)) c.args.lines.now)) c.new-arrays.ensures
     ∙ ap (with_all same_number []) (sym (lines_flat c.args.lines.now))
 

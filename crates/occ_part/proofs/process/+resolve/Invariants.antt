@@ -7,6 +7,7 @@ use Rattle.occ_unroll.specs.Present.{values_of}
 use Rattle.occ_unroll.proofs.Lines.{lines}
 use Rattle.occ_unroll.proofs.Pieces.{Widens}
 use Rattle.occ_part.specs.Elements.{numbers}
+use Rattle.occ_part.specs.Seen.{seen}
 use Rattle.occ_part.proofs.process.+resolve.Given as goal
 
 abbrev pub decreases-slot : goal.decreases-slot
@@ -36,8 +37,8 @@ decreases-add_alternative l = 4 * lines (forest l.below.now) + 2
 -- the first process is among the lines that are left
 abbrev pub invariant-slot-loop-node : goal.invariant-slot-loop-node
 invariant-slot-loop-node l = record {
-  whole : first_tree ((unrolled (numbers l.elements) (forest (drop l.node-index l.nodes))).parts l.fn.context.scopes l.context.scopes l.waiting (values_of l.fn.context.values))
-      ≡ first_tree ((unrolled (numbers l.elements) (forest l.nodes)).parts l.fn.context.scopes l.fn.context.scopes [] (values_of l.fn.context.values));
+  whole : first_tree ((unrolled (numbers (seen l.elements)) (forest (drop l.node-index l.nodes))).parts l.fn.context.scopes l.context.scopes l.waiting (values_of l.fn.context.values))
+      ≡ first_tree ((unrolled (numbers (seen l.elements)) (forest l.nodes)).parts l.fn.context.scopes l.fn.context.scopes [] (values_of l.fn.context.values));
   values : l.context.values ≡ l.fn.context.values;
   scopes : Widens l.fn.context.scopes l.context.scopes;
   deep : l.depth ≡ length l.fn.context.scopes;
@@ -48,8 +49,8 @@ invariant-slot-loop-node l = record {
 -- the processes so far and those of the lines that are left are all
 abbrev pub invariant-add_slots-loop-node : goal.invariant-add_slots-loop-node
 invariant-add_slots-loop-node l = record {
-  whole : trees_then (trees (in_procs l.parts)) ((unrolled (numbers l.elements) (forest (drop l.node-index l.nodes))).parts l.fn.context.scopes l.context.scopes l.waiting (values_of l.fn.context.values))
-      ≡ trees_then (trees (in_procs l.fn.parts)) ((unrolled (numbers l.elements) (forest l.nodes)).parts l.fn.context.scopes l.fn.context.scopes [] (values_of l.fn.context.values));
+  whole : trees_then (trees (in_procs l.parts)) ((unrolled (numbers (seen l.elements)) (forest (drop l.node-index l.nodes))).parts l.fn.context.scopes l.context.scopes l.waiting (values_of l.fn.context.values))
+      ≡ trees_then (trees (in_procs l.fn.parts)) ((unrolled (numbers (seen l.elements)) (forest l.nodes)).parts l.fn.context.scopes l.fn.context.scopes [] (values_of l.fn.context.values));
   values : l.context.values ≡ l.fn.context.values;
   scopes : Widens l.fn.context.scopes l.context.scopes;
   deep : l.depth ≡ length l.fn.context.scopes;
@@ -59,8 +60,8 @@ invariant-add_slots-loop-node l = record {
 
 abbrev pub invariant-add_choices-loop-node : goal.invariant-add_choices-loop-node
 invariant-add_choices-loop-node l = record {
-  whole : cases_then (cases (in_choices l.list)) ((unrolled (numbers l.elements) (forest (drop l.node-index l.nodes))).cases l.fn.context.scopes (values_of l.fn.context.values))
-      ≡ cases_then (cases (in_choices l.fn.list)) ((unrolled (numbers l.elements) (forest l.nodes)).cases l.fn.context.scopes (values_of l.fn.context.values));
+  whole : cases_then (cases (in_choices l.list)) ((unrolled (numbers (seen l.elements)) (forest (drop l.node-index l.nodes))).cases l.fn.context.scopes (values_of l.fn.context.values))
+      ≡ cases_then (cases (in_choices l.fn.list)) ((unrolled (numbers (seen l.elements)) (forest l.nodes)).cases l.fn.context.scopes (values_of l.fn.context.values));
   values : l.context.values ≡ l.fn.context.values;
   scopes : l.context.scopes ≡ l.fn.context.scopes;
   single : every_line is_single (forest (drop l.node-index l.nodes)) ≡ true;
@@ -69,8 +70,8 @@ invariant-add_choices-loop-node l = record {
 
 abbrev pub invariant-add_alternatives-loop-node : goal.invariant-add_alternatives-loop-node
 invariant-add_alternatives-loop-node l = record {
-  whole : branches_then (branches (in_alternatives l.list)) ((unrolled (numbers l.elements) (forest (drop l.node-index l.nodes))).branches l.fn.context.scopes (values_of l.fn.context.values))
-      ≡ branches_then (branches (in_alternatives l.fn.list)) ((unrolled (numbers l.elements) (forest l.nodes)).branches l.fn.context.scopes (values_of l.fn.context.values));
+  whole : branches_then (branches (in_alternatives l.list)) ((unrolled (numbers (seen l.elements)) (forest (drop l.node-index l.nodes))).branches l.fn.context.scopes (values_of l.fn.context.values))
+      ≡ branches_then (branches (in_alternatives l.fn.list)) ((unrolled (numbers (seen l.elements)) (forest l.nodes)).branches l.fn.context.scopes (values_of l.fn.context.values));
   values : l.context.values ≡ l.fn.context.values;
   scopes : l.context.scopes ≡ l.fn.context.scopes;
   single : every_line is_single (forest (drop l.node-index l.nodes)) ≡ true;

@@ -1,20 +1,15 @@
-use Rattle.std.proofs.Common.{◌≡◌, ◌+◌, ◌-◌, sym, subst, ◌∙◌, arith}
+use Rattle.std.proofs.Common.{◌≡◌, ◌+◌, ◌-◌, ◌≤◌, sym, subst, ◌∙◌, arith}
 use Rattle.occ_symbol.proofs.Interned.{extends_same, extends_trans, longer}
 use Rattle.occ_unroll.proofs.Elements.{one_element_more}
 use Rattle.occ_base.specs.Names.{IsDistinct}
 use Rattle.occ_parse.proofs.Places.{places_distinct}
-use Rattle.occ_part.proofs.Rows.{places_done, places_first, row_done, row_first, row_one}
+use Rattle.occ_draft.specs.Places.{elements_from}
+use Rattle.occ_unroll.specs.Elements.{with_places}
+use Rattle.occ_part.proofs.Counted.{places_done, row_counted, row_done, row_one}
 use Rattle.occ_part.proofs.rows.row.Goals as goal
 
 pub element-requires : goal.element-requires
 element-requires c = omega (arith, c.requires, longer _ _ c.loop-k.invariant.grown)
-
-pub loop-k-first : goal.loop-k-first
-loop-k-first c = record {
-  whole = λ t f. row_first t _ _ _ c.new-row.ensures.items;
-  table = places_first _ _ _;
-  grown = extends_same _;
-}
 
 pub loop-k-preserved : goal.loop-k-preserved
 loop-k-preserved c =
@@ -28,11 +23,23 @@ loop-k-preserved c =
     }
 
 pub returns-clause-row : goal.returns-clause-row
-returns-clause-row c = λ t f. sym (row_done t _ _ _ _ (omega (arith, c.loop-k-test.false))) ∙ c.loop-k.invariant.whole t f
+returns-clause-row c = λ t f.
+    let done : c.args.count ≤ c.loop-k.k = omega (arith, c.loop-k-test.false) in
+    sym (row_done t c.args.array.0 c.args.count c.loop-k.k _ done) ∙ c.loop-k.invariant.whole t f
 
 pub returns-clause-table : goal.returns-clause-table
-returns-clause-table c = sym (places_done _ _ _ _ (omega (arith, c.loop-k-test.false))) ∙ c.loop-k.invariant.table
+returns-clause-table c =
+    let done : c.args.count ≤ c.loop-k.k = omega (arith, c.loop-k-test.false) in
+    sym (places_done _ c.args.array.0 c.args.count c.loop-k.k done) ∙ c.loop-k.invariant.table
 
 pub returns-clause-distinct : goal.returns-clause-distinct
 returns-clause-distinct c =
-    subst IsDistinct (sym (sym (places_done _ _ _ _ (omega (arith, c.loop-k-test.false))) ∙ c.loop-k.invariant.table)) (places_distinct _ _ c.text.ensures.distinct)
+    let done : c.args.count ≤ c.loop-k.k = omega (arith, c.loop-k-test.false) in
+    let table : c.loop-k.names ≡ with_places c.args.names.now (elements_from c.args.array.0 0 c.args.count) = sym (places_done _ c.args.array.0 c.args.count c.loop-k.k done) ∙ c.loop-k.invariant.table in
+    subst IsDistinct (sym table) (places_distinct c.args.names.now (elements_from c.args.array.0 0 c.args.count) c.text.ensures.distinct)
+
+pub returns-clause-length : goal.returns-clause-length
+returns-clause-length c =
+    let done : c.args.count ≤ c.loop-k.k = omega (arith, c.loop-k-test.false) in
+    row_counted c.loop-k.names c.args.array.0 c.args.count c.loop-k.row.items
+    (sym (row_done c.loop-k.names c.args.array.0 c.args.count c.loop-k.k _ done) ∙ c.loop-k.invariant.whole c.loop-k.names (extends_same c.loop-k.names))
