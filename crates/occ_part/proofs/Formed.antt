@@ -194,11 +194,10 @@ there_all : (t : List (List ℕ)) (arrays : List Name) → AllByRecursion (λ (x
     → AllByRecursion (λ (x : Name). AreThere t x.0) arrays
 there_all t [] p h = tt
 there_all t (x ∷ arrays) p h =
-    let first = all_front (HasPlace t) (elements_from x.0 0 element_count) (all_elements arrays) h in
-    (
+    let first = all_front (HasPlace t) (elements_from x.0 0 element_count) (all_elements arrays) h in (
       (λ j within.
-      let small : nat_lt j 256 ≡ true = search rules in
-      known_step t x.0 (Some j) p.0 small (element_has t x.0 0 element_count j (omega arith) (omega (arith, within, count_is)) first)),
+          let small : nat_lt j 256 ≡ true = search rules in
+          known_step t x.0 (Some j) p.0 small (element_has t x.0 0 element_count j (omega arith) (omega (arith, within, count_is)) first)),
       there_all t arrays p.1 (all_back (HasPlace t) (elements_from x.0 0 element_count) (all_elements arrays) h),
     )
 

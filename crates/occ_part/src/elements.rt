@@ -17,11 +17,7 @@ pub struct Elements {
 }
 
 /// Notes that the names of a row are the elements of an array, from the first on.
-fn note_row(
-    places: &mut IndexMap<Name, Declared>,
-    array: Name,
-    row: &[Name],
-) -> Result<(), Memory>
+fn note_row(places: &mut IndexMap<Name, Declared>, array: Name, row: &[Name]) -> Result<(), Memory>
     requires { length row.now ≤ 256 }
     ensures { OnOk result (names_found places.new.entries ≡ named_row array 0 row.now (names_found places.old.entries)) }
 {
