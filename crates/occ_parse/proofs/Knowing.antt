@@ -51,11 +51,11 @@ stop_keeps : (P : Row → Type 0) (row : Row) (o : Option Which) (others : List 
 stop_keeps P row None others h k = (h, k)
 stop_keeps P row (Some w) others h k = tt
 
-stopped_keeps : (P : Row → Type 0) (b : Bound) (rows : List Row) (found : Option (ℕ × LineFault)) → AllByRecursion P rows → AllByRecursion P (stopped b rows found).0
+pub stopped_keeps : (P : Row → Type 0) (b : Bound) (rows : List Row) (found : Option (ℕ × LineFault)) → AllByRecursion P rows → AllByRecursion P (stopped b rows found).0
 stopped_keeps P b [] found h = tt
 stopped_keeps P b (row ∷ rows) found h = stop_keeps P row (line_limit b row) (stopped b rows found) h.0 (stopped_keeps P b rows found h.1)
 
-lines_of_rows : (t : List (List ℕ)) (rows : List Row) (lines : List Laid) → AllByRecursion (λ row. AreOf t row.symbols) rows → AreForms rows lines
+pub lines_of_rows : (t : List (List ℕ)) (rows : List Row) (lines : List Laid) → AllByRecursion (λ row. AreOf t row.symbols) rows → AreForms rows lines
     → AllByRecursion (λ line. IsLineOf t line.shape) lines
 lines_of_rows t [] [] h f = tt
 lines_of_rows t [] (l ∷ ls) h f = absurd f
@@ -70,7 +70,7 @@ all_back : {A : Type 0} (P : A → Type 0) (xs ys : List A) → AllByRecursion P
 all_back P [] ys h = h
 all_back P (x ∷ xs) ys h = all_back P xs ys h.1
 
-each_of_lines : (Q : Shape → Type 0) (level : ℕ) (f : Forest) → AllByRecursion (λ line. Q line.shape) (lines_at level f) → EachLine Q f
+pub each_of_lines : (Q : Shape → Type 0) (level : ℕ) (f : Forest) → AllByRecursion (λ line. Q line.shape) (lines_at level f) → EachLine Q f
 each_of_lines Q level no_line h = tt
 each_of_lines Q level (and_line number s below rest) h = (
   h.0,

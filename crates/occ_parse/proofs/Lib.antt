@@ -1,10 +1,10 @@
 mod Rows
 mod Forests
 mod Counting
-mod Texts
-mod Small
-mod Knowing
-mod Places
+pub mod Texts
+pub mod Small
+pub mod Knowing
+pub mod Places
 mod Checked
-mod Placed
+pub mod Placed
 pub mod Declared

@@ -49,7 +49,7 @@ below_are (condition e) below h = refl
 below_are (guard e w) below h = refl
 below_are nothing below h = refl
 
-placed_from : (f : Forest) → options_declare_nothing f ≡ true → are_placed f ≡ true
+pub placed_from : (f : Forest) → options_declare_nothing f ≡ true → are_placed f ≡ true
 placed_from no_line h = refl
 placed_from (and_line number s below rest) h =
     let parts = and_parts (not (takes_options (kind_of s)) || none_declares below) (options_declare_nothing below && options_declare_nothing rest) h in

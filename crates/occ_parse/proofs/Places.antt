@@ -26,7 +26,7 @@ use Rattle.occ_parse.proofs.Texts.{is_plain, stays}
 use Rattle.occ_parse.proofs.Small.{declared_small, shape_small}
 use Rattle.occ_parse.proofs.Knowing.{EachLine}
 
-abbrev Table : Type 0
+abbrev pub Table : Type 0
 Table = List (List ℕ)
 
 -- ---- texts of elements
@@ -85,7 +85,7 @@ not_a_name a k h = no_bracket a (decimal k ++ 93 ∷ []) (subst (λ s. list_all 
 -- ---- the places that a table knows
 
 -- the number of an element's text
-abbrev element_place : Table → ℕ → ℕ → ℕ
+abbrev pub element_place : Table → ℕ → ℕ → ℕ
 element_place t x k = place_of t (element_text (get_or t x []) k)
 
 abbrev pub knows : Table → Known
@@ -165,11 +165,11 @@ has_place : (t : Table) (text : List ℕ) (i : ℕ) → slice_get t i ≡ Some t
 has_place t text i e =
     ⊎_elim (λ (h : place_of t text < length t). h) (λ (h : length t ≤ place_of t text). absurd (nowhere t text h i e)) (cases_lt (place_of t text) (length t))
 
-abbrev HasElement : Table → ℕ → Option ℕ → Type 0
+abbrev pub HasElement : Table → ℕ → Option ℕ → Type 0
 HasElement t x None = Unit {0}
 HasElement t x (Some k) = element_place t x k < length t
 
-abbrev HasPlace : Table → Place → Type 0
+abbrev pub HasPlace : Table → Place → Type 0
 HasPlace t p = HasElement t p.name p.element
 
 brought_in : (old t : Table) (x : ℕ) (k : Option ℕ) → x < length old → Extends (with_place old x k) t → HasElement t x k
@@ -186,7 +186,7 @@ all_below_more : (n m : ℕ) (ps : List Place) → n ≤ m → AllByRecursion (�
 all_below_more n m [] le h = tt
 all_below_more n m (p ∷ ps) le h = (omega (arith, le, h.0), all_below_more n m ps le h.1)
 
-all_brought_in : (old : Table) (ps : List Place) (t : Table) → AllByRecursion (λ p. p.name < length old) ps → Extends (with_places old ps) t → AllByRecursion (HasPlace t) ps
+pub all_brought_in : (old : Table) (ps : List Place) (t : Table) → AllByRecursion (λ p. p.name < length old) ps → Extends (with_places old ps) t → AllByRecursion (HasPlace t) ps
 all_brought_in old [] t h e = tt
 all_brought_in old (p ∷ ps) t h e =
     let next = with_place old p.name p.element in (
@@ -212,7 +212,7 @@ all_both : {A : Type 0} (P : A → Type 0) (xs ys : List A) → AllByRecursion P
 all_both P [] ys h k = k
 all_both P (x ∷ xs) ys h k = (h.0, all_both P xs ys h.1 k)
 
-abbrev small_at : Option ℕ → Bool
+abbrev pub small_at : Option ℕ → Bool
 small_at None = true
 small_at (Some k) = nat_lt k 256
 
@@ -268,7 +268,7 @@ module _ (test : ℕ → Bool) (R Q : Place → Type 0)
   shape_all (guard e w) h s r = tt
   shape_all nothing h s r = tt
 
-  forest_all : (f : Forest) → EachLine (λ s. shape_passes test s ≡ true) f → EachLine (λ s. shape_small s ≡ true) f → AllByRecursion R (lines_places f)
+  pub forest_all : (f : Forest) → EachLine (λ s. shape_passes test s ≡ true) f → EachLine (λ s. shape_small s ≡ true) f → AllByRecursion R (lines_places f)
       → EachLine (λ s. AllByRecursion Q (declared_places s)) f
   forest_all no_line h s r = tt
   forest_all (and_line number sh below rest) h s r =
@@ -294,13 +294,13 @@ pub places_below : (n : ℕ) (f : Forest) → EachLine (λ s. shape_passes (λ x
 places_below n f h s =
     together (λ p. p.name < n) f (forest_all (λ x. nat_lt x n) (λ p. Unit {0}) (λ p. p.name < n) (λ x k k1 k2 k3. ltb-true _ _ k1) f h s (all_at_all (lines_places f)))
 
-known_step : (t : Table) (x : ℕ) (k : Option ℕ) → is_plain t x ≡ true → small_at k ≡ true → HasElement t x k → Has (knows t) x k
+pub known_step : (t : Table) (x : ℕ) (k : Option ℕ) → is_plain t x ≡ true → small_at k ≡ true → HasElement t x k → Has (knows t) x k
 known_step t x None h s r = h
 known_step t x (Some k) h s r =
     let there : nat_lt (element_place t x k) (length t) ≡ true = search rules in
     and_from (is_plain t x) (nat_lt k 256 && nat_lt (element_place t x k) (length t)) h (and_from (nat_lt k 256) (nat_lt (element_place t x k) (length t)) s there)
 
-are_known : (D : Known) (f : Forest) → EachLine (λ s. AreIn D (declared_places s)) f → AreKnown D f
+pub are_known : (D : Known) (f : Forest) → EachLine (λ s. AreIn D (declared_places s)) f → AreKnown D f
 are_known D no_line h = tt
 are_known D (and_line number s below rest) h = (h.0, (are_known D below h.1.0, are_known D rest h.1.1))
 

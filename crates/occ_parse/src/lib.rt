@@ -17,3 +17,4 @@ mod tests;
 
 pub use occ_reading::{Bound, ParseFault, Which};
 pub use reading::{LineNumbers, Text, parse};
+pub use stopping::{Judged, judge_rows};

@@ -149,3 +149,16 @@ pub fn name_fault(alloc: Global, nodes: &[Node]) -> Result<Option<(u32, NameFaul
     let mut scopes = Scopes::new(alloc);
     first_in(alloc, &mut scopes, nodes)
 }
+
+/// The same for lines that stand in a scope. The scope stays where there is no fault.
+pub fn name_fault_in(
+    alloc: Global,
+    scopes: &mut Scopes,
+    nodes: &[Node],
+) -> Result<Option<(u32, NameFault)>, Memory>
+    ensures fault { IfOk result
+        (λ r. r ≡ first_fault name_fault scopes.old scopes.old (forest nodes.now)) }
+    ensures same { IfOk result (λ r. r ≡ None → scopes.new ≡ scopes.old) }
+{
+    first_in(alloc, scopes, nodes)
+}

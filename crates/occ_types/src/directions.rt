@@ -68,3 +68,11 @@ pub fn direction_fault(alloc: Global, nodes: &[Node]) -> Result<Option<u32>, Mem
     let mut scopes = Scopes::new(alloc);
     first_in(&mut scopes, nodes)
 }
+
+/// The same for lines that stand in a scope. The scope stays where there is no fault.
+pub fn direction_fault_in(scopes: &mut Scopes, nodes: &[Node]) -> Result<Option<u32>, Memory>
+    ensures fault { IfOk result (λ r. r ≡ line_of (first_fault direction_fault scopes.old scopes.old (forest nodes.now))) }
+    ensures same { IfOk result (λ r. r ≡ None → scopes.new ≡ scopes.old) }
+{
+    first_in(scopes, nodes)
+}

@@ -9,8 +9,8 @@ mod lost;
 mod turns;
 mod types;
 
-pub use directions::direction_fault;
-pub use types::type_fault;
+pub use directions::{direction_fault, direction_fault_in};
+pub use types::{type_fault, type_fault_in};
 
 #[cfg(test)]
 mod cases;

@@ -65,3 +65,16 @@ pub fn type_fault(alloc: Global, nodes: &[Node]) -> Result<Option<(u32, TypeFaul
     let mut scopes = Scopes::new(alloc);
     first_in(&mut scopes, nodes)
 }
+
+/// The same for lines that stand in a scope. The scope stays where there is no fault.
+pub fn type_fault_in(
+    scopes: &mut Scopes,
+    nodes: &[Node],
+) -> Result<Option<(u32, TypeFault)>, Memory>
+    requires kept { plain_counters scopes.old ≡ true }
+    requires names { first_fault name_fault scopes.old scopes.old (forest nodes.now) ≡ None }
+    ensures fault { IfOk result (λ r. r ≡ first_fault type_fault scopes.old scopes.old (forest nodes.now)) }
+    ensures same { IfOk result (λ r. r ≡ None → scopes.new ≡ scopes.old) }
+{
+    first_in(scopes, nodes)
+}

@@ -54,7 +54,13 @@ fn width_of(sort: Option<Sort>) -> Option<Width>
 }
 
 /// The width that an operator asks its operands for, where it is asked for a width itself.
-fn operand_width(context: &Context, op: Op, left: &Phrase, right: &Phrase, width: Width) -> Width
+pub fn operand_width(
+    context: &Context,
+    op: Op,
+    left: &Phrase,
+    right: &Phrase,
+    width: Width,
+) -> Width
     ensures { let Γ = context.now.scopes in
         let ρ = values_of context.now.values in
         result ≡ unwrap_or (asks (class op) width (or_width (own_of Γ ρ (said left.now)) (own_of Γ ρ (said right.now)))) width }

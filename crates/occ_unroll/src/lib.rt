@@ -17,6 +17,11 @@ mod unrolling;
 mod values;
 
 pub use bits::bits_fault;
+pub use context::Context;
 pub use counting::controls;
+pub use expression::{operand_width, own};
 pub use limits::count_fault;
+pub use naming::element;
 pub use program::{Unrolled, unroll};
+pub use reading::{condition, declaration, group, is_guard, nested};
+pub use values::{Present, Values};

@@ -1,0 +1,11 @@
+mod Single
+mod Kept
+mod Counted
+mod Listed
+mod Known
+mod Laid
+mod Scoped
+mod Typed
+mod Covered
+mod Formed
+mod Once

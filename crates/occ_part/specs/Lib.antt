@@ -1,0 +1,6 @@
+pub mod Elements
+pub mod Arrays
+pub mod Parts
+pub mod Resolving
+pub mod Seen
+pub mod Shown
