@@ -21,7 +21,7 @@ use Rattle.occ_syntax.specs.Scopes.{EventSet, IsState, IsWithin as IsWithinScope
 use Rattle.occ_syntax.specs.Tree.{Tree}
 use Rattle.occ_syntax.specs.Types.{scope_kept, types_kept}
 use Rattle.occ_laws.specs.Foundation.{AreWithin}
-use Rattle.occ_laws.proofs.Free.{written_in_scope}
+use Rattle.occ_laws.proofs.Frame.{written_in_scope}
 use Rattle.occ_laws.proofs.Frame.{part_value}
 use Rattle.occ_laws.proofs.Interface.{part_in_interface}
 use Rattle.occ_laws.proofs.States.{part_states}
