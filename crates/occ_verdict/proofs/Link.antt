@@ -1,5 +1,5 @@
 -- From the roots of two programs to the programs.
-use Rattle.std.proofs.Common.{◌≡◌, ◌==◌, ◌&&◌, ◌<◌, ◌≤◌, ◌^◌, ◌/◌, ◌%◌, ◌+◌, ◌↔◌, ◌⊎◌, inl, inr, ⊎_elim, ℕ, Bool, true, false, cond, List, [], ◌∷◌, Option, Some, None, is_some, nat_lt, refl, sym, ap, ◌∙◌, subst, arith}
+use Rattle.std.proofs.Common.{◌≡◌, ◌==◌, ◌&&◌, ◌<◌, ◌≤◌, ◌^◌, ◌/◌, ◌%◌, ◌+◌, ◌↔◌, ◌⊎◌, inl, inr, ⊎_elim, ℕ, Bool, true, false, cond, List, [], ◌∷◌, Option, Some, None, is_some, Result, Ok, Err, IfOk, nat_lt, refl, sym, ap, ◌∙◌, subst, arith}
 use Rattle.std.proofs.lemmas.Bool.{and_from, eq-eqb, lt-ltb}
 use Rattle.std.proofs.lemmas.Nat.{pow_pos}
 use Rattle.std.proofs.Math.Nat.{mod-lt}
@@ -46,12 +46,14 @@ use Rattle.occ_behaviour.specs.Members.{IsMember as IsMemberOf, IsOnlyOf, IsRigh
 use Rattle.occ_behaviour.specs.States.{is_state}
 use Rattle.occ_compare.specs.Interface.{AreComparable, HasNodes as HasAllNodes, IsOfInterface, IsWithin}
 use Rattle.occ_compare.specs.Places.{state_at, values_at}
-use Rattle.occ_compare.specs.Verdicts.{BelongsToOne, IsMember, MeanTheSame, Stands}
+use Rattle.occ_base.specs.declared.memory.Memory.{Memory}
+use Rattle.occ_lift.specs.Maps.{Extends}
+use Rattle.occ_compare.specs.Verdicts.{BelongsToOne, IsMember, IsPrintable, MeanTheSame, Stands}
 use Rattle.occ_compare.specs.Walk.{opposite, picked}
 use Rattle.occ_frame.specs.After.{AgreeBelow, IsOver}
 use Rattle.occ_frame.specs.Placed.{IsAround, IsFrame}
 use Rattle.occ_bits.proofs.States.{are_states, state_fits}
-use Rattle.occ_frame.proofs.After.{same_truth, state_below, zero_off}
+use Rattle.occ_frame.proofs.After.{map_node, over-extends, same_truth, state_below, value_was, zero_off}
 use Rattle.occ_frame.proofs.Bits.{pow_more}
 use Rattle.occ_norm.specs.Root.{IsRoot}
 use Rattle.occ_verdict.proofs.Overlay.{does_over, over}
@@ -226,9 +228,6 @@ module _ (w : World) (params : List (Name × Kind)) (scope : scope_kept params �
     same_ends = λ s t s' state. (ends_too w params scope few p q hp hq one two first second h s t s' state, ends_too w params scope few q p hq hp two one second first (turned_over w one two h) s t s' state);
   }
 
-  pub root_one : Root
-  root_one = record { params = params; states = one }
-
   placed_last : (a : NodeId) (t : List Event) (last : Last) → Stands w params a t last → IsPlaced w params scope few p hp one first last
   placed_last a t (Refuses events) s = tt
   placed_last a t (Ends state) s = (s.0, s.1, s.2)
@@ -256,3 +255,48 @@ module _ (w : World) (params : List (Name × Kind)) (scope : scope_kept params �
   pub right : (verdict : Verdict) → (verdict ≡ Same → MeanTheSame w one two) → IsMember w (record { params = params; states = one }) (record { params = params; states = two }) verdict → IsRight params p q verdict
   right Same h k = all_same (h refl)
   right (Differ b side) h k = belongs b side k
+
+-- ---- as the world grows
+pub root-extends : (v w : World) → Extends v w → (params : List (Name × Kind)) (p : Tree) (states : MapId) → IsRoot v params p states → IsRoot w params p states
+root-extends v w k params p states root = record {
+  over = over-extends v w k (bits_of_scope params) states root.over;
+  root_fails = λ x a h e t X.
+      let was = value_was v w k states root.over.has x (Some a) e in
+      let same_at = k.grows.same_fails a t X (map_node v states root.over.has x h a was) in
+      (λ f. (root.root_fails x a h was t X).0 (sym same_at ∙ f), λ d. same_at ∙ (root.root_fails x a h was t X).1 d);
+  root_ends = λ x a h e t z b.
+      let was = value_was v w k states root.over.has x (Some a) e in
+      let same_at = k.grows.same_ends a t z (map_node v states root.over.has x h a was) in
+      (λ f. (root.root_ends x a h was t z b).0 (sym same_at ∙ f), λ d. same_at ∙ (root.root_ends x a h was t z b).1 d);
+}
+
+-- ---- what is decided
+record_is : (a : Root) (params : List (Name × Kind)) → a.params ≡ params → a ≡ record { params = params; states = a.states }
+record_is a params e = λ i. record { params = e i; states = a.states }
+
+module _ (w : World) (params : List (Name × Kind)) (scope : scope_kept params ≡ true) (few : bits_of_scope params ≤ 16) (p q : Tree) (hp : types_kept p (environment params) ≡ true) (hq : types_kept q (environment params) ≡ true)
+    (a b : Root) (ea : a.params ≡ params) (eb : b.params ≡ params) (first : IsRoot w params p a.states) (second : IsRoot w params q b.states) where
+
+  pub comparable : AreComparable w a b
+  comparable = record {
+    params = ea ∙ sym eb;
+    few = subst (λ ps. bits_of_scope ps ≤ 64) (sym ea) (omega (arith, few));
+    first = all_nodes w params scope few p hp a.states first;
+    second = all_nodes w params scope few q hq b.states second;
+  }
+
+  of_first : IsOfInterface w a
+  of_first = subst (IsOfInterface w) (sym (record_is a params ea)) (of_interface w params scope few p hp a.states first)
+
+  of_second : IsOfInterface w b
+  of_second = subst (IsOfInterface w) (sym (record_is b params eb)) (of_interface w params scope few q hq b.states second)
+
+  pub decided : (r : Result Verdict Memory) → IfOk r (λ v. (v ≡ Same) ↔ MeanTheSame w a.states b.states) → IfOk r (λ v. IsOfInterface w a → IsOfInterface w b → IsMember w a b v) → IfOk r (IsRight params p q)
+  decided (Ok v) means member =
+      right w params scope few p q hp hq a.states b.states first second v means.0
+      (subst (λ x. IsMember w x (record { params = params; states = b.states }) v) (record_is a params ea) (subst (λ y. IsMember w a y v) (record_is b params eb) (member of_first of_second)))
+  decided (Err m) means member = tt
+
+  pub named : (r : Result Verdict Memory) → IfOk r (λ v. IsOfInterface w a → IsOfInterface w b → IsPrintable a.params v) → IfOk r (IsPrintable params)
+  named (Ok v) printable = subst (λ ps. IsPrintable ps v) ea (printable of_first of_second)
+  named (Err m) printable = tt
