@@ -36,7 +36,8 @@ pub struct Write {
 // Adds the writes of some digits, in a row from a bit on.
 fn add_digits(sets: &[SetId], first: u32, writes: &mut Vec<Write>) -> Result<(), Memory>
     requires { first + length sets.now ≤ 64 }
-    ensures writes { OnOk result ((s : Store) → AreWrites s writes.old.items → All (IsSetKnown s) sets.now → AreWrites s writes.new.items) }
+    ensures writes { OnOk result ((s : Store) → AreWrites s writes.old.items → All (IsSetKnown s) sets.now
+        → AreWrites s writes.new.items) }
     ensures each { OnOk result (writes.new.items ≡ writes.old.items ++ digit_writes first sets.now) }
 {
     for place in 0..sets.len() {
@@ -62,7 +63,8 @@ fn add_writes(
     requires agree { agree (variable_width (environment_in frame.now.layout) var.0) (type_of (environment_in frame.now.layout) (exp value.now)) ≡ true }
     ensures extends { Extends world.old world.new }
     ensures writes { OnOk result (AreWrites world.new.store writes.new.items) }
-    ensures adds { OnOk result (Adds world.new.store frame.now.layout var.0 (exp value.now) writes.old.items writes.new.items) }
+    ensures adds { OnOk result (Adds world.new.store frame.now.layout var.0 (exp value.now)
+        writes.old.items writes.new.items) }
 {
     let (_, first) = frame.slot(var);
     let word = digits(alloc, world, frame, value)?;
@@ -82,7 +84,8 @@ fn writes_of(
     requires same { length vars.now ≡ length values.now }
     ensures extends { Extends world.old world.new }
     ensures writes { IfOk result (λ r. AreWrites world.new.store r.items) }
-    ensures assigned { IfOk result (λ r. AreAssigned world.new.store frame.now.layout (numbers vars.now) (exps values.now) r.items) }
+    ensures assigned { IfOk result (λ r. AreAssigned world.new.store frame.now.layout
+        (numbers vars.now) (exps values.now) r.items) }
 {
     let mut writes = Vec::new(alloc);
     for place in 0..vars.len() {
