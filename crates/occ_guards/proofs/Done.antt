@@ -59,13 +59,13 @@ module _ (vars : List (Name × Kind)) (layout : List (Name × Width × ℕ)) (n 
     over_now : IsOver w n next
     over_now = over-extends u w uw n next over
 
-    pub input_done : (var : ℕ) (width : Width) (first left row kept_row : ℕ) (map r : MapId) → entry_of layout var ≡ Some (width, first) → left ≡ bits_of width
-        → ((j : ℕ) → j < 64 → bit_at row j ≡ (if nat_le first j && nat_lt j (first + left) then 1 else 0)) → kept_row ≡ bit_and keep row → list_all (λ (c : Name). not (chan.0 == c.0)) closed ≡ true
+    pub input_done : (var : ℕ) (width : Width) (first left count row kept_row : ℕ) (map r : MapId) → entry_of layout var ≡ Some (width, first) → left ≡ bits_of width → count ≡ bits_of width
+        → ((j : ℕ) → j < 64 → bit_at row j ≡ (if nat_le first j && nat_lt j (first + count) then 1 else 0)) → kept_row ≡ bit_and keep row → list_all (λ (c : Name). not (chan.0 == c.0)) closed ≡ true
         → HasNodes v map → AreInputs v chan first left kept_row 0 next map → IsChanged w (λ x. bit_and x kept_row) map r
         → (Γ : Environment) → IsAround Γ vars → types_kept (receive chan.0 var) Γ ≡ true → IsGuarded w layout keep closed Γ (input chan.0 var) next r
-    input_done var width first left row kept_row map r there is_left is_row is_kept shown hm inputs changed Γ around kept =
+    input_done var width first left count row kept_row map r there is_left is_count is_row is_kept shown hm inputs changed Γ around kept =
         let fits : first + bits_of width ≤ 64 = found_within layout (frame_layout vars layout n frame) var width first there in
-        let rows : (j : ℕ) → j < 64 → bit_at row j ≡ (if nat_le first j && nat_lt j (first + bits_of width) then 1 else 0) = subst (λ m. (j : ℕ) → j < 64 → bit_at row j ≡ (if nat_le first j && nat_lt j (first + m) then 1 else 0)) is_left is_row in
+        let rows : (j : ℕ) → j < 64 → bit_at row j ≡ (if nat_le first j && nat_lt j (first + bits_of width) then 1 else 0) = subst (λ m. (j : ℕ) → j < 64 → bit_at row j ≡ (if nat_le first j && nat_lt j (first + m) then 1 else 0)) is_count is_row in
         let here : AreInputs v chan first (bits_of width) (bit_and keep row) 0 next map = subst (λ b. AreInputs v chan first (bits_of width) b 0 next map) is_kept (subst (λ m. AreInputs v chan first m kept_row 0 next map) is_left inputs) in
         let small : bit_and keep row < 2 ^ 64 = omega (arith, and_le_l keep row, keep_small) in
         input_guarded w vars layout n frame keep few closed next over_now Γ around chan var kept shown width first there (bit_and keep row)

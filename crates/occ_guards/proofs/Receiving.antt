@@ -65,13 +65,13 @@ module _ (w : World) (chan : Name) (first keep base : ℕ) (next : MapId) (x : �
       (λ e t X. one_leads e (fails w n t X) (λ v m. fails w m t X) (turned.turned.same_fail t X))
       (λ e t z small. one_leads e (ends w n t z) (λ v m. ends w m t (bit_xor z (digits_at first keep v))) (turned.turned.turned_end t z small))
 
-pub one_inputs : (v w : World) → Extends v w → (chan : Name) (first keep base : ℕ) (next turned r : MapId) → HasNodes v next → HasNodes v turned
-    → Lifts v next next turned (λ a b. OnOne (IsTurned v (digits_at first keep base)) a) → Lifts w turned turned r (λ a b. OnOne (IsPrefixed w (input_event chan base)) a) → AreInputs w chan first 0 keep base next r
-one_inputs v w k chan first keep base next turned r has there shifted prefixed = record {
+pub one_inputs : (v w : World) → Extends v w → (chan : Name) (first keep base change : ℕ) (next turned r : MapId) → change ≡ digits_at first keep base → HasNodes v next → HasNodes v turned
+    → Lifts v next next turned (λ a b. OnOne (IsTurned v change) a) → Lifts w turned turned r (λ a b. OnOne (IsPrefixed w (input_event chan base)) a) → AreInputs w chan first 0 keep base next r
+one_inputs v w k chan first keep base change next turned r same has there shifted prefixed = record {
   inputs = λ x a h e.
       let m = has.nodes x h in
       let n = there.nodes x h in
-      let is : IsTurned v (digits_at first keep base) m.0 n.0 = on_one _ _ _ m.0 n.0 (shifted.related x h) m.1 n.1 in
+      let is : IsTurned v (digits_at first keep base) m.0 n.0 = subst (λ d. IsTurned v d m.0 n.0) same (on_one _ _ _ m.0 n.0 (shifted.related x h) m.1 n.1) in
       one_input w chan first keep base next x m.0 n.0 a (k.maps.same next x has.known ∙ m.1) (turned_grow v w k.grows (digits_at first keep base) m.0 n.0 is)
         (on_one _ _ _ n.0 a (prefixed.related x h) (k.maps.same turned x there.known ∙ n.1) e);
 }

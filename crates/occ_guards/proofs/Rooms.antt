@@ -1,7 +1,7 @@
 -- Values of a few digits fit into a byte.
 use Rattle.std.proofs.Common.{◌≡◌, ◌<◌, ◌≤◌, ◌+◌, ◌-◌, ◌*◌, ◌%◌, ◌^◌, ℕ, suc, refl, sym, ap, ◌∙◌, subst, ⊎_elim, arith}
 use Rattle.std.proofs.lemmas.Bool.{cases_lt}
-use Rattle.std.proofs.lemmas.Nat.{one_shl, pow_below}
+use Rattle.std.proofs.lemmas.Nat.{one_shl, pow_below, pow_pos}
 
 twice : (l : ℕ) → 1 ≤ l → 2 ^ l ≡ 2 ^ (l - 1) + 2 ^ (l - 1)
 twice l h = let e : l ≡ suc (l - 1) = omega arith in ap (λ m. 2 ^ m) e ∙ step (l - 1)
@@ -22,7 +22,7 @@ pub room_fits : (v l : ℕ) → 1 ≤ l → l ≤ 8 → v + 2 ^ l ≤ 256 → v 
 room_fits v l h k m = omega (arith, twice l h, above_is v l h k, some (l - 1))
   where
     some : (n : ℕ) → 1 ≤ 2 ^ n
-    some n = omega arith
+    some n = omega (arith, pow_pos n)
 
 pub room_all : (l : ℕ) → l ≤ 8 → 0 + 2 ^ l ≤ 256
 room_all l h = ⊎_elim

@@ -4,7 +4,7 @@ use Rattle.std.specs.Prelude.{◌⊎◌, if◌then◌else◌, nat_le, nat_lt}
 use Rattle.std.specs.Int.{bit_at}
 use Rattle.std.specs.Int.Bits.{bit_and}
 use Rattle.std.specs.List.{All}
-use Rattle.std.proofs.lemmas.Bool.{and_from, and_left, and_right, cases_Bool, cases_lt, le-leb, lt-leb, le-ltb, lt-ltb}
+use Rattle.std.proofs.lemmas.Bool.{and_from, and_left, and_right, cases_Bool, cases_lt, eqb-true, le-leb, lt-leb, le-ltb, lt-ltb}
 use Rattle.std.proofs.lemmas.List.{length-take-le, take_more}
 use Rattle.std.proofs.lemmas.List.Elements.{All-take}
 use Rattle.std.proofs.lemmas.Nat.{and_le_r, one_shl}
@@ -16,6 +16,7 @@ use Rattle.occ_bits.specs.Words.{digit, number_at}
 use Rattle.occ_bits.proofs.Numbers.{digit-keeps, number-keeps, number-push}
 use Rattle.occ_dd.specs.Store.{IsKnown as IsSetKnown, IsSet, Keeps, has}
 use Rattle.occ_dd.specs.declared.set.SetId.{SetId}
+use Rattle.occ_dd.specs.declared.store.Store.{Store}
 use Rattle.occ_diagram.specs.Assignment.{with_bit}
 use Rattle.occ_mdd.specs.Maps.{IsKnown, IsMap, value}
 use Rattle.occ_mdd.specs.declared.map.MapId.{MapId}
@@ -80,6 +81,19 @@ module _ (keep row first n : ℕ) (fits : first + n ≤ 64) (is : (k : ℕ) → 
             out)
 
 -- ---- outputs
+pub empty_set : (s : Store) (a b : SetId) → IsSet s b (λ x. false) → (a.0 == b.0) ≡ true → (x : ℕ) → has s a x ≡ false
+empty_set s a b is e x = let same : a.0 ≡ b.0 = eqb-true a.0 b.0 e in (λ i. has s (record { 0 = same i }) x) ∙ is.members x
+
+pub none_taken : (s : Store) (digits : List SetId) (base left : ℕ) → left ≡ 0 → (x : ℕ) → base ≡ base + number_at s (take left digits) x
+none_taken s digits base left e x = let nothing : base ≡ base + 0 = omega arith in nothing ∙ ap (λ m. base + number_at s (take m digits) x) (sym e)
+
+pub within_later : (a b : World) → Extends a b → (with_it : SetId) (f : ℕ → Bool) → IsSet a.store with_it f → (x : ℕ) → has b.store with_it x ≡ f x
+within_later a b k with_it f is x = k.grows.stored.same with_it x is.known ∙ is.members x
+
+pub outside_later : (u a b c : World) → Extends u a → Extends b c → (set digit outside : SetId) → IsSetKnown u.store set → IsSetKnown u.store digit → IsSet b.store outside (λ x. has a.store set x && not (has a.store digit x))
+    → (x : ℕ) → has c.store outside x ≡ (has u.store set x && not (has u.store digit x))
+outside_later u a b c k l set digit outside ks kd is x = within_later b c l outside _ is x ∙ (λ i. k.grows.stored.same set x ks i && not (k.grows.stored.same digit x kd i))
+
 pub no_outputs : (w : World) (chan : Name) (test : ℕ → Bool) (v : ℕ → ℕ) (next r : MapId) → ((x : ℕ) → test x ≡ false) → AreOutputs w chan test v next r
 no_outputs w chan test v next r none = record { outputs = λ x m a h on there here. absurd (let f : false ≡ true = sym (none x) ∙ on in cc) }
 
@@ -88,8 +102,8 @@ last_outputs w chan test base v next r same prefixed = record {
   outputs = λ x m a h on there here. subst (λ n. IsPrefixed w (output_event chan n) m a) (same x) (on_one _ _ _ m a (prefixed.related x h) there here);
 }
 
-module _ (u b c d e : World) (kb : Extends u b) (kc : Extends b c) (kd : Extends c d) (ke : Extends d e) (chan : Name) (digits : List SetId) (left place base above : ℕ) (set one_digit with_it outside : SetId) (next high low r : MapId)
-    (known : All (IsSetKnown u.store) digits) (more : place + 1 ≡ left) (few : left ≤ length digits) (here : one_digit ≡ get_or digits place one_digit) (is_above : above ≡ base + 2 ^ place)
+module _ (u b c d e : World) (kb : Extends u b) (kc : Extends b c) (kd : Extends c d) (ke : Extends d e) (chan : Name) (digits : List SetId) (left place base above : ℕ) (set one_digit dflt with_it outside : SetId) (next high low r : MapId)
+    (known : All (IsSetKnown u.store) digits) (more : place + 1 ≡ left) (few : left ≤ length digits) (here : one_digit ≡ get_or digits place dflt) (is_above : above ≡ base + 2 ^ place)
     (known_digit : IsSetKnown u.store one_digit)
     (with_is : (x : ℕ) → has b.store with_it x ≡ (has u.store set x && has u.store one_digit x)) (outside_is : (x : ℕ) → has c.store outside x ≡ (has u.store set x && not (has u.store one_digit x)))
     (has_next : HasNodes u next) (hh : HasNodes c high) (hl : HasNodes d low)
@@ -108,7 +122,7 @@ module _ (u b c d e : World) (kb : Extends u b) (kc : Extends b c) (kd : Extends
   number_is : (x : ℕ) → number_at u.store (take left digits) x ≡ number_at u.store (take place digits) x + 2 ^ place * digit u.store one_digit x
   number_is x =
       let front : length (take place digits) ≡ place = length-take-le place digits (omega arith) in
-      ap (λ m. number_at u.store (take m digits) x) (sym more) ∙ ap (λ ds. number_at u.store ds x) (take_more digits place one_digit (omega arith) ∙ ap (λ s. take place digits ++ s ∷ []) (sym here))
+      ap (λ m. number_at u.store (take m digits) x) (sym more) ∙ ap (λ ds. number_at u.store ds x) (take_more digits place dflt (omega arith) ∙ ap (λ s. take place digits ++ s ∷ []) (sym here))
       ∙ number-push u.store (take place digits) one_digit x ∙ ap (λ m. number_at u.store (take place digits) x + 2 ^ m * digit u.store one_digit x) front
 
   high_value : (x : ℕ) → has u.store one_digit x ≡ true → above + number_at b.store (take place digits) x ≡ base + number_at u.store (take left digits) x

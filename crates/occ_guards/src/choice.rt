@@ -1,5 +1,7 @@
 ghost use Rattle.std.specs.Prelude.{◌≡◌, ℕ, ◌+◌, ◌^◌, ◌≤◌, ◌<◌, true, List, length, take, IfOk, IsSome};
 ghost use Rattle.std.specs.List.{All};
+ghost use Rattle.occ_base.specs.declared.names.Name.{Name};
+ghost use Rattle.occ_base.specs.declared.width.Width.{Width};
 ghost use Rattle.occ_bits.specs.Layout.{environment_in};
 ghost use Rattle.occ_bits.specs.Words.{number_at};
 ghost use Rattle.occ_dd.specs.Store.{IsKnown as IsSetKnown, has};

@@ -1,10 +1,10 @@
 -- What changes in two steps.
-use Rattle.std.proofs.Common.{◌≡◌, ◌<◌, ◌^◌, ◌+◌, ◌%◌, ◌⊎◌, ⊎_elim, ℕ, min, zero, refl, sym, ap, ◌∙◌, subst, arith, bit_and, bit_xor}
-use Rattle.std.proofs.lemmas.Nat.Bits.{bit_at_and, bit_at_xor, bit_at-lt, same_from_bits}
+use Rattle.std.proofs.Common.{◌≡◌, ◌<◌, ◌^◌, ◌+◌, ◌%◌, ◌⊎◌, ℕ, min, sym, ap, ◌∙◌, arith, bit_xor}
+use Rattle.std.proofs.lemmas.Nat.Bits.{bit_at_and, bit_at_xor, same_from_bits}
 use Rattle.std.specs.Int.{bit_at}
-use Rattle.std.specs.Int.Bits.{and_lt, xor_assoc, xor_lt, xor_zero_r}
+use Rattle.std.specs.Int.Bits.{and_lt, xor_assoc, xor_lt}
 use Rattle.occ_diagram.proofs.Bits.{bit_cases}
-use Rattle.occ_frame.specs.After.{AgreeBelow, change_of}
+use Rattle.occ_frame.specs.After.{change_of}
 
 pub bit_of_change : (keep x y i : ℕ) → bit_at (change_of keep x y) i ≡ min ((bit_at x i + bit_at y i) % 2) (bit_at keep i)
 bit_of_change keep x y i = bit_at_and (bit_xor x y) keep i ∙ ap (λ b. min b (bit_at keep i)) (bit_at_xor x y i)

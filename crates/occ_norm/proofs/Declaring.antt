@@ -1,10 +1,10 @@
 -- Declarations one by one, from outside in.
-use Rattle.std.proofs.Common.{◌≡◌, ◌<◌, ◌≤◌, ◌^◌, ◌/◌, ◌%◌, ◌+◌, ◌++◌, ◌==◌, ◌&&◌, ⊎_elim, ℕ, Bool, true, false, cond, List, [], ◌∷◌, Option, Some, None, is_none, refl, sym, ap, ◌∙◌, subst, arith}
+use Rattle.std.proofs.Common.{◌≡◌, ◌<◌, ◌≤◌, ◌^◌, ◌/◌, ◌%◌, ◌+◌, ◌++◌, ◌==◌, ℕ, Bool, true, false, cond, List, [], ◌∷◌, Option, Some, None, is_none, refl, sym, ap, ◌∙◌, subst, arith}
 use Rattle.std.proofs.lemmas.Bool.{and_parts, eqb-true}
 use Rattle.occ_base.specs.declared.names.Name.{Name}
 use Rattle.occ_base.specs.declared.width.Width.{Width}
 use Rattle.occ_base.specs.Width.{bits_of}
-use Rattle.occ_bits.specs.Layout.{laid_out, state_of}
+use Rattle.occ_bits.specs.Layout.{state_of}
 use Rattle.occ_syntax.specs.declared.scope.Kind.{Kind}
 use Rattle.occ_syntax.specs.declared.scope.Kind.TheVariants.{Var, Chan}
 use Rattle.occ_syntax.specs.Counts.{bits_of_kind, bits_of_scope}
@@ -15,7 +15,7 @@ use Rattle.occ_syntax.specs.Types.{can_declare, is_width, types_kept}
 use Rattle.occ_usage.proofs.Scoped.{environment-push}
 use Rattle.occ_mdd.specs.declared.map.MapId.{MapId}
 use Rattle.occ_node.specs.declared.world.World.{World}
-use Rattle.occ_frame.specs.After.{AgreeBelow, IsOver}
+use Rattle.occ_frame.specs.After.{IsOver}
 use Rattle.occ_frame.specs.Placed.{IsAround, IsFrame, closed_by, entered}
 use Rattle.occ_frame.proofs.After.{state_back, state_below}
 use Rattle.occ_frame.proofs.Bits.{pow_more}
@@ -76,7 +76,6 @@ opens_itself vars layout n keep closed p = record { opens = λ w rest map top h 
 
 module _ (vars : List (Name × Kind)) (layout : List (Name × Width × ℕ)) (n keep : ℕ) (closed : List Name) (p : Tree) (inside : keep < 2 ^ n)
     (vars' : List (Name × Kind)) (layout' : List (Name × Width × ℕ)) (n' : ℕ) (closed' : List Name) (q : Tree) (frame : IsFrame vars' layout' n') (more : n ≤ n') where
-
   pushed_state : (x : Name) (wd : Width) (layout'' : List (Name × Width × ℕ)) (n'' : ℕ) → IsFrame (vars' ++ (x, Var wd) ∷ []) layout'' n'' → environment vars' x.0 ≡ None → (u : ℕ)
       → state_of layout'' u ≡ with_value (state_of layout' u) x.0 (u / 2 ^ n' % 2 ^ bits_of wd)
   pushed_state x wd layout'' n'' frame'' fresh u =
@@ -111,11 +110,11 @@ module _ (vars : List (Name × Kind)) (layout : List (Name × Width × ℕ)) (n 
         let zero : (u : ℕ) → state_of layout' u x.0 ≡ 0 = λ u. fresh_state layout' x.0 u (subst (λ l. IsFresh l x.0) (sym frame.layout_is) (fresh_laid 0 vars' x.0 unnamed)) in
         subst (λ t. IsAfterFrom w n' top layout' keep closed' Γ t rest map) (sym e)
         (variable_from w n' top layout' layout'' keep closed' Γ x wd q' rest map (pow_more n n' keep more inside) (omega (arith, next, h)) (omega (arith, l)) (over_more w n n' rest more over)
-          (pushed_state x wd layout'' n'' frame'' unnamed) (state_below vars' layout' n' frame) (state_back vars' layout' n' frame)
-          (reaches_in w (vars' ++ (x, Var wd) ∷ []) layout'' n'' keep closed' frame'' (pow_more n n'' keep (omega (arith, next, more)) inside) (with_name Γ x.0 (Var wd)) q' inner_around t.1)
-          (subst (λ m. IsAfterFrom w m top layout'' keep closed' (with_name Γ x.0 (Var wd)) q' rest map) next
-          (subst (λ cs. IsAfterFrom w n'' top layout'' keep cs (with_name Γ x.0 (Var wd)) q' rest map) c given))
-          (λ a b. zero a ∙ sym (zero b))));
+        (pushed_state x wd layout'' n'' frame'' unnamed) (state_below vars' layout' n' frame) (state_back vars' layout' n' frame)
+        (reaches_in w (vars' ++ (x, Var wd) ∷ []) layout'' n'' keep closed' frame'' (pow_more n n'' keep (omega (arith, next, more)) inside) (with_name Γ x.0 (Var wd)) q' inner_around t.1)
+        (subst (λ m. IsAfterFrom w m top layout'' keep closed' (with_name Γ x.0 (Var wd)) q' rest map) next
+        (subst (λ cs. IsAfterFrom w n'' top layout'' keep cs (with_name Γ x.0 (Var wd)) q' rest map) c given))
+        (λ a b. zero a ∙ sym (zero b))));
   }
   opens_next x (Chan wd d) q' vars'' layout'' n'' closed'' e v c f'' o = record {
     opens = λ w rest map top h l over f.
@@ -130,9 +129,9 @@ module _ (vars : List (Name × Kind)) (layout : List (Name × Width × ℕ)) (n 
         let given = f (with_name Γ x.0 (Chan wd None)) (subst (λ vs. IsAround (with_name Γ x.0 (Chan wd None)) vs) (sym v) (around_channel Γ vars' x wd around fresh)) t.1 in
         subst (λ t. IsAfterFrom w n' top layout' keep closed' Γ t rest map) (sym e)
         (channel_from w n' top layout' keep closed' Γ x wd q' rest map
-          (subst (λ m. IsAfterFrom w m top layout' keep (closed' ++ x ∷ []) (with_name Γ x.0 (Chan wd None)) q' rest map) next
-          (subst (λ ls. IsAfterFrom w n'' top ls keep (closed' ++ x ∷ []) (with_name Γ x.0 (Chan wd None)) q' rest map) laid
-            (subst (λ cs. IsAfterFrom w n'' top layout'' keep cs (with_name Γ x.0 (Chan wd None)) q' rest map) c given)))));
+        (subst (λ m. IsAfterFrom w m top layout' keep (closed' ++ x ∷ []) (with_name Γ x.0 (Chan wd None)) q' rest map) next
+        (subst (λ ls. IsAfterFrom w n'' top ls keep (closed' ++ x ∷ []) (with_name Γ x.0 (Chan wd None)) q' rest map) laid
+        (subst (λ cs. IsAfterFrom w n'' top layout'' keep cs (with_name Γ x.0 (Chan wd None)) q' rest map) c given)))));
   }
 
 -- a declaration takes no bits away

@@ -1,5 +1,5 @@
 -- Declarations in front of a part: the map of the part, and then that of the whole, where the bits of the variables have any values.
-use Rattle.std.proofs.Common.{◌≡◌, ◌<◌, ◌≤◌, ◌^◌, ◌/◌, ◌%◌, ◌+◌, ◌↔◌, ◌⊎◌, ◌++◌, ◌&&◌, ◌==◌, not, ⊎_elim, inl, inr, ℕ, Bool, true, false, List, [], ◌∷◌, Option, Some, None, cond, refl, sym, ap, ◌∙◌, subst, bit_and, bit_xor, arith}
+use Rattle.std.proofs.Common.{◌≡◌, ◌<◌, ◌≤◌, ◌^◌, ◌/◌, ◌%◌, ◌+◌, ◌↔◌, ◌⊎◌, ◌++◌, ◌&&◌, ◌==◌, not, ⊎_elim, inl, inr, ℕ, Bool, true, false, List, [], ◌∷◌, Some, None, refl, sym, ap, ◌∙◌, subst, bit_and, bit_xor, arith}
 use Rattle.std.proofs.lemmas.Bool.{and_parts, and_from, cases_lt}
 use Rattle.std.proofs.lemmas.List.Folds.{list_all-append}
 use Rattle.std.proofs.lemmas.Nat.{pow_pos}
@@ -15,7 +15,7 @@ use Rattle.occ_base.specs.Width.{bits_of}
 use Rattle.occ_bits.specs.Layout.{state_of}
 use Rattle.occ_syntax.specs.declared.scope.Kind.TheVariants.{Var, Chan}
 use Rattle.occ_syntax.specs.Meaning.{WithChannel, WithVariable, at_end, at_rest, ended, is_silent, meaning, off_channel, refusing, fails as part_fails, ends as part_ends}
-use Rattle.occ_syntax.specs.Scopes.{Environment, Values, with_name, with_value}
+use Rattle.occ_syntax.specs.Scopes.{Environment, with_name, with_value}
 use Rattle.occ_syntax.specs.Tree.{Tree, connect, declare}
 use Rattle.occ_mdd.specs.Maps.{value}
 use Rattle.occ_mdd.specs.declared.map.MapId.{MapId}
@@ -27,7 +27,7 @@ use Rattle.occ_frame.specs.After.{AgreeBelow, IsAfter, IsOver, QuietlyFails, Res
 use Rattle.occ_frame.specs.Changes.{AgreeOutside, IsFreed, Somewhere}
 use Rattle.occ_norm.proofs.Laying.{placed, placed_agrees, placed_lt, placed_value, value_dropped}
 use Rattle.occ_norm.proofs.Sequences.{Reaches}
-use Rattle.occ_norm.proofs.Simple.{TellsBits, change_same, same_end}
+use Rattle.occ_norm.proofs.Simple.{TellsBits, change_same}
 
 -- The map, for some values of the bits from n to below `top`, is that of the part and then what the map `rest` has.
 pub record IsAfterFrom (w : World) (n top : ℕ) (layout : List (Name × Width × ℕ)) (keep : ℕ) (closed : List Name) (Γ : Environment) (p : Tree) (rest map : MapId) : Type 0 where
@@ -97,7 +97,6 @@ off_more closed c X = fun_ext (λ e. ap (λ b. b && X e) (open_more e) ∙ mix (
 
 module _ (w : World) (n top : ℕ) (layout : List (Name × Width × ℕ)) (keep : ℕ) (closed : List Name) (Γ : Environment) (c : Name) (wd : Width) (q : Tree) (rest map : MapId)
     (is : IsAfterFrom w n top layout keep (closed ++ c ∷ []) (with_name Γ c.0 (Chan wd None)) q rest map) where
-
   quiet_out : (x : ℕ) (t : List Event) (X : Event → Bool) → QuietlyFails layout (closed ++ c ∷ []) (with_name Γ c.0 (Chan wd None)) q x t X → QuietlyFails layout closed Γ (connect c.0 wd q) x t X
   quiet_out x t X s =
       let quiet = and_parts _ _ (sym (silent_more closed c t) ∙ s.0) in
@@ -125,13 +124,13 @@ module _ (w : World) (n top : ℕ) (layout : List (Name × Width × ℕ)) (keep 
   channel_from = record {
     from_fails = λ x hx t X. (
       λ s. ⊎_elim
-      (λ (k : QuietlyFails layout (closed ++ c ∷ []) (with_name Γ c.0 (Chan wd None)) q x t X). inl (quiet_out x t X k))
-      (λ (k : Resumes w layout (closed ++ c ∷ []) (with_name Γ c.0 (Chan wd None)) q rest x (λ y m u. fails w m u X) t). inr (chan_out x t (λ y m u. fails w m u X) k))
-      ((is.from_fails x hx t X).0 s),
+          (λ (k : QuietlyFails layout (closed ++ c ∷ []) (with_name Γ c.0 (Chan wd None)) q x t X). inl (quiet_out x t X k))
+          (λ (k : Resumes w layout (closed ++ c ∷ []) (with_name Γ c.0 (Chan wd None)) q rest x (λ y m u. fails w m u X) t). inr (chan_out x t (λ y m u. fails w m u X) k))
+          ((is.from_fails x hx t X).0 s),
       λ h. (is.from_fails x hx t X).1 (⊎_elim
-      (λ (k : QuietlyFails layout closed Γ (connect c.0 wd q) x t X). inl (quiet_in x t X k.0 k.1))
-      (λ (k : Resumes w layout closed Γ (connect c.0 wd q) rest x (λ y m u. fails w m u X) t). inr (chan_in x t (λ y m u. fails w m u X) k))
-      h),
+          (λ (k : QuietlyFails layout closed Γ (connect c.0 wd q) x t X). inl (quiet_in x t X k.0 k.1))
+          (λ (k : Resumes w layout closed Γ (connect c.0 wd q) rest x (λ y m u. fails w m u X) t). inr (chan_in x t (λ y m u. fails w m u X) k))
+          h),
     );
     from_ends = λ x hx t z hz. (
       λ s. chan_out x t (λ y m u. ends w m u (bit_xor z (change_of keep x y))) ((is.from_ends x hx t z hz).0 s),
@@ -146,7 +145,6 @@ module _ (w : World) (n top : ℕ) (layout inner : List (Name × Width × ℕ)) 
     (below : (x y : ℕ) → AgreeBelow n x y → state_of layout x ≡ state_of layout y) (tells : TellsBits layout n)
     (reaches : Reaches inner (with_name Γ v.0 (Var wd)) q)
     (is : IsAfterFrom w (n + bits_of wd) top inner keep closed (with_name Γ v.0 (Var wd)) q rest map) where
-
   low_agree : (x y : ℕ) → AgreeOutside n top x y → AgreeBelow n x y
   low_agree x y agree k h = agree k (omega (arith, h, room, few)) (inl h)
 
@@ -246,21 +244,21 @@ module _ (w : World) (n top : ℕ) (layout inner : List (Name × Width × ℕ)) 
     variable_from = record {
       from_fails = λ x hx t X. (
         λ s. ⊎_elim
-        (λ (k : QuietlyFails inner closed (with_name Γ v.0 (Var wd)) q s.y t X). inl (quiet_var_out x s.y t X s.agree k))
-        (λ (k : Resumes w inner closed (with_name Γ v.0 (Var wd)) q rest s.y (λ y m u. fails w m u X) t). inr (var_out x s.y t (λ y m u. fails w m u X) (λ y m u. fails w m u X) s.agree (λ u m a. refl) k))
-        ((is.from_fails s.y s.below t X).0 (nearer x (λ m. fails w m t X) s)),
+            (λ (k : QuietlyFails inner closed (with_name Γ v.0 (Var wd)) q s.y t X). inl (quiet_var_out x s.y t X s.agree k))
+            (λ (k : Resumes w inner closed (with_name Γ v.0 (Var wd)) q rest s.y (λ y m u. fails w m u X) t). inr (var_out x s.y t (λ y m u. fails w m u X) (λ y m u. fails w m u X) s.agree (λ u m a. refl) k))
+            ((is.from_fails s.y s.below t X).0 (nearer x (λ m. fails w m t X) s)),
         ⊎_elim
-        (λ (k : QuietlyFails layout closed Γ (declare v.0 wd q) x t X). quiet_var_in x t X hx k.0 k.1)
-        (λ (k : Resumes w layout closed Γ (declare v.0 wd q) rest x (λ y m u. fails w m u X) t).
-        var_in x t k.t1 k.t2 k.y k.m (λ x' y m u. fails w m u X) (λ m. fails w m t X) hx k.whole k.below k.silent k.leads k.behaved (λ x' y' a b. refl)
-        (λ x' h r. (is.from_fails x' h t X).1 (inr r)) k.ended),
+            (λ (k : QuietlyFails layout closed Γ (declare v.0 wd q) x t X). quiet_var_in x t X hx k.0 k.1)
+            (λ (k : Resumes w layout closed Γ (declare v.0 wd q) rest x (λ y m u. fails w m u X) t).
+            var_in x t k.t1 k.t2 k.y k.m (λ x' y m u. fails w m u X) (λ m. fails w m t X) hx k.whole k.below k.silent k.leads k.behaved (λ x' y' a b. refl)
+            (λ x' h r. (is.from_fails x' h t X).1 (inr r)) k.ended),
       );
       from_ends = λ x hx t z hz. (
         λ s. var_out x s.y t (λ y m u. ends w m u (bit_xor z (change_of keep s.y y))) (λ y m u. ends w m u (bit_xor z (change_of keep x y))) s.agree
-        (λ u m a. turned_same s.y x u u z m a (λ k h. sym (low_agree x s.y s.agree k h)) (λ k h. refl))
-        ((is.from_ends s.y s.below t z hz).0 (nearer x (λ m. ends w m t z) s)),
+            (λ u m a. turned_same s.y x u u z m a (λ k h. sym (low_agree x s.y s.agree k h)) (λ k h. refl))
+            ((is.from_ends s.y s.below t z hz).0 (nearer x (λ m. ends w m t z) s)),
         λ k. var_in x t k.t1 k.t2 k.y k.m (λ x' y m u. ends w m u (bit_xor z (change_of keep x' y))) (λ m. ends w m t z) hx k.whole k.below k.silent k.leads k.behaved
-        (λ x' y' a b. turned_same x x' k.y y' z k.m k.t2 a b)
-        (λ x' h r. (is.from_ends x' h t z hz).1 r) k.ended,
+            (λ x' y' a b. turned_same x x' k.y y' z k.m k.t2 a b)
+            (λ x' h r. (is.from_ends x' h t z hz).1 r) k.ended,
       );
     }

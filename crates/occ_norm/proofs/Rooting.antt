@@ -1,5 +1,5 @@
 -- The map of a whole program, whose changes are turned into final states.
-use Rattle.std.proofs.Common.{◌≡◌, ◌<◌, ◌≤◌, ◌^◌, ◌+◌, ◌%◌, ◌==◌, ◌&&◌, ◌↔◌, ◌⊎◌, ◌++◌, inl, inr, ⊎_elim, ℕ, zero, suc, min, Bool, true, false, cond, List, [], ◌∷◌, Some, bit_and, bit_xor, refl, sym, ap, ◌∙◌, subst, arith}
+use Rattle.std.proofs.Common.{◌≡◌, ◌<◌, ◌≤◌, ◌^◌, ◌+◌, ◌%◌, ◌==◌, ◌↔◌, ◌⊎◌, ◌++◌, inl, ⊎_elim, ℕ, zero, suc, min, Bool, true, false, cond, List, [], ◌∷◌, Some, bit_and, bit_xor, refl, sym, ap, ◌∙◌, subst, arith}
 use Rattle.std.proofs.lemmas.Bool.{and_parts, and_from, cases_lt, eq-eqb, eqb-true}
 use Rattle.std.proofs.lemmas.List.{append-nil}
 use Rattle.std.proofs.lemmas.Nat.Bits.{bit_at_and, bit_at_xor}
@@ -11,7 +11,6 @@ use Rattle.occ_base.specs.declared.width.Width.{Width}
 use Rattle.occ_bits.specs.Layout.{laid_out, state_of}
 use Rattle.occ_diagram.proofs.Bits.{bit_cases}
 use Rattle.occ_syntax.specs.declared.scope.Kind.{Kind}
-use Rattle.occ_syntax.specs.Counts.{bits_of_scope}
 use Rattle.occ_syntax.specs.Meaning.{fails as part_fails, ends as part_ends}
 use Rattle.occ_syntax.specs.Scopes.{environment}
 use Rattle.occ_syntax.specs.Tree.{Tree}
@@ -24,7 +23,7 @@ use Rattle.occ_node.specs.declared.world.World.{World}
 use Rattle.occ_follow.specs.Sequence.{HasNodes}
 use Rattle.occ_lift.specs.Maps.{IsSkip, are_zero, is_clear}
 use Rattle.occ_weave.specs.Weave.{is_silent_on}
-use Rattle.occ_frame.specs.After.{AgreeBelow, IsAfter, IsOver, QuietlyFails, Resumes, change_of}
+use Rattle.occ_frame.specs.After.{AgreeBelow, IsAfter, QuietlyFails, Resumes, change_of}
 use Rattle.occ_frame.specs.Changes.{IsChanged}
 use Rattle.occ_frame.specs.Placed.{IsAround, IsFrame}
 use Rattle.occ_frame.proofs.Bits.{pow_more}
@@ -32,7 +31,7 @@ use Rattle.occ_norm.specs.Parts.{IsAfterIn}
 use Rattle.occ_node.proofs.Recovery.{canonical}
 use Rattle.occ_frame.proofs.After.{map_node, same_truth, state_below}
 use Rattle.occ_norm.specs.Root.{IsRoot}
-use Rattle.occ_norm.proofs.Changing.{bit_of_change, change_lt}
+use Rattle.occ_norm.proofs.Changing.{bit_of_change}
 
 -- ---- bits that are 0
 clear_is : (bits k v : ℕ) → is_clear bits k v ≡ true → bit_at bits k ≡ 1 → bit_at v k ≡ 0
@@ -80,7 +79,6 @@ equal_bits z x k p q r e = omega (arith, p, q, e)
 module _ (w : World) (params : List (Name × Kind)) (n keep : ℕ) (p : Tree) (ended changes states : MapId) (frame : IsFrame params (laid_out 0 params) n) (inside : keep < 2 ^ n)
     (all : (k : ℕ) → k < n → bit_at keep k ≡ 1) (small : n ≤ 24) (keep_lt : keep < 2 ^ 64) (skips : IsSkip w keep ended) (has : HasNodes w changes) (nodes : HasNodes w states)
     (after : IsAfter w (laid_out 0 params) keep [] (environment params) p ended changes) (turned : IsChanged w (λ x. bit_and x keep) changes states) where
-
   the_end : (y : ℕ) (m : NodeId) → value w.maps ended y ≡ Some m → skips.node ≡ m
   the_end y m e = same_Some skips.node m (sym (skips.everywhere.values y) ∙ e)
 
@@ -88,14 +86,13 @@ module _ (w : World) (params : List (Name × Kind)) (n keep : ℕ) (p : Tree) (e
   fails_here x a h e t X =
       let c = has.nodes x h in
       let same_at = (turned.changed x c.0 a h c.1 e).turned.same_fail t X in
-      let iff = after.after_fails x c.0 h c.1 t X in
-      (
-      λ f. ⊎_elim
-      (λ (k : QuietlyFails (laid_out 0 params) [] (environment params) p x t X). k.1)
-      (λ (k : Resumes w (laid_out 0 params) [] (environment params) p ended x (λ y m u. fails w m u X) t).
-      absurd (let g : false ≡ true = sym (skips.never_fails k.t2 X) ∙ ap (λ m. fails w m k.t2 X) (the_end k.y k.m k.leads) ∙ k.behaved in cc))
-      (iff.0 (sym same_at ∙ f)),
-      λ d. same_at ∙ iff.1 (inl (open_trace t, d)),
+      let iff = after.after_fails x c.0 h c.1 t X in (
+        λ f. ⊎_elim
+            (λ (k : QuietlyFails (laid_out 0 params) [] (environment params) p x t X). k.1)
+            (λ (k : Resumes w (laid_out 0 params) [] (environment params) p ended x (λ y m u. fails w m u X) t).
+            absurd (let g : false ≡ true = sym (skips.never_fails k.t2 X) ∙ ap (λ m. fails w m k.t2 X) (the_end k.y k.m k.leads) ∙ k.behaved in cc))
+            (iff.0 (sym same_at ∙ f)),
+        λ d. same_at ∙ iff.1 (inl (open_trace t, d)),
       )
 
   ends_last : (t : List Event) (v : ℕ) → ends w skips.node t v ≡ true → (t ≡ []) × (are_zero 64 keep v ≡ true)
@@ -109,28 +106,27 @@ module _ (w : World) (params : List (Name × Kind)) (n keep : ℕ) (p : Tree) (e
       let same_at = (turned.changed x c.0 a h c.1 e).turned.turned_end t z hz in
       let z' = bit_xor z (bit_and x keep) in
       let hz' : z' < 2 ^ 64 = Rattle.std.specs.Int.Bits.xor_lt 64 z (bit_and x keep) hz (Rattle.std.specs.Int.Bits.and_lt 64 x keep h keep_lt) in
-      let iff = after.after_ends x c.0 h c.1 t z' hz' in
-      (
-      λ f. let k = iff.0 (sym same_at ∙ f) in
-      let last = ends_last k.t2 (bit_xor z' (change_of keep x k.y)) (ap (λ m. ends w m k.t2 (bit_xor z' (change_of keep x k.y))) (the_end k.y k.m k.leads) ∙ k.behaved) in
-      let agree : AgreeBelow n k.y z = λ b l. sym (told (bit_at z b) (bit_at x b) (bit_at k.y b) (bit_cases z b) (bit_cases x b) (bit_cases k.y b)
-      ((λ i. ((bit_at z b + min (bit_at x b) (sym (all b l) i)) % 2 + min ((bit_at x b + bit_at k.y b) % 2) (sym (all b l) i)) % 2) ∙ sym (bit_sum z x k.y keep b)
-      ∙ zeros_are 64 keep (bit_xor z' (change_of keep x k.y)) last.1 b (omega (arith, l, small)) (all b l))) in
-      subst (part_ends (environment params) p (state_of (laid_out 0 params) x) t) (state_below params (laid_out 0 params) n frame k.y z agree)
-      (subst (λ u. part_ends (environment params) p (state_of (laid_out 0 params) x) u (state_of (laid_out 0 params) k.y)) (sym (k.whole ∙ ap (λ u. k.t1 ++ u) last.0 ∙ append-nil k.t1)) k.ended),
-      λ d. same_at ∙ iff.1 (record {
-        t1 = t;
-        t2 = [];
-        y = z;
-        m = skips.node;
-        whole = sym (append-nil t);
-        below = hz;
-        silent = open_trace t;
-        ended = d;
-        leads = skips.everywhere.values z;
-        behaved = skips.ends_now (bit_xor z' (change_of keep x z)) ∙ are_zeros 64 keep (bit_xor z' (change_of keep x z))
-            (λ b l one. bit_sum z x z keep b ∙ equal_bits (bit_at z b) (bit_at x b) (bit_at keep b) (bit_cases z b) (bit_cases x b) (bit_cases keep b) one);
-      }),
+      let iff = after.after_ends x c.0 h c.1 t z' hz' in (
+        λ f. let k = iff.0 (sym same_at ∙ f) in
+            let last = ends_last k.t2 (bit_xor z' (change_of keep x k.y)) (ap (λ m. ends w m k.t2 (bit_xor z' (change_of keep x k.y))) (the_end k.y k.m k.leads) ∙ k.behaved) in
+            let agree : AgreeBelow n k.y z = λ b l. sym (told (bit_at z b) (bit_at x b) (bit_at k.y b) (bit_cases z b) (bit_cases x b) (bit_cases k.y b)
+            ((λ i. ((bit_at z b + min (bit_at x b) (sym (all b l) i)) % 2 + min ((bit_at x b + bit_at k.y b) % 2) (sym (all b l) i)) % 2) ∙ sym (bit_sum z x k.y keep b)
+            ∙ zeros_are 64 keep (bit_xor z' (change_of keep x k.y)) last.1 b (omega (arith, l, small)) (all b l))) in
+            subst (part_ends (environment params) p (state_of (laid_out 0 params) x) t) (state_below params (laid_out 0 params) n frame k.y z agree)
+            (subst (λ u. part_ends (environment params) p (state_of (laid_out 0 params) x) u (state_of (laid_out 0 params) k.y)) (sym (k.whole ∙ ap (λ u. k.t1 ++ u) last.0 ∙ append-nil k.t1)) k.ended),
+        λ d. same_at ∙ iff.1 (record {
+          t1 = t;
+          t2 = [];
+          y = z;
+          m = skips.node;
+          whole = sym (append-nil t);
+          below = hz;
+          silent = open_trace t;
+          ended = d;
+          leads = skips.everywhere.values z;
+          behaved = skips.ends_now (bit_xor z' (change_of keep x z)) ∙ are_zeros 64 keep (bit_xor z' (change_of keep x z))
+              (λ b l one. bit_sum z x z keep b ∙ equal_bits (bit_at z b) (bit_at x b) (bit_at keep b) (bit_cases z b) (bit_cases x b) (bit_cases keep b) one);
+        }),
       )
 
   one_node : (x y : ℕ) (a b : NodeId) → AgreeBelow n x y → x < 2 ^ 64 → y < 2 ^ 64 → value w.maps states x ≡ Some a → value w.maps states y ≡ Some b → a ≡ b

@@ -1,15 +1,13 @@
 -- SKIP, STOP, one part after another, and the choices of an IF, as maps in front of what follows.
-use Rattle.std.proofs.Common.{◌≡◌, ◌<◌, ◌≤◌, ◌^◌, ◌↔◌, ◌⊎◌, ◌++◌, ◌&&◌, ⊎_elim, inl, inr, ℕ, Bool, true, false, List, [], ◌∷◌, Option, Some, None, MatchBool, if◌then◌else◌, cond, refl, sym, ap, ◌∙◌, subst, append_assoc, bit_and, bit_xor, arith}
+use Rattle.std.proofs.Common.{◌≡◌, ◌<◌, ◌^◌, ◌⊎◌, ◌++◌, ⊎_elim, inl, inr, ℕ, Bool, true, List, Some, refl, sym, ap, ◌∙◌, subst, append_assoc, bit_xor}
 use Rattle.std.proofs.lemmas.Bool.{and_parts, and_from}
 use Rattle.std.proofs.lemmas.List.Folds.{list_all-append}
-use Rattle.std.proofs.lemmas.Option.{same_Some}
-use Rattle.std.specs.Int.Bits.{xor_self, xor_zero_r}
 use Rattle.occ_base.specs.declared.event.Event.{Event}
 use Rattle.occ_base.specs.declared.names.Name.{Name}
 use Rattle.occ_base.specs.declared.width.Width.{Width}
-use Rattle.occ_syntax.specs.Meaning.{Followed, Meaning, Stopped, stopped, ended, refusing, in_first, in_second, in_turn, meaning, fails as part_fails, ends as part_ends}
+use Rattle.occ_syntax.specs.Meaning.{Followed, ended, refusing, in_first, in_second, in_turn, meaning, fails as part_fails, ends as part_ends}
 use Rattle.occ_syntax.specs.Scopes.{Environment, Values}
-use Rattle.occ_syntax.specs.Tree.{Tree, Trees, skip, stop, seq, no_tree, and_tree}
+use Rattle.occ_syntax.specs.Tree.{Tree, Trees, seq, and_tree}
 use Rattle.occ_bits.specs.Layout.{state_of}
 use Rattle.occ_mdd.specs.Maps.{value}
 use Rattle.occ_mdd.specs.declared.map.MapId.{MapId}
@@ -18,7 +16,7 @@ use Rattle.occ_node.specs.declared.node.NodeId.{NodeId}
 use Rattle.occ_node.specs.declared.world.World.{World}
 use Rattle.occ_follow.specs.Sequence.{HasNodes}
 use Rattle.occ_weave.specs.Weave.{is_open, is_silent_on, off_channels}
-use Rattle.occ_frame.specs.After.{AgreeBelow, IsAfter, IsOver, QuietlyFails, Resumes, change_of}
+use Rattle.occ_frame.specs.After.{IsAfter, QuietlyFails, Resumes, change_of}
 use Rattle.occ_norm.proofs.Changing.{change_lt, change_twice}
 
 -- from the state of an assignment the part ends in states of assignments alone
@@ -35,7 +33,6 @@ silent_parts closed t u h = and_parts _ _ (sym (list_all-append (is_open closed)
 module _ (w : World) (layout : List (Name × Width × ℕ)) (keep : ℕ) (closed : List Name) (Γ : Environment) (p : Tree) (ps : Trees) (rest map r : MapId)
     (small : keep < 2 ^ 64) (nodes : HasNodes w map) (reaches : Reaches layout Γ p)
     (first : IsAfter w layout keep closed Γ p map r) (second : IsAfter w layout keep closed Γ (seq ps) rest map) where
-
   -- what the second has, after the first
   both_resume : (x y : ℕ) (t t1 t2 : List Event) (f : ℕ → NodeId → List Event → Bool) → t ≡ t1 ++ t2 → y < 2 ^ 64 → is_silent_on closed t1 ≡ true
       → part_ends Γ p (state_of layout x) t1 (state_of layout y) → Resumes w layout closed Γ (seq ps) rest y f t2 → Resumes w layout closed Γ (seq (and_tree p ps)) rest x f t

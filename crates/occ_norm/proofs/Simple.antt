@@ -1,5 +1,5 @@
 -- SKIP, STOP and the choices of an IF, as maps in front of what follows.
-use Rattle.std.proofs.Common.{◌≡◌, ◌<◌, ◌≤◌, ◌^◌, ◌↔◌, ◌⊎◌, ◌++◌, ◌+◌, ◌%◌, ⊎_elim, inl, inr, ℕ, min, Bool, true, false, List, [], ◌∷◌, Option, Some, None, MatchBool, cond, refl, sym, ap, ◌∙◌, subst, bit_and, bit_xor, arith, nat_lt}
+use Rattle.std.proofs.Common.{◌≡◌, ◌<◌, ◌≤◌, ◌^◌, ◌↔◌, ◌++◌, ◌+◌, ◌%◌, ⊎_elim, inl, inr, ℕ, min, Bool, true, false, List, [], ◌∷◌, Some, MatchBool, cond, refl, sym, ap, ◌∙◌, subst, bit_xor, arith}
 use Rattle.std.proofs.lemmas.Bool.{cases_lt}
 use Rattle.std.proofs.lemmas.Nat.Bits.{bit_at-zero, bit_at_above, same_from_bits}
 use Rattle.std.proofs.lemmas.Option.{same_Some}
@@ -9,9 +9,8 @@ use Rattle.occ_base.specs.declared.event.Event.{Event}
 use Rattle.occ_base.specs.declared.names.Name.{Name}
 use Rattle.occ_base.specs.declared.width.Width.{Width}
 use Rattle.occ_bits.specs.Layout.{state_of}
-use Rattle.occ_bits.proofs.Arithmetic.{low_bit}
 use Rattle.occ_syntax.specs.Eval.{is_true}
-use Rattle.occ_syntax.specs.Meaning.{Outcome, Stopped, stopped, ended, refusing, meaning, fails as part_fails, ends as part_ends}
+use Rattle.occ_syntax.specs.Meaning.{Outcome, Stopped, stopped, ended, refusing, meaning, ends as part_ends}
 use Rattle.occ_syntax.specs.Scopes.{Environment, Values}
 use Rattle.occ_syntax.specs.Tree.{Exp, Tree, Cases, and_case, select}
 use Rattle.occ_mdd.specs.Maps.{value}
@@ -75,7 +74,6 @@ change_same n keep x y u inside agree = same_from_bits _ _ (λ i. bit_of_change 
 module _ (w : World) (layout : List (Name × Width × ℕ)) (n keep : ℕ) (closed : List Name) (Γ : Environment) (p : Tree) (rest : MapId)
     (inside : keep < 2 ^ n) (over : IsOver w n rest) (tells : TellsBits layout n)
     (once : (s : Values) (t : List Event) (o : Outcome) → (meaning p).does Γ s t o ↔ ((t ≡ []) × (o ≡ ended s))) where
-
   pub now : (x : ℕ) (a : NodeId) (t : List Event) (f : ℕ → NodeId → List Event → Bool) → x < 2 ^ 64 → value w.maps rest x ≡ Some a → f x a t ≡ true → Resumes w layout closed Γ p rest x f t
   now x a t f hx at behaved = record {
     t1 = [];
@@ -104,13 +102,13 @@ module _ (w : World) (layout : List (Name × Width × ℕ)) (n keep : ℕ) (clos
     after_fails = λ x a hx at t X. (
       λ h. inr (now x a t (λ y m u. fails w m u X) hx at h),
       ⊎_elim
-      (λ (s : QuietlyFails layout closed Γ p x t X). absurd (not_both (state_of layout x) (off_channels closed X) ((once (state_of layout x) t (refusing (off_channels closed X))).0 s.1).1))
-      (λ (s : Resumes w layout closed Γ p rest x (λ y m u. fails w m u X) t). (still x a t s.t1 s.t2 s.y s.m (λ y m u. fails w m u X) hx at s.whole s.below s.ended s.leads s.behaved).1),
+          (λ (s : QuietlyFails layout closed Γ p x t X). absurd (not_both (state_of layout x) (off_channels closed X) ((once (state_of layout x) t (refusing (off_channels closed X))).0 s.1).1))
+          (λ (s : Resumes w layout closed Γ p rest x (λ y m u. fails w m u X) t). (still x a t s.t1 s.t2 s.y s.m (λ y m u. fails w m u X) hx at s.whole s.below s.ended s.leads s.behaved).1),
     );
     after_ends = λ x a hx at t z hz. (
       λ h. now x a t (λ y m u. ends w m u (bit_xor z (change_of keep x y))) hx at (ap (ends w a t) (unchanged z x x (λ k l. refl)) ∙ h),
       λ s. let k = still x a t s.t1 s.t2 s.y s.m (λ y m u. ends w m u (bit_xor z (change_of keep x y))) hx at s.whole s.below s.ended s.leads s.behaved in
-      sym (ap (ends w a t) (unchanged z x s.y k.0)) ∙ k.1,
+          sym (ap (ends w a t) (unchanged z x s.y k.0)) ∙ k.1,
     );
   }
     where
@@ -123,7 +121,6 @@ at_rest_only t o (stopped {X = X}) = (X, refl, refl)
 
 module _ (w : World) (layout : List (Name × Width × ℕ)) (keep : ℕ) (closed : List Name) (Γ : Environment) (p : Tree) (rest r : MapId) (is : IsStop w r)
     (rests : (s : Values) (t : List Event) (o : Outcome) → (meaning p).does Γ s t o ↔ Stopped t o) where
-
   the_node : (x : ℕ) (a : NodeId) → value w.maps r x ≡ Some a → is.node ≡ a
   the_node x a at = same_Some is.node a (sym (is.everywhere.values x) ∙ at)
 
@@ -147,8 +144,8 @@ module _ (w : World) (layout : List (Name × Width × ℕ)) (keep : ℕ) (closed
     after_fails = λ x a hx at t X. (
       λ h. inl ((fails_there x t X).0 (ap (λ b. fails w b t X) (the_node x a at) ∙ h)),
       ⊎_elim
-      (λ (s : QuietlyFails layout closed Γ p x t X). sym (ap (λ b. fails w b t X) (the_node x a at)) ∙ (fails_there x t X).1 s)
-      (λ (s : Resumes w layout closed Γ p rest x (λ y m u. fails w m u X) t). absurd (never_ends x t (λ y m u. fails w m u X) s)),
+          (λ (s : QuietlyFails layout closed Γ p x t X). sym (ap (λ b. fails w b t X) (the_node x a at)) ∙ (fails_there x t X).1 s)
+          (λ (s : Resumes w layout closed Γ p rest x (λ y m u. fails w m u X) t). absurd (never_ends x t (λ y m u. fails w m u X) s)),
     );
     after_ends = λ x a hx at t z hz. (
       λ h. absurd (let f : true ≡ false = sym h ∙ sym (ap (λ b. ends w b t z) (the_node x a at)) ∙ is.never_ends t z in cc),
@@ -176,17 +173,17 @@ resumes_as w layout closed Γ p q rest x f t gives s = record {
 -- a map that has at each assignment the node of the map of a part that behaves so from there
 pub after_as : (w : World) (layout : List (Name × Width × ℕ)) (keep : ℕ) (closed : List Name) (Γ : Environment) (q : Tree) (rest r : MapId)
     → ((x : ℕ) → x < 2 ^ 64 → (p : Tree) × (map : MapId) × IsAfter w layout keep closed Γ p rest map × (value w.maps r x ≡ value w.maps map x)
-      × ((u : List Event) (o : Outcome) → (meaning p).does Γ (state_of layout x) u o ↔ (meaning q).does Γ (state_of layout x) u o))
+    × ((u : List Event) (o : Outcome) → (meaning p).does Γ (state_of layout x) u o ↔ (meaning q).does Γ (state_of layout x) u o))
     → IsAfter w layout keep closed Γ q rest r
 after_as w layout keep closed Γ q rest r there = record {
   after_fails = λ x a hx at t X. let k = there x hx in let iff = k.2.after_fails x a hx (sym k.3 ∙ at) t X in (
     λ h. ⊎_elim
-    (λ (s : QuietlyFails layout closed Γ k.0 x t X). inl (s.0, (k.4 t (refusing (off_channels closed X))).0 s.1))
-    (λ (s : Resumes w layout closed Γ k.0 rest x (λ y m u. fails w m u X) t). inr (resumes_as w layout closed Γ k.0 q rest x (λ y m u. fails w m u X) t (λ u o. (k.4 u o).0) s))
-    (iff.0 h),
+        (λ (s : QuietlyFails layout closed Γ k.0 x t X). inl (s.0, (k.4 t (refusing (off_channels closed X))).0 s.1))
+        (λ (s : Resumes w layout closed Γ k.0 rest x (λ y m u. fails w m u X) t). inr (resumes_as w layout closed Γ k.0 q rest x (λ y m u. fails w m u X) t (λ u o. (k.4 u o).0) s))
+        (iff.0 h),
     ⊎_elim
-    (λ (s : QuietlyFails layout closed Γ q x t X). iff.1 (inl (s.0, (k.4 t (refusing (off_channels closed X))).1 s.1)))
-    (λ (s : Resumes w layout closed Γ q rest x (λ y m u. fails w m u X) t). iff.1 (inr (resumes_as w layout closed Γ q k.0 rest x (λ y m u. fails w m u X) t (λ u o. (k.4 u o).1) s))),
+        (λ (s : QuietlyFails layout closed Γ q x t X). iff.1 (inl (s.0, (k.4 t (refusing (off_channels closed X))).1 s.1)))
+        (λ (s : Resumes w layout closed Γ q rest x (λ y m u. fails w m u X) t). iff.1 (inr (resumes_as w layout closed Γ q k.0 rest x (λ y m u. fails w m u X) t (λ u o. (k.4 u o).1) s))),
   );
   after_ends = λ x a hx at t z hz. let k = there x hx in let iff = k.2.after_ends x a hx (sym k.3 ∙ at) t z hz in (
     λ h. resumes_as w layout closed Γ k.0 q rest x (λ y m u. ends w m u (bit_xor z (change_of keep x y))) t (λ u o. (k.4 u o).0) (iff.0 h),
@@ -202,11 +199,21 @@ case_after w layout keep closed Γ e p cs rest chosen map r test tests is first 
   where
     at : (x : ℕ) → x < 2 ^ 64 → (b : Bool) → test x ≡ b → (q : Tree) × (m : MapId) × IsAfter w layout keep closed Γ q rest m × (value w.maps r x ≡ value w.maps m x)
         × ((u : List Event) (o : Outcome) → (meaning q).does Γ (state_of layout x) u o ↔ (meaning (select (and_case e p cs))).does Γ (state_of layout x) u o)
-    at x hx true h = (p, chosen, first, is x ∙ ap (λ c. cond c (value w.maps chosen x) (value w.maps map x)) h,
-        λ u o. let b : true ≡ is_true Γ e (state_of layout x) = sym h ∙ tests x hx in
-        let M : Bool → Type 0 = λ c. MatchBool c ((meaning p).does Γ (state_of layout x) u o) ((meaning (select cs)).does Γ (state_of layout x) u o) in
-        (λ d. subst M b d, λ d. subst M (sym b) d))
-    at x hx false h = (select cs, map, others, is x ∙ ap (λ c. cond c (value w.maps chosen x) (value w.maps map x)) h,
-        λ u o. let b : false ≡ is_true Γ e (state_of layout x) = sym h ∙ tests x hx in
-        let M : Bool → Type 0 = λ c. MatchBool c ((meaning p).does Γ (state_of layout x) u o) ((meaning (select cs)).does Γ (state_of layout x) u o) in
-        (λ d. subst M b d, λ d. subst M (sym b) d))
+    at x hx true h = (
+      p,
+      chosen,
+      first,
+      is x ∙ ap (λ c. cond c (value w.maps chosen x) (value w.maps map x)) h,
+      λ u o. let b : true ≡ is_true Γ e (state_of layout x) = sym h ∙ tests x hx in
+          let M : Bool → Type 0 = λ c. MatchBool c ((meaning p).does Γ (state_of layout x) u o) ((meaning (select cs)).does Γ (state_of layout x) u o) in
+          (λ d. subst M b d, λ d. subst M (sym b) d),
+    )
+    at x hx false h = (
+      select cs,
+      map,
+      others,
+      is x ∙ ap (λ c. cond c (value w.maps chosen x) (value w.maps map x)) h,
+      λ u o. let b : false ≡ is_true Γ e (state_of layout x) = sym h ∙ tests x hx in
+          let M : Bool → Type 0 = λ c. MatchBool c ((meaning p).does Γ (state_of layout x) u o) ((meaning (select cs)).does Γ (state_of layout x) u o) in
+          (λ d. subst M b d, λ d. subst M (sym b) d),
+    )

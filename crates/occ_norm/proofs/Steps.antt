@@ -1,14 +1,12 @@
 -- The operators of the language on maps, in every environment of the variables in scope.
-use Rattle.std.proofs.Common.{◌≡◌, ◌<◌, ◌≤◌, ◌^◌, ◌↔◌, ◌==◌, ◌&&◌, ◌++◌, ℕ, Bool, true, false, List, [], ◌∷◌, Option, Some, None, Result, Ok, Err, IfOk, bit_or, cond, refl, sym, ap, ◌∙◌, subst, arith}
+use Rattle.std.proofs.Common.{◌≡◌, ◌<◌, ◌≤◌, ◌^◌, ◌==◌, ◌&&◌, ℕ, Bool, true, List, [], ◌∷◌, Result, Ok, Err, IfOk, bit_or, cond, refl, sym, ap, ◌∙◌, subst, arith}
 use Rattle.std.proofs.lemmas.Bool.{and_parts}
-use Rattle.std.proofs.lemmas.Nat.{or_lt, pow_pos}
-use Rattle.occ_base.specs.declared.event.Event.{Event}
+use Rattle.std.proofs.lemmas.Nat.{or_lt}
 use Rattle.occ_base.specs.declared.names.Name.{Name}
 use Rattle.occ_base.specs.declared.width.Width.{Width}
 use Rattle.occ_bits.specs.Layout.{environment_in, state_of}
 use Rattle.occ_syntax.specs.declared.scope.Kind.{Kind}
 use Rattle.occ_syntax.specs.Eval.{is_true}
-use Rattle.occ_syntax.specs.Meaning.{Outcome, meaning}
 use Rattle.occ_syntax.specs.Scopes.{Environment, Values}
 use Rattle.occ_syntax.specs.Tree.{Exp, Tree, Trees, Cases, skip, stop, seq, par, select, no_tree, and_tree, no_case, and_case}
 use Rattle.occ_syntax.specs.Types.{all_types_kept, cases_kept, is_condition, types_kept}
@@ -19,7 +17,7 @@ use Rattle.occ_follow.specs.Sequence.{HasNodes}
 use Rattle.occ_diagram.specs.Assignment.{turned}
 use Rattle.occ_lift.specs.Maps.{Extends, IsSkip, IsStop}
 use Rattle.occ_frame.specs.Changes.{IsSupport}
-use Rattle.occ_frame.specs.After.{IsAfter, IsOver}
+use Rattle.occ_frame.specs.After.{IsOver}
 use Rattle.occ_frame.specs.Placed.{Fits, IsAround, IsFrame}
 use Rattle.occ_frame.proofs.After.{after-extends, after-over, state_back, states_reached}
 use Rattle.occ_frame.proofs.Bits.{pow_more}

@@ -8,7 +8,7 @@ use Rattle.occ_syntax.specs.declared.proc.Proc.{Proc}
 use Rattle.occ_syntax.specs.declared.scope.Kind.{Kind}
 use Rattle.occ_syntax.specs.declared.scope.Kind.TheVariants.{Var, Chan}
 use Rattle.occ_syntax.specs.Declarations.{declaring}
-use Rattle.occ_syntax.specs.Tree.{Branches, Cases, Tree, Trees, and_branch, and_case, and_tree, no_branch, no_case, no_tree}
+use Rattle.occ_syntax.specs.Tree.{Tree, and_branch, and_case, and_tree, no_tree}
 use Rattle.occ_syntax.specs.Scopes.{Environment}
 use Rattle.occ_syntax.specs.Types.{all_types_kept, types_kept}
 use Rattle.occ_syntax.specs.Usage.{AllKeepUsage, BranchesKeepUsage, CasesKeepUsage, KeepsUsage}

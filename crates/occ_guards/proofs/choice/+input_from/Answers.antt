@@ -4,7 +4,7 @@ use Rattle.occ_lift.proofs.Worlds.{has_nodes-extends}
 use Rattle.occ_lift.specs.Lifted.{IsMerged, OnTwo}
 use Rattle.occ_lift.specs.Maps.{Lifts}
 use Rattle.occ_guards.specs.Inputs.{AreInputs}
-use Rattle.occ_guards.proofs.Rooms.{above_is, one_more, room_high, room_low}
+use Rattle.occ_guards.proofs.Rooms.{above_is, one_more, room_fits, room_high, room_low}
 use Rattle.occ_guards.proofs.Steps.{inputs_from}
 use Rattle.occ_guards.proofs.choice.+input_from.Goals as goal
 
@@ -31,3 +31,6 @@ returns-clause-inputs t c =
         (c.in_ok-one.ensures.nodes (has_nodes-extends c.args.world.now c.cofactor.new.world c.cofactor.ensures.extends c.args.next c.requires.next))
         c.in_ok-low.ensures.inputs c.in_ok-high.ensures.inputs c.in_ok-low.ensures.nodes c.in_ok-high.ensures.nodes is)
     c.merged.ensures.merged
+
+pub overflow_add-value : goal.overflow_add-value
+overflow_add-value t c = omega (arith, room_fits c.args.value c.args.left (omega (arith, c.if-left-eq0.false)) c.requires.left c.requires.room)

@@ -1,24 +1,22 @@
-use Rattle.occ_syntax.specs.Tree.{seq, par, select, alt, assign, skip, stop, receive, send, no_tree, and_tree, and_case, and_branch}
-use Rattle.occ_syntax.specs.Types.{all_types_kept, branches_kept, is_condition, types_kept, waiting_kept}
+use Rattle.occ_syntax.specs.Tree.{seq, par, select, alt, assign, skip, stop, no_tree, and_tree}
+use Rattle.occ_syntax.specs.Types.{branches_kept, is_condition, types_kept, waiting_kept}
 use Rattle.occ_laws.proofs.Facts.{and_four}
 use Rattle.occ_guards.specs.Alternation.{IsAlternation}
 use Rattle.occ_guards.proofs.Alternatives.{alternation_grow}
-use Rattle.occ_syntax.specs.Usage.{AllKeepUsage, AreSeparate, BranchesKeepUsage, CasesKeepUsage, KeepsUsage}
+use Rattle.occ_syntax.specs.Usage.{KeepsUsage}
 use Rattle.occ_syntax.specs.View.{numbers, exp, exps, tree, trees, cases, branches, waiting}
 use Rattle.occ_syntax.proofs.Views.{tree-Seq, tree-Par, tree-If, tree-Alt}
 use Rattle.occ_syntax.proofs.Weights.{weight, weight-seq, weight-par, weight-select, weight-alt, weight_in_all, weight_in_cases, weight_in_branches}
 use Rattle.occ_syntax.proofs.Counting.{weight-declaring}
-use Rattle.occ_mdd.specs.Maps.{value}
 use Rattle.occ_dd.specs.Store.{has}
 use Rattle.occ_frame.specs.After.{IsAfter}
 use Rattle.occ_frame.specs.Placed.{Fits, IsAround}
 use Rattle.occ_frame.proofs.After.{after-extends, after-over, over-extends}
 use Rattle.occ_frame.proofs.Placing.{branch_at, branch_condition, branch_wait, case_at, case_condition, fit_at, fits_alt, fits_assign, fits_can, fits_next, fits_par, fits_receive, fits_select, fits_send, fits_seq}
-use Rattle.occ_frame.proofs.Keeping.{keep-extends, keep_learnt, keep_none, none_may, set-extends, sets-extend}
-use Rattle.std.proofs.Common.{true, ◌*◌, ◌-◌, ◌≡◌, ◌≤◌, ◌<◌, ◌+◌, ◌++◌, cond, [], ◌∷◌, Some, List, drop, length, get_or, refl, sym, ap, ◌∙◌, subst, arith}
-use Rattle.occ_lift.proofs.Worlds.{extends_refl, extends_trans, has_nodes-extends, may_have, may_have-extends}
+use Rattle.std.proofs.Common.{true, ◌-◌, ◌≡◌, ◌≤◌, ◌<◌, ◌+◌, cond, drop, length, sym, ap, ◌∙◌, subst, arith}
+use Rattle.occ_lift.proofs.Worlds.{extends_refl, extends_trans, has_nodes-extends}
 use Rattle.occ_norm.specs.Parts.{IsAfterIn}
-use Rattle.occ_norm.proofs.Declaring.{bits_grow, opens_itself, opens_next, over_more}
+use Rattle.occ_norm.proofs.Declaring.{bits_grow, opens_next}
 use Rattle.occ_norm.proofs.Opening.{after_from, freed_after}
 use Rattle.std.proofs.Common.{bit_or}
 use Rattle.std.proofs.lemmas.Option.{get_or_from_slice_get}
@@ -26,8 +24,8 @@ use Rattle.occ_bits.specs.Layout.{laid_out}
 use Rattle.occ_lift.specs.Maps.{IsSkip}
 use Rattle.occ_sides.specs.Sides.{closed_from, sole_of}
 use Rattle.occ_sides.proofs.Closing.{closed_all}
-use Rattle.occ_norm.proofs.Steps.{as_is, case_in, empty_in, if_ok, in-extends, no_case_in, keep_below, none_in, one_in, over_in, over_skip, seq_in, skip-extends, skip_in, stop-extends, stop_in, support-extends, truth_here}
-use Rattle.occ_norm.proofs.Using.{no_parts, some_parts, branch_usage_at, branches_left, case_usage_at, cases_left, dropped_all, no_trees, one_tree, trees_left, types_at, usage_at, usage_inside}
+use Rattle.occ_norm.proofs.Steps.{as_is, case_in, empty_in, if_ok, in-extends, no_case_in, keep_below, none_in, one_in, over_in, over_skip, seq_in, skip-extends, skip_in, stop_in, truth_here}
+use Rattle.occ_norm.proofs.Using.{no_parts, some_parts, branch_usage_at, branches_left, case_usage_at, cases_left, dropped_all, one_tree, trees_left, types_at, usage_at, usage_inside}
 use Rattle.occ_norm.proofs.after.+after.Goals as goal
 
 -- ---- declarations
@@ -69,8 +67,8 @@ after-returns-clause-after t c =
     if_ok c.freed.result _ _
     (λ r freed Γ around types. freed_after w frame.bits inner.bits frame.layout frame.keep frame.closed.items Γ (tree c.args.part.now) c.args.rest c.in_ok-map.map r
     (c.loop-name.invariant.opens.opens w c.args.rest c.in_ok-map.map inner.bits (omega arith) (omega (arith, bits, few)) over
-      (λ Δ placed fit. after_from w inner.bits inner.layout frame.keep inner.closed.items Δ (tree c.loop-name.body.now) c.args.rest c.in_ok-map.map (λ x h. let k = nodes.nodes x h in (k.0, k.1)) (kept Δ placed fit))
-      Γ around types)
+    (λ Δ placed fit. after_from w inner.bits inner.layout frame.keep inner.closed.items Δ (tree c.loop-name.body.now) c.args.rest c.in_ok-map.map (λ x h. let k = nodes.nodes x h in (k.0, k.1)) (kept Δ placed fit))
+    Γ around types)
     freed)
     c.freed.ensures.freed
 
@@ -86,11 +84,16 @@ in_turn-loop-left-init t c = record {
 
 pub in_turn-after-requires : goal.in_turn-after-requires
 in_turn-after-requires t c =
-    let lt : c.loop-left.left - 1 < length c.args.parts.now = omega (arith, c.loop-left.invariant.below, c.loop-left-test.true) in
-    (omega (arith, weight_in_all c.args.parts.now (c.loop-left.left - 1) c.index-parts-left.result lt c.index-parts-left.is, c.decreases),
-    (fit_at c.args.frame.now.vars c.args.parts.now (c.loop-left.left - 1) c.index-parts-left.result c.requires.parts lt c.index-parts-left.is,
-      (usage_at c.args.parts.now (c.loop-left.left - 1) c.index-parts-left.result c.requires.usage lt c.index-parts-left.is,
-        c.loop-left.invariant.over)))
+    let lt : c.loop-left.left - 1 < length c.args.parts.now = omega (arith, c.loop-left.invariant.below, c.loop-left-test.true) in (
+      omega (arith, weight_in_all c.args.parts.now (c.loop-left.left - 1) c.index-parts-left.result lt c.index-parts-left.is, c.decreases),
+      (
+        fit_at c.args.frame.now.vars c.args.parts.now (c.loop-left.left - 1) c.index-parts-left.result c.requires.parts lt c.index-parts-left.is,
+        (
+          usage_at c.args.parts.now (c.loop-left.left - 1) c.index-parts-left.result c.requires.usage lt c.index-parts-left.is,
+          c.loop-left.invariant.over,
+        ),
+      ),
+    )
 
 pub in_turn-loop-left-preserved : goal.in_turn-loop-left-preserved
 in_turn-loop-left-preserved t c =
@@ -132,11 +135,16 @@ first_choice-loop-left-init t c =
 
 pub first_choice-after-requires : goal.first_choice-after-requires
 first_choice-after-requires t c =
-    let lt : c.loop-left.left - 1 < length c.args.choices.now = omega (arith, c.loop-left.invariant.below, c.loop-left-test.true) in
-    (omega (arith, weight_in_cases c.args.choices.now (c.loop-left.left - 1) c.index-choices-left.result lt c.index-choices-left.is, c.decreases),
-    (case_at c.args.frame.now.vars c.args.choices.now (c.loop-left.left - 1) c.index-choices-left.result c.requires.choices lt c.index-choices-left.is,
-      (case_usage_at c.args.choices.now (c.loop-left.left - 1) c.index-choices-left.result c.requires.usage lt c.index-choices-left.is,
-        over-extends c.args.world.now c.loop-left.world c.loop-left.invariant.extends c.args.frame.now.bits c.args.rest c.requires.rest)))
+    let lt : c.loop-left.left - 1 < length c.args.choices.now = omega (arith, c.loop-left.invariant.below, c.loop-left-test.true) in (
+      omega (arith, weight_in_cases c.args.choices.now (c.loop-left.left - 1) c.index-choices-left.result lt c.index-choices-left.is, c.decreases),
+      (
+        case_at c.args.frame.now.vars c.args.choices.now (c.loop-left.left - 1) c.index-choices-left.result c.requires.choices lt c.index-choices-left.is,
+        (
+          case_usage_at c.args.choices.now (c.loop-left.left - 1) c.index-choices-left.result c.requires.usage lt c.index-choices-left.is,
+          over-extends c.args.world.now c.loop-left.world c.loop-left.invariant.extends c.args.frame.now.bits c.args.rest c.requires.rest,
+        ),
+      ),
+    )
 
 pub first_choice-holds-requires : goal.first_choice-holds-requires
 first_choice-holds-requires t c = case_condition c.args.frame.now.vars c.args.frame.now.layout c.args.frame.now.bits c.args.frame.now.kept c.args.choices.now (c.loop-left.left - 1) c.index-choices-left.result c.requires.choices (omega (arith, c.loop-left.invariant.below, c.loop-left-test.true)) c.index-choices-left.is
@@ -212,11 +220,16 @@ undeclared-alternated-requires t c =
 -- ---- ALT
 pub alternated-after-requires : goal.alternated-after-requires
 alternated-after-requires t c =
-    let lt : c.loop-left.left - 1 < length c.args.alternatives.now = omega (arith, c.loop-left.invariant.below, c.loop-left-test.true) in
-    (omega (arith, weight_in_branches c.args.alternatives.now (c.loop-left.left - 1) c.index-alternatives-left.result lt c.index-alternatives-left.is, c.decreases),
-    (branch_at c.args.frame.now.vars c.args.alternatives.now (c.loop-left.left - 1) c.index-alternatives-left.result c.requires.alternatives lt c.index-alternatives-left.is,
-      (branch_usage_at c.args.alternatives.now (c.loop-left.left - 1) c.index-alternatives-left.result c.requires.usage lt c.index-alternatives-left.is,
-        over-extends c.args.world.now c.loop-left.world c.loop-left.invariant.extends c.args.frame.now.bits c.args.rest c.requires.rest)))
+    let lt : c.loop-left.left - 1 < length c.args.alternatives.now = omega (arith, c.loop-left.invariant.below, c.loop-left-test.true) in (
+      omega (arith, weight_in_branches c.args.alternatives.now (c.loop-left.left - 1) c.index-alternatives-left.result lt c.index-alternatives-left.is, c.decreases),
+      (
+        branch_at c.args.frame.now.vars c.args.alternatives.now (c.loop-left.left - 1) c.index-alternatives-left.result c.requires.alternatives lt c.index-alternatives-left.is,
+        (
+          branch_usage_at c.args.alternatives.now (c.loop-left.left - 1) c.index-alternatives-left.result c.requires.usage lt c.index-alternatives-left.is,
+          over-extends c.args.world.now c.loop-left.world c.loop-left.invariant.extends c.args.frame.now.bits c.args.rest c.requires.rest,
+        ),
+      ),
+    )
 
 pub alternated-holds-requires : goal.alternated-holds-requires
 alternated-holds-requires t c = branch_condition c.args.frame.now.vars c.args.frame.now.layout c.args.frame.now.bits c.args.frame.now.kept c.args.alternatives.now (c.loop-left.left - 1) c.index-alternatives-left.result c.requires.alternatives (omega (arith, c.loop-left.invariant.below, c.loop-left-test.true)) c.index-alternatives-left.is
@@ -272,10 +285,10 @@ alternated-loop-left-preserved t c =
           let types = and_four (is_condition Γ (exp item.0.condition)) (waiting_kept Γ (waiting item.0.wait)) (types_kept (tree item.1) Γ) (branches_kept bs Γ) (sym (ap (λ b. branches_kept b Γ) left_is) ∙ kept) in
           subst (λ b. IsAlternation w frame.layout frame.keep frame.closed.items Γ b c.args.rest c.in_ok-more.more.waiting c.in_ok-more.more.ready) (sym left_is)
           (c.in_ok-more.ensures.and Γ bs (exp item.0.condition) (tree item.1) c.args.rest around types.1
-            (λ x h. c.in_ok-enabled.ensures.set.members x ∙ truth_here frame.vars frame.layout frame.bits frame.kept Γ around (exp item.0.condition) _)
-            rest_u
-            (alternation_grow v u vu frame.layout frame.keep frame.closed.items Γ bs c.args.rest old.waiting old.ready c.loop-left.invariant.waiting c.loop-left.invariant.ready (c.loop-left.invariant.alternation Γ around types.3))
-            (after-extends a u c.holds.ensures.extends frame.layout frame.keep frame.closed.items Γ (tree item.1) c.args.rest c.in_ok-next.next rest_a.has c.in_ok-next.ensures.nodes (c.in_ok-next.ensures.after Γ around types.2)));
+          (λ x h. c.in_ok-enabled.ensures.set.members x ∙ truth_here frame.vars frame.layout frame.bits frame.kept Γ around (exp item.0.condition) _)
+          rest_u
+          (alternation_grow v u vu frame.layout frame.keep frame.closed.items Γ bs c.args.rest old.waiting old.ready c.loop-left.invariant.waiting c.loop-left.invariant.ready (c.loop-left.invariant.alternation Γ around types.3))
+          (after-extends a u c.holds.ensures.extends frame.layout frame.keep frame.closed.items Γ (tree item.1) c.args.rest c.in_ok-next.next rest_a.has c.in_ok-next.ensures.nodes (c.in_ok-next.ensures.after Γ around types.2)));
     }
 
 pub alternated-returns-clause-after : goal.alternated-returns-clause-after
@@ -285,7 +298,7 @@ alternated-returns-clause-after t c =
     if_ok c.map.result _ _
     (λ r is Γ around types. is frame.layout frame.keep frame.closed.items Γ (branches c.args.alternatives.now) c.args.rest
     (subst (λ k. IsAlternation c.loop-left.world frame.layout frame.keep frame.closed.items Γ (branches (drop k c.args.alternatives.now)) c.args.rest c.loop-left.alternation.waiting c.loop-left.alternation.ready) none
-      (c.loop-left.invariant.alternation Γ around (subst (λ k. branches_kept (branches (drop k c.args.alternatives.now)) Γ ≡ true) (sym none) types))))
+    (c.loop-left.invariant.alternation Γ around (subst (λ k. branches_kept (branches (drop k c.args.alternatives.now)) Γ ≡ true) (sym none) types))))
     c.map.ensures.after
 
 pub undeclared-returns-in-Skip-clause-after : goal.undeclared-returns-in-Skip-clause-after
@@ -327,10 +340,13 @@ at_once-returns-then-is_empty-clause-after t c =
 
 pub at_once-after-requires : goal.at_once-after-requires
 at_once-after-requires t c =
-    let lt : 0 < length c.args.parts.now = omega (arith, c.if-parts-eq1.true) in
-    (omega (arith, weight_in_all c.args.parts.now 0 c.index-parts-0.result lt c.index-parts-0.is, c.decreases),
-    (fit_at c.args.frame.now.vars c.args.parts.now 0 c.index-parts-0.result c.requires.parts lt c.index-parts-0.is,
-      (usage_at c.args.parts.now 0 c.index-parts-0.result c.requires.usage lt c.index-parts-0.is, c.requires.rest)))
+    let lt : 0 < length c.args.parts.now = omega (arith, c.if-parts-eq1.true) in (
+      omega (arith, weight_in_all c.args.parts.now 0 c.index-parts-0.result lt c.index-parts-0.is, c.decreases),
+      (
+        fit_at c.args.frame.now.vars c.args.parts.now 0 c.index-parts-0.result c.requires.parts lt c.index-parts-0.is,
+        (usage_at c.args.parts.now 0 c.index-parts-0.result c.requires.usage lt c.index-parts-0.is, c.requires.rest),
+      ),
+    )
 
 pub at_once-returns-then-parts-eq1-clause-after : goal.at_once-returns-then-parts-eq1-clause-after
 at_once-returns-then-parts-eq1-clause-after t c =
@@ -345,14 +361,19 @@ at_once-side_frame-requires t c = keep_below c.args.frame.now.keep c.in_ok-sides
 
 pub at_once-after-requires-in-loop-left : goal.at_once-after-requires-in-loop-left
 at_once-after-requires-in-loop-left t c =
-    let lt : c.loop-left.left - 1 < length c.args.parts.now = omega (arith, c.loop-left.invariant.below, c.loop-left-test.true) in
-    (omega (arith, weight_in_all c.args.parts.now (c.loop-left.left - 1) c.index-parts-left.result lt c.index-parts-left.is, c.decreases),
-    (subst (λ vs. Fits vs (tree c.index-parts-left.result)) (sym c.in_ok-inner.ensures.vars) (fit_at c.args.frame.now.vars c.args.parts.now (c.loop-left.left - 1) c.index-parts-left.result c.requires.parts lt c.index-parts-left.is),
-      (usage_at c.args.parts.now (c.loop-left.left - 1) c.index-parts-left.result c.requires.usage lt c.index-parts-left.is,
-        over_skip c.loop-left.world c.in_ok-inner.inner.bits c.in_ok-sides.sides.keep c.in_ok-sides.sides.ended c.loop-left.invariant.ended c.loop-left.invariant.skips)))
+    let lt : c.loop-left.left - 1 < length c.args.parts.now = omega (arith, c.loop-left.invariant.below, c.loop-left-test.true) in (
+      omega (arith, weight_in_all c.args.parts.now (c.loop-left.left - 1) c.index-parts-left.result lt c.index-parts-left.is, c.decreases),
+      (
+        subst (λ vs. Fits vs (tree c.index-parts-left.result)) (sym c.in_ok-inner.ensures.vars) (fit_at c.args.frame.now.vars c.args.parts.now (c.loop-left.left - 1) c.index-parts-left.result c.requires.parts lt c.index-parts-left.is),
+        (
+          usage_at c.args.parts.now (c.loop-left.left - 1) c.index-parts-left.result c.requires.usage lt c.index-parts-left.is,
+          over_skip c.loop-left.world c.in_ok-inner.inner.bits c.in_ok-sides.sides.keep c.in_ok-sides.sides.ended c.loop-left.invariant.ended c.loop-left.invariant.skips,
+        ),
+      ),
+    )
 
 pub at_once-beside-requires-clause-others : goal.at_once-beside-requires-clause-others
-at_once-beside-requires-clause-others t c = has_nodes-extends c.loop-left.world c.after.new.world c.after.ensures.extends c.loop-left.map c.loop-left.invariant.nodes
+at_once-beside-requires-clause-others t c = has_nodes-extends c.loop-left.world c.after-in-loop-left.new.world c.after-in-loop-left.ensures.extends c.loop-left.map c.loop-left.invariant.nodes
 
 pub at_once-loop-left-preserved : goal.at_once-loop-left-preserved
 at_once-loop-left-preserved t c =
@@ -360,14 +381,14 @@ at_once-loop-left-preserved t c =
     let inner = c.in_ok-inner.inner in
     let sides = c.in_ok-sides.sides in
     let v = c.loop-left.world in
-    let u = c.after.new.world in
+    let u = c.after-in-loop-left.new.world in
     let w = c.beside.new.world in
     let place = c.loop-left.left - 1 in
     let lt : place < length c.args.parts.now = omega (arith, c.loop-left.invariant.below, c.loop-left-test.true) in
     let back : place + 1 ≡ c.loop-left.left = omega (arith, c.loop-left-test.true) in
-    let vw = extends_trans v u w c.after.ensures.extends c.beside.ensures.extends in
-    let ended = has_nodes-extends v u c.after.ensures.extends sides.ended c.loop-left.invariant.ended in
-    let skips = skip-extends v u c.after.ensures.extends sides.keep sides.ended c.loop-left.invariant.skips in
+    let vw = extends_trans v u w c.after-in-loop-left.ensures.extends c.beside.ensures.extends in
+    let ended = has_nodes-extends v u c.after-in-loop-left.ensures.extends sides.ended c.loop-left.invariant.ended in
+    let skips = skip-extends v u c.after-in-loop-left.ensures.extends sides.keep sides.ended c.loop-left.invariant.skips in
     let laid : inner.layout ≡ frame.layout = inner.kept.layout_is ∙ ap (laid_out 0) c.in_ok-inner.ensures.vars ∙ sym frame.kept.layout_is in
     record {
       extends = extends_trans c.args.world.now v w c.loop-left.invariant.extends vw;
@@ -380,12 +401,12 @@ at_once-loop-left-preserved t c =
           let one : p ≡ c.index-parts-left.result = sym (get_or_from_slice_get c.args.parts.now place p c.index-parts-left.result (sym e)) ∙ sym c.index-parts-left.is in
           subst (λ q. IsAfter u frame.layout sides.keep (sole_of place sides.users.items) Γ (tree q) sides.ended c.in_ok-first.first) (sym one)
           (subst (λ cs. IsAfter u frame.layout sides.keep cs Γ (tree c.index-parts-left.result) sides.ended c.in_ok-first.first) c.in_ok-inner.ensures.closed
-            (subst (λ k. IsAfter u frame.layout k inner.closed.items Γ (tree c.index-parts-left.result) sides.ended c.in_ok-first.first) c.in_ok-inner.ensures.keep
-              (subst (λ l. IsAfter u l inner.keep inner.closed.items Γ (tree c.index-parts-left.result) sides.ended c.in_ok-first.first) laid
-                (c.in_ok-first.ensures.after Γ (subst (IsAround Γ) (sym c.in_ok-inner.ensures.vars) around) (types_at c.args.parts.now place c.index-parts-left.result Γ types lt c.index-parts-left.is))))))
+          (subst (λ k. IsAfter u frame.layout k inner.closed.items Γ (tree c.index-parts-left.result) sides.ended c.in_ok-first.first) c.in_ok-inner.ensures.keep
+          (subst (λ l. IsAfter u l inner.keep inner.closed.items Γ (tree c.index-parts-left.result) sides.ended c.in_ok-first.first) laid
+          (c.in_ok-first.ensures.after Γ (subst (IsAround Γ) (sym c.in_ok-inner.ensures.vars) around) (types_at c.args.parts.now place c.index-parts-left.result Γ types lt c.index-parts-left.is))))))
           (λ more. subst (λ k. IsAfter u frame.layout sides.keep (closed_from k sides.users.items) Γ (par (trees (drop k c.args.parts.now))) sides.ended c.loop-left.map) (sym back)
-          (after-extends v u c.after.ensures.extends frame.layout sides.keep (closed_from c.loop-left.left sides.users.items) Γ (par (trees (drop c.loop-left.left c.args.parts.now))) sides.ended c.loop-left.map c.loop-left.invariant.ended c.loop-left.invariant.nodes
-            (c.loop-left.invariant.after (omega (arith, more, back)) Γ around types)));
+          (after-extends v u c.after-in-loop-left.ensures.extends frame.layout sides.keep (closed_from c.loop-left.left sides.users.items) Γ (par (trees (drop c.loop-left.left c.args.parts.now))) sides.ended c.loop-left.map c.loop-left.invariant.ended c.loop-left.invariant.nodes
+          (c.loop-left.invariant.after (omega (arith, more, back)) Γ around types)));
     }
 
 pub at_once-sequel-requires-clause-together : goal.at_once-sequel-requires-clause-together
@@ -412,6 +433,6 @@ at_once-returns-clause-after t c =
     if_ok c.sequel.result _ _
     (λ r is Γ around types. is Γ (par (trees c.args.parts.now)) sides.ended around skips (c.in_ok-sides.ensures.written Γ around types)
     (closed_all w frame.layout (bit_or frame.keep sides.needed) sides.ended c.loop-left.map Γ (trees c.args.parts.now) frame.closed.items sides.users.items c.in_ok-sides.ensures.users types skips
-      (subst (λ k. IsAfter w frame.layout k (closed_from 0 sides.users.items) Γ (par (trees c.args.parts.now)) sides.ended c.loop-left.map) c.in_ok-sides.ensures.keep
-      (subst (λ k. IsAfter w frame.layout sides.keep (closed_from k sides.users.items) Γ (par (trees (drop k c.args.parts.now))) sides.ended c.loop-left.map) none (c.loop-left.invariant.after some Γ around types)))))
+    (subst (λ k. IsAfter w frame.layout k (closed_from 0 sides.users.items) Γ (par (trees c.args.parts.now)) sides.ended c.loop-left.map) c.in_ok-sides.ensures.keep
+    (subst (λ k. IsAfter w frame.layout sides.keep (closed_from k sides.users.items) Γ (par (trees (drop k c.args.parts.now))) sides.ended c.loop-left.map) none (c.loop-left.invariant.after some Γ around types)))))
     c.sequel.ensures.after

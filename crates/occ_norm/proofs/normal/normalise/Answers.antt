@@ -1,4 +1,4 @@
-use Rattle.std.proofs.Common.{◌∙◌, ap, refl, sym, subst}
+use Rattle.std.proofs.Common.{subst}
 use Rattle.occ_syntax.specs.View.{tree}
 use Rattle.occ_lift.proofs.Worlds.{extends_trans, has_nodes-extends}
 use Rattle.occ_norm.specs.Root.{IsRoot}
@@ -13,9 +13,9 @@ returns-clause-root c =
     let ended = has_nodes-extends c.skip.new.world c.after.new.world c.after.ensures.extends c.in_ok-ended.ended c.in_ok-ended.ensures.nodes in
     subst (λ prog. IsRoot c.rebased.new.world prog.params (tree prog.body) c.in_ok-states.states) c.program-program.ensures.same
     (root_of c.rebased.new.world program.params frame.vars frame.layout frame.bits frame.keep frame.closed.items (tree program.body) c.in_ok-ended.ended c.in_ok-changes.changes c.in_ok-states.states
-      c.in_ok-frame.ensures.vars c.in_ok-frame.ensures.closed frame.kept frame.inside c.in_ok-frame.ensures.keep c.program-program.ensures.accepted.typed.types
-      (skip-extends c.skip.new.world c.rebased.new.world (extends_trans c.skip.new.world c.after.new.world c.rebased.new.world c.after.ensures.extends c.rebased.ensures.extends) frame.keep c.in_ok-ended.ended c.in_ok-ended.ensures.skip)
-      (has_nodes-extends c.after.new.world c.rebased.new.world c.rebased.ensures.extends c.in_ok-changes.changes c.in_ok-changes.ensures.nodes)
-      c.in_ok-states.ensures.nodes
-      (in-extends c.after.new.world c.rebased.new.world c.rebased.ensures.extends frame.vars frame.layout frame.keep frame.closed.items (tree program.body) c.in_ok-ended.ended c.in_ok-changes.changes ended c.in_ok-changes.ensures.nodes c.in_ok-changes.ensures.after)
-      c.in_ok-states.ensures.changed)
+    c.in_ok-frame.ensures.vars c.in_ok-frame.ensures.closed frame.kept frame.inside c.in_ok-frame.ensures.keep c.program-program.ensures.accepted.typed.types
+    (skip-extends c.skip.new.world c.rebased.new.world (extends_trans c.skip.new.world c.after.new.world c.rebased.new.world c.after.ensures.extends c.rebased.ensures.extends) frame.keep c.in_ok-ended.ended c.in_ok-ended.ensures.skip)
+    (has_nodes-extends c.after.new.world c.rebased.new.world c.rebased.ensures.extends c.in_ok-changes.changes c.in_ok-changes.ensures.nodes)
+    c.in_ok-states.ensures.nodes
+    (in-extends c.after.new.world c.rebased.new.world c.rebased.ensures.extends frame.vars frame.layout frame.keep frame.closed.items (tree program.body) c.in_ok-ended.ended c.in_ok-changes.changes ended c.in_ok-changes.ensures.nodes c.in_ok-changes.ensures.after)
+    c.in_ok-states.ensures.changed)
