@@ -1,13 +1,11 @@
 -- An ALT with one more branch, from what was known before.
-use Rattle.std.proofs.Common.{◌≡◌, ◌<◌, ◌≤◌, ◌^◌, ℕ, true, false, Bool, List, refl, sym, ap, ◌∙◌, subst, arith}
+use Rattle.std.proofs.Common.{◌≡◌, ◌≤◌, ℕ, true, List, sym, ◌∙◌, subst, arith}
 use Rattle.occ_base.specs.declared.names.Name.{Name}
 use Rattle.occ_base.specs.declared.width.Width.{Width}
 use Rattle.occ_syntax.specs.declared.scope.Kind.{Kind}
-use Rattle.occ_syntax.specs.Eval.{is_true}
 use Rattle.occ_syntax.specs.Scopes.{Environment}
 use Rattle.occ_syntax.specs.Tree.{Branches, Exp, Tree, Waiting, and_branch, input, output, ready, receive, send}
 use Rattle.occ_syntax.specs.Types.{types_kept, waiting_kept}
-use Rattle.occ_bits.specs.Layout.{state_of}
 use Rattle.occ_dd.specs.Store.{IsKnown as IsSetKnown, has}
 use Rattle.occ_dd.specs.declared.set.SetId.{SetId}
 use Rattle.occ_mdd.specs.declared.map.MapId.{MapId}
@@ -37,20 +35,20 @@ module _ (u : World) (vars : List (Name × Kind)) (layout : List (Name × Width 
   add_offering v w k l wait event offered r s ho guarded same joined Γ bs e p rest around kept enabled over_rest is after =
       let uw = extends_trans u v w k l in
       subst (λ m. IsAlternation w layout keep closed Γ (and_branch e wait p bs) rest r m) (sym same)
-        (alternation_offering w layout keep closed Γ bs e p rest waiting readies next (alternation_grow u w uw layout keep closed Γ bs rest waiting readies hw hr is)
-          (has_nodes-extends u w uw rest over_rest.has) (has_nodes-extends u w uw next over.has) (after-extends u w uw layout keep closed Γ p rest next over_rest.has over.has after)
-          (has v.store set) (λ x h. k.grows.stored.same set x known ∙ enabled x h)
-          wait event (λ x h. receive_settles vars layout n frame Γ around wait kept few x) offered r (has_nodes-extends u w uw waiting hw) (has_nodes-extends v w l offered ho)
-          (guarded_grow v w l next (has_nodes-extends u v k next over.has) layout keep closed Γ wait offered ho (guarded Γ around kept)) joined)
+      (alternation_offering w layout keep closed Γ bs e p rest waiting readies next (alternation_grow u w uw layout keep closed Γ bs rest waiting readies hw hr is)
+      (has_nodes-extends u w uw rest over_rest.has) (has_nodes-extends u w uw next over.has) (after-extends u w uw layout keep closed Γ p rest next over_rest.has over.has after)
+      (has v.store set) (λ x h. k.grows.stored.same set x known ∙ enabled x h)
+      wait event (λ x h. receive_settles vars layout n frame Γ around wait kept few x) offered r (has_nodes-extends u w uw waiting hw) (has_nodes-extends v w l offered ho)
+      (guarded_grow v w l next (has_nodes-extends u v k next over.has) layout keep closed Γ wait offered ho (guarded Γ around kept)) joined)
 
   pub add_going : (w : World) → Extends u w → (r s : MapId) → s ≡ waiting → IsUnited w (has u.store set) readies next r
       → (Γ : Environment) (bs : Branches) (e : Exp) (p : Tree) (rest : MapId) → IsAround Γ vars → waiting_kept Γ ready ≡ true → IsEnabledBy u layout Γ e set → IsOver u n rest
       → IsAlternation u layout keep closed Γ bs rest waiting readies → IsAfter u layout keep closed Γ p rest next → IsAlternation w layout keep closed Γ (and_branch e ready p bs) rest s r
   add_going w k r s same united Γ bs e p rest around kept enabled over_rest is after =
       subst (λ m. IsAlternation w layout keep closed Γ (and_branch e ready p bs) rest m r) (sym same)
-        (alternation_going w layout keep closed Γ bs e p rest waiting readies next (alternation_grow u w k layout keep closed Γ bs rest waiting readies hw hr is)
-          (has_nodes-extends u w k rest over_rest.has) (has_nodes-extends u w k next over.has) (after-extends u w k layout keep closed Γ p rest next over_rest.has over.has after)
-          (has u.store set) enabled r united)
+      (alternation_going w layout keep closed Γ bs e p rest waiting readies next (alternation_grow u w k layout keep closed Γ bs rest waiting readies hw hr is)
+      (has_nodes-extends u w k rest over_rest.has) (has_nodes-extends u w k next over.has) (after-extends u w k layout keep closed Γ p rest next over_rest.has over.has after)
+      (has u.store set) enabled r united)
 
   -- what is said of an ALT with one more branch
   abbrev pub Adds : World → Waiting → MapId → MapId → Type 0

@@ -1,5 +1,5 @@
 -- Maps of ALTs, and of a guard alone.
-use Rattle.std.proofs.Common.{◌≡◌, ◌<◌, ◌≤◌, ◌^◌, ℕ, Bool, true, false, cond, ◌||◌, ◌++◌, List, [], ◌∷◌, Option, Some, None, is_some, refl, sym, ap, ◌∙◌, subst, inl, inr, ⊎_elim}
+use Rattle.std.proofs.Common.{◌≡◌, ◌<◌, ◌^◌, ℕ, Bool, true, false, ◌++◌, List, [], Option, Some, None, refl, sym, ap, ◌∙◌, subst, inl, inr, ⊎_elim}
 use Rattle.std.specs.Prelude.{◌↔◌, ◌⊎◌}
 use Rattle.std.specs.Option.{IfSome}
 use Rattle.std.specs.Int.Bits.{bit_and, bit_xor, xor_self, xor_zero_r}
@@ -13,7 +13,6 @@ use Rattle.occ_syntax.specs.Meaning.{Outcome, ended, meaning, refusing}
 use Rattle.occ_syntax.specs.Scopes.{Environment, Trace, Values}
 use Rattle.occ_syntax.specs.Tree.{Branches, Exp, Tree, Waiting, alt, and_branch, input, no_branch, output, ready, receive, send, skip, truth}
 use Rattle.occ_bits.specs.Layout.{state_of}
-use Rattle.occ_choice.specs.Joined.{maybe_fails, maybe_ends}
 use Rattle.occ_mdd.specs.Maps.{value}
 use Rattle.occ_mdd.specs.declared.map.MapId.{MapId}
 use Rattle.occ_node.specs.World.{IsNode, fails, ends}
@@ -28,8 +27,8 @@ use Rattle.occ_lift.specs.Maps.{Extends, Lifts, MayHaveNodes}
 use Rattle.occ_lift.proofs.Worlds.{has_nodes-extends}
 use Rattle.occ_frame.specs.After.{IsAfter, IsOver, QuietlyFails, Resumes, change_of}
 use Rattle.occ_frame.specs.Placed.{IsFrame}
-use Rattle.occ_guards.specs.Alternation.{EachEnabled, EndsThen, FailsThen, IsAlternation, IsReadyAt, IsWaitingAt, KnowsRest, Settles, SomeEnabled}
-use Rattle.occ_guards.specs.Offering.{At, IsGuarded, IsGuardedAt, Leads, Takes}
+use Rattle.occ_guards.specs.Alternation.{EndsThen, FailsThen, IsAlternation, IsReadyAt, IsWaitingAt, KnowsRest, Settles}
+use Rattle.occ_guards.specs.Offering.{At, IsGuarded, IsGuardedAt, Leads}
 use Rattle.occ_guards.proofs.Offering.{sum_iff}
 use Rattle.occ_guards.proofs.Making.{offering_grow, offering_same}
 use Rattle.occ_guards.proofs.Branching.{some_iff}
@@ -45,16 +44,31 @@ module _ (v w : World) (k : Extends v w) (layout : List (Name × Width × ℕ)) 
   resumes_iff : (p : Tree) (x : ℕ) (F G : ℕ → NodeId → List Event → Bool) → ((y : ℕ) (m : NodeId) (u : List Event) → IsNode v m → G y m u ≡ F y m u) → (t : List Event) → Resumes v layout closed Γ p rest x F t ↔ Resumes w layout closed Γ p rest x G t
   resumes_iff p x F G alike t = (
     λ s. record {
-      t1 = s.t1; t2 = s.t2; y = s.y; m = s.m; whole = s.whole; below = s.below; silent = s.silent; ended = s.ended;
+      t1 = s.t1;
+      t2 = s.t2;
+      y = s.y;
+      m = s.m;
+      whole = s.whole;
+      below = s.below;
+      silent = s.silent;
+      ended = s.ended;
       leads = k.maps.same rest s.y has.known ∙ s.leads;
       behaved = alike s.y s.m s.t2 (node s.y s.below s.m s.leads) ∙ s.behaved;
     },
     λ s. let led : value v.maps rest s.y ≡ Some s.m = sym (k.maps.same rest s.y has.known) ∙ s.leads in
-      record {
-        t1 = s.t1; t2 = s.t2; y = s.y; m = s.m; whole = s.whole; below = s.below; silent = s.silent; ended = s.ended;
-        leads = led;
-        behaved = sym (alike s.y s.m s.t2 (node s.y s.below s.m led)) ∙ s.behaved;
-      })
+        record {
+          t1 = s.t1;
+          t2 = s.t2;
+          y = s.y;
+          m = s.m;
+          whole = s.whole;
+          below = s.below;
+          silent = s.silent;
+          ended = s.ended;
+          leads = led;
+          behaved = sym (alike s.y s.m s.t2 (node s.y s.below s.m led)) ∙ s.behaved;
+        },
+  )
 
   fails_iff : (p : Tree) (y : ℕ) (t : List Event) (X : Event → Bool) → FailsThen v layout closed Γ rest p y t X ↔ FailsThen w layout closed Γ rest p y t X
   fails_iff p y t X = sum_iff (λ q. q, λ q. q) (resumes_iff p y (λ z m u. fails v m u X) (λ z m u. fails w m u X) (λ z m u l. k.grows.same_fails m u X l) t)
@@ -70,9 +84,9 @@ module _ (v w : World) (k : Extends v w) (layout : List (Name × Width × ℕ)) 
     ready_grow x o known is = record {
       there = is.there;
       ready_fails = λ t X. trans_iff (iff_of_same _ _ (maybe_fails-grow v w k.grows o known t X)) (trans_iff (is.ready_fails t X)
-        (some_iff Γ (state_of layout x) (λ wait p. (wait ≡ ready) × FailsThen v layout closed Γ rest p x t X) (λ wait p. (wait ≡ ready) × FailsThen w layout closed Γ rest p x t X) (λ wait p. own_iff (fails_iff p x t X)) bs));
+          (some_iff Γ (state_of layout x) (λ wait p. (wait ≡ ready) × FailsThen v layout closed Γ rest p x t X) (λ wait p. (wait ≡ ready) × FailsThen w layout closed Γ rest p x t X) (λ wait p. own_iff (fails_iff p x t X)) bs));
       ready_ends = λ t z small. trans_iff (iff_of_same _ _ (maybe_ends-grow v w k.grows o known t z)) (trans_iff (is.ready_ends t z small)
-        (some_iff Γ (state_of layout x) (λ wait p. (wait ≡ ready) × EndsThen v layout keep closed Γ rest x p x t z) (λ wait p. (wait ≡ ready) × EndsThen w layout keep closed Γ rest x p x t z) (λ wait p. own_iff (ends_iff x p x t z)) bs));
+          (some_iff Γ (state_of layout x) (λ wait p. (wait ≡ ready) × EndsThen v layout keep closed Γ rest x p x t z) (λ wait p. (wait ≡ ready) × EndsThen w layout keep closed Γ rest x p x t z) (λ wait p. own_iff (ends_iff x p x t z)) bs));
     }
 
     some_grow : KnowsRest w bs rest → (waiting readies : MapId) → HasNodes v waiting → MayHaveNodes v readies → IsAlternation v layout keep closed Γ bs rest waiting readies → IsAlternation w layout keep closed Γ bs rest waiting readies
@@ -81,11 +95,11 @@ module _ (v w : World) (k : Extends v w) (layout : List (Name × Width × ℕ)) 
       settled = is.settled;
       waits = λ x a h e.
           offering_same w a _ _ _ _ _ _ (offering_grow v w k.grows a _ _ _ (is.waits x a h (sym (k.maps.same waiting x hw.known) ∙ e)))
-            (λ f. (λ l. l, λ l. l))
-            (λ f t X. some_iff Γ (state_of layout x) (λ wait p. Leads layout closed Γ wait x f (λ y. FailsThen v layout closed Γ rest p y t X)) (λ wait p. Leads layout closed Γ wait x f (λ y. FailsThen w layout closed Γ rest p y t X))
-              (λ wait p. leads_iff layout closed Γ wait x f _ _ (λ y l. fails_iff p y t X)) bs)
-            (λ f t z small. some_iff Γ (state_of layout x) (λ wait p. Leads layout closed Γ wait x f (λ y. EndsThen v layout keep closed Γ rest x p y t z)) (λ wait p. Leads layout closed Γ wait x f (λ y. EndsThen w layout keep closed Γ rest x p y t z))
-              (λ wait p. leads_iff layout closed Γ wait x f _ _ (λ y l. ends_iff x p y t z)) bs);
+          (λ f. (λ l. l, λ l. l))
+          (λ f t X. some_iff Γ (state_of layout x) (λ wait p. Leads layout closed Γ wait x f (λ y. FailsThen v layout closed Γ rest p y t X)) (λ wait p. Leads layout closed Γ wait x f (λ y. FailsThen w layout closed Γ rest p y t X))
+          (λ wait p. leads_iff layout closed Γ wait x f _ _ (λ y l. fails_iff p y t X)) bs)
+          (λ f t z small. some_iff Γ (state_of layout x) (λ wait p. Leads layout closed Γ wait x f (λ y. EndsThen v layout keep closed Γ rest x p y t z)) (λ wait p. Leads layout closed Γ wait x f (λ y. EndsThen w layout keep closed Γ rest x p y t z))
+          (λ wait p. leads_iff layout closed Γ wait x f _ _ (λ y l. ends_iff x p y t z)) bs);
       readies = λ x h. subst (λ o. IsReadyAt w layout keep closed Γ bs rest x o) (sym (k.maps.same readies x hr.known)) (ready_grow x (value v.maps readies x) (hr.nodes x h) (is.readies x h));
     }
 
@@ -144,14 +158,16 @@ module _ (w : World) (vars : List (Name × Kind)) (layout : List (Name × Width 
     after_fails = λ y m h e t X. (
       λ k. inr (record { t1 = []; t2 = t; y = y; m = m; whole = refl; below = h; silent = refl; ended = (refl, refl); leads = e; behaved = k }),
       ⊎_elim
-        (λ (q : QuietlyFails layout closed Γ skip y t X). absurd (not_ended (off_channels closed X) (state_of layout y) q.1.1))
-        (λ (s : Resumes w layout closed Γ skip next y (λ z m u. fails w m u X) t).
+          (λ (q : QuietlyFails layout closed Γ skip y t X). absurd (not_ended (off_channels closed X) (state_of layout y) q.1.1))
+          (λ (s : Resumes w layout closed Γ skip next y (λ z m u. fails w m u X) t).
           let there : At w next y (λ q. fails w q s.t2 X) = (same_at w vars layout n frame keep few next over y s.y y s.below h (same_state (state_of layout s.y) (state_of layout y) s.ended.1) (λ c q. fails w q s.t2 X)).0 (record { m = s.m; leads = s.leads; behaved = s.behaved }) in
-          (λ i. fails w m ((s.whole ∙ ap (λ u. u ++ s.t2) s.ended.0) i) X) ∙ ap (λ q. fails w q s.t2 X) (same_Some m there.m (sym e ∙ there.leads)) ∙ there.behaved));
+          (λ i. fails w m ((s.whole ∙ ap (λ u. u ++ s.t2) s.ended.0) i) X) ∙ ap (λ q. fails w q s.t2 X) (same_Some m there.m (sym e ∙ there.leads)) ∙ there.behaved),
+    );
     after_ends = λ y m h e t z small. (
       λ k. record { t1 = []; t2 = t; y = y; m = m; whole = refl; below = h; silent = refl; ended = (refl, refl); leads = e; behaved = ap (λ c. ends w m t c) (no_change y z) ∙ k },
       λ s. let there : At w next y (λ q. ends w q s.t2 (bit_xor z (change_of keep y y))) = (same_at w vars layout n frame keep few next over y s.y y s.below h (same_state (state_of layout s.y) (state_of layout y) s.ended.1) (λ c q. ends w q s.t2 (bit_xor z c))).0 (record { m = s.m; leads = s.leads; behaved = s.behaved }) in
-        (λ i. ends w m ((s.whole ∙ ap (λ u. u ++ s.t2) s.ended.0) i) (sym (no_change y z) i)) ∙ ap (λ q. ends w q s.t2 (bit_xor z (change_of keep y y))) (same_Some m there.m (sym e ∙ there.leads)) ∙ there.behaved);
+          (λ i. ends w m ((s.whole ∙ ap (λ u. u ++ s.t2) s.ended.0) i) (sym (no_change y z) i)) ∙ ap (λ q. ends w q s.t2 (bit_xor z (change_of keep y y))) (same_Some m there.m (sym e ∙ there.leads)) ∙ there.behaved,
+    );
   }
     where
       no_change : (y z : ℕ) → bit_xor z (change_of keep y y) ≡ z
@@ -183,7 +199,8 @@ module _ (w : World) (vars : List (Name × Kind)) (layout : List (Name × Width 
       resumes_named : (x : ℕ) (B : ℕ → NodeId → List Event → Bool) (t : List Event) → Resumes w layout closed Γ (alt alone) next x B t ↔ Resumes w layout closed Γ q next x B t
       resumes_named x B t = (
         λ s. record { t1 = s.t1; t2 = s.t2; y = s.y; m = s.m; whole = s.whole; below = s.below; silent = s.silent; ended = into (state_of layout x) s.t1 (ended (state_of layout s.y)) s.ended; leads = s.leads; behaved = s.behaved },
-        λ s. record { t1 = s.t1; t2 = s.t2; y = s.y; m = s.m; whole = s.whole; below = s.below; silent = s.silent; ended = back (state_of layout x) s.t1 (ended (state_of layout s.y)) s.ended; leads = s.leads; behaved = s.behaved })
+        λ s. record { t1 = s.t1; t2 = s.t2; y = s.y; m = s.m; whole = s.whole; below = s.below; silent = s.silent; ended = back (state_of layout x) s.t1 (ended (state_of layout s.y)) s.ended; leads = s.leads; behaved = s.behaved },
+      )
 
       named_after : (r : MapId) → IsGuarded w layout keep closed Γ wait next r → IsAfter w layout keep closed Γ q next r
       named_after r is = record {

@@ -1,7 +1,7 @@
 -- What an ALT does by its branches, from the state of an assignment.
-use Rattle.std.proofs.Common.{◌≡◌, ◌<◌, ◌^◌, ℕ, Bool, true, false, not, ◌||◌, ◌&&◌, ◌++◌, List, [], ◌∷◌, MatchBool, refl, sym, ap, ◌∙◌, subst, inl, inr, ⊎_elim}
+use Rattle.std.proofs.Common.{◌≡◌, ◌<◌, ◌^◌, ℕ, Bool, true, false, ◌&&◌, ◌++◌, List, [], ◌∷◌, MatchBool, refl, sym, ap, ◌∙◌, subst, inl, inr, ⊎_elim}
 use Rattle.std.specs.Prelude.{◌↔◌, ◌⊎◌}
-use Rattle.std.proofs.lemmas.Bool.{and_from, and_parts, cases_Bool, both_ways, false≢true}
+use Rattle.std.proofs.lemmas.Bool.{and_from, and_parts, cases_Bool, false≢true}
 use Rattle.occ_base.specs.declared.event.Event.{Event}
 use Rattle.occ_base.specs.declared.names.Name.{Name}
 use Rattle.occ_base.specs.declared.width.Width.{Width}
@@ -31,7 +31,7 @@ pub some_elim : (Γ : Environment) (s : Values) (P : Waiting → Tree → Type 0
     → ((wait : Waiting) (p : Tree) → P wait p → ((Q : Waiting → Tree → Type 0) → Q wait p → SomeEnabled Γ s Q bs) → C) → C
 some_elim Γ s P C no_branch h f = absurd h
 some_elim Γ s P C (and_branch e wait p bs) h f = elim h [
-  inl k ↦ f wait p k.1 (λ Q q. inl (k.0, q))
+  | inl k ↦ f wait p k.1 (λ Q q. inl (k.0, q))
   | inr k ↦ some_elim Γ s P C bs k (λ v q l inject. f v q l (λ Q m. inr (inject Q m)))
 ]
 
@@ -69,7 +69,7 @@ pub goes_out : (layout : List (Name × Width × ℕ)) (Γ : Environment) (x : �
     → SomeEnabled Γ (state_of layout x) (λ wait p. WentReady Γ (state_of layout x) t o wait p ⊎ WentOn layout Γ (state_of layout x) t o wait p) bs
 goes_out layout Γ x t o no_branch each h = absurd h
 goes_out layout Γ x t o (and_branch e wait p bs) each h = elim h [
-  inl k ↦ inl (k.0, went layout Γ (state_of layout x) t o wait p k.1.0 k.1.1 (each.0 k.0) k.1.2 k.1.3)
+  | inl k ↦ inl (k.0, went layout Γ (state_of layout x) t o wait p k.1.0 k.1.1 (each.0 k.0) k.1.2 k.1.3)
   | inr k ↦ inr (goes_out layout Γ x t o bs each.1 k)
 ]
 
@@ -101,24 +101,25 @@ module _ (layout : List (Name × Width × ℕ)) (closed : List Name) (Γ : Envir
   refuses_from no_branch none all = tt
   refuses_from (and_branch e wait p bs) none all = (
     match_from (is_true Γ e (state_of layout x)) (IsQuiet Γ (state_of layout x) wait (off_channels closed X)) (Unit {0})
-      (λ on. record {
-        not_ready = λ r. none (inl (on, r));
-        refused = λ f u k. off_event f (λ seen. all f (inl (on, record { seen = seen; s = u; after = k })));
-      })
-      (λ off. tt),
-    refuses_from bs (λ h. none (inr h)) (λ f h. all f (inr h)))
+        (λ on. record {
+          not_ready = λ r. none (inl (on, r));
+          refused = λ f u k. off_event f (λ seen. all f (inl (on, record { seen = seen; s = u; after = k })));
+        })
+        (λ off. tt),
+    refuses_from bs (λ h. none (inr h)) (λ f h. all f (inr h)),
+  )
 
   pub never_ready : (bs : Branches) → (guards bs).refuses Γ (state_of layout x) (off_channels closed X) → SomeEnabled Γ (state_of layout x) (λ wait p. wait ≡ ready) bs → ⊥
   never_ready no_branch r h = absurd h
   never_ready (and_branch e wait p bs) r h = elim h [
-    inl k ↦ (match_true (is_true Γ e (state_of layout x)) (IsQuiet Γ (state_of layout x) wait (off_channels closed X)) (Unit {0}) k.0 r.0).not_ready k.1
+    | inl k ↦ (match_true (is_true Γ e (state_of layout x)) (IsQuiet Γ (state_of layout x) wait (off_channels closed X)) (Unit {0}) k.0 r.0).not_ready k.1
     | inr k ↦ never_ready bs r.1 k
   ]
 
   pub refuses_out : (bs : Branches) → (guards bs).refuses Γ (state_of layout x) (off_channels closed X) → (e : Event) → SomeEnabled Γ (state_of layout x) (λ wait p. Takes layout closed Γ wait x e) bs → X e ≡ false
   refuses_out no_branch r f h = absurd h
   refuses_out (and_branch e wait p bs) r f h = elim h [
-    inl k ↦ sym (ap (λ c. c && X f) k.1.seen) ∙ (match_true (is_true Γ e (state_of layout x)) (IsQuiet Γ (state_of layout x) wait (off_channels closed X)) (Unit {0}) k.0 r.0).refused f k.1.s k.1.after
+    | inl k ↦ sym (ap (λ c. c && X f) k.1.seen) ∙ (match_true (is_true Γ e (state_of layout x)) (IsQuiet Γ (state_of layout x) wait (off_channels closed X)) (Unit {0}) k.0 r.0).refused f k.1.s k.1.after
     | inr k ↦ refuses_out bs r.1 f k
   ]
 
@@ -130,27 +131,42 @@ module _ (layout : List (Name × Width × ℕ)) (closed : List Name) (Γ : Envir
 
   pub quiet_event : (e : Event) (t : List Event) (X : Event → Bool) → SomeEnabled Γ (state_of layout x) (λ wait p. Leads layout closed Γ wait x e (λ y. QuietlyFails layout closed Γ p y t X)) bs → QuietlyFails layout closed Γ (alt bs) x (e ∷ t) X
   quiet_event e t X h = some_elim Γ (state_of layout x) (λ wait p. Leads layout closed Γ wait x e (λ y. QuietlyFails layout closed Γ p y t X)) (QuietlyFails layout closed Γ (alt bs) x (e ∷ t) X) bs h
-      (λ wait p k inject. (and_from (is_open closed e) (is_silent_on closed t) k.seen k.behaved.0,
-          taken (goes_in Γ (state_of layout x) (e ∷ t) (refusing (off_channels closed X)) bs (inject (Goes Γ (state_of layout x) (e ∷ t) (refusing (off_channels closed X))) (state_of layout k.y, t, at_event k.after, k.behaved.1)))))
+      (λ wait p k inject. (
+        and_from (is_open closed e) (is_silent_on closed t) k.seen k.behaved.0,
+        taken (goes_in Γ (state_of layout x) (e ∷ t) (refusing (off_channels closed X)) bs (inject (Goes Γ (state_of layout x) (e ∷ t) (refusing (off_channels closed X))) (state_of layout k.y, t, at_event k.after, k.behaved.1))),
+      ))
 
   module _ (w : World) (rest : MapId) (behaves : ℕ → NodeId → List Event → Bool) where
     pub resume_ready : (t : List Event) → SomeEnabled Γ (state_of layout x) (λ wait p. (wait ≡ ready) × Resumes w layout closed Γ p rest x behaves t) bs → Resumes w layout closed Γ (alt bs) rest x behaves t
     resume_ready t h = some_elim Γ (state_of layout x) (λ wait p. (wait ≡ ready) × Resumes w layout closed Γ p rest x behaves t) (Resumes w layout closed Γ (alt bs) rest x behaves t) bs h
         (λ wait p k inject. record {
-          t1 = k.1.t1; t2 = k.1.t2; y = k.1.y; m = k.1.m; whole = k.1.whole; below = k.1.below; silent = k.1.silent;
+          t1 = k.1.t1;
+          t2 = k.1.t2;
+          y = k.1.y;
+          m = k.1.m;
+          whole = k.1.whole;
+          below = k.1.below;
+          silent = k.1.silent;
           ended = taken (goes_in Γ (state_of layout x) k.1.t1 (ended (state_of layout k.1.y)) bs (inject (Goes Γ (state_of layout x) k.1.t1 (ended (state_of layout k.1.y)))
               (state_of layout x, k.1.t1, ready_taken Γ (state_of layout x) wait k.1.t1 k.0, k.1.ended)));
-          leads = k.1.leads; behaved = k.1.behaved;
+          leads = k.1.leads;
+          behaved = k.1.behaved;
         })
 
     pub resume_event : (e : Event) (t : List Event) → SomeEnabled Γ (state_of layout x) (λ wait p. Leads layout closed Γ wait x e (λ y. Resumes w layout closed Γ p rest y behaves t)) bs → Resumes w layout closed Γ (alt bs) rest x behaves (e ∷ t)
     resume_event e t h = some_elim Γ (state_of layout x) (λ wait p. Leads layout closed Γ wait x e (λ y. Resumes w layout closed Γ p rest y behaves t)) (Resumes w layout closed Γ (alt bs) rest x behaves (e ∷ t)) bs h
         (λ wait p k inject. record {
-          t1 = e ∷ k.behaved.t1; t2 = k.behaved.t2; y = k.behaved.y; m = k.behaved.m; whole = ap (λ u. e ∷ u) k.behaved.whole; below = k.behaved.below;
+          t1 = e ∷ k.behaved.t1;
+          t2 = k.behaved.t2;
+          y = k.behaved.y;
+          m = k.behaved.m;
+          whole = ap (λ u. e ∷ u) k.behaved.whole;
+          below = k.behaved.below;
           silent = and_from (is_open closed e) (is_silent_on closed k.behaved.t1) k.seen k.behaved.silent;
           ended = taken (goes_in Γ (state_of layout x) (e ∷ k.behaved.t1) (ended (state_of layout k.behaved.y)) bs (inject (Goes Γ (state_of layout x) (e ∷ k.behaved.t1) (ended (state_of layout k.behaved.y)))
               (state_of layout k.y, k.behaved.t1, at_event k.after, k.behaved.ended)));
-          leads = k.behaved.leads; behaved = k.behaved.behaved;
+          leads = k.behaved.leads;
+          behaved = k.behaved.behaved;
         })
 
   -- ---- from the ALT to the branches
@@ -164,12 +180,17 @@ module _ (layout : List (Name × Width × ℕ)) (closed : List Name) (Γ : Envir
     came_quiet t X silent g = some_elim Γ (state_of layout x) (λ wait p. WentReady Γ (state_of layout x) t (refusing (off_channels closed X)) wait p ⊎ WentOn layout Γ (state_of layout x) t (refusing (off_channels closed X)) wait p)
         (Came t (λ p y u. QuietlyFails layout closed Γ p y u X)) bs (goes_out layout Γ x t (refusing (off_channels closed X)) bs each g)
         (λ wait p k inject. ⊎_elim
-            (λ (h : WentReady Γ (state_of layout x) t (refusing (off_channels closed X)) wait p). inl (inject (λ wait p. (wait ≡ ready) × QuietlyFails layout closed Γ p x t X) (h.0, (silent, h.1))))
-            (λ (h : WentOn layout Γ (state_of layout x) t (refusing (off_channels closed X)) wait p).
-                let parts = and_parts (is_open closed h.e) (is_silent_on closed h.rest) (sym (ap (is_silent_on closed) h.whole) ∙ silent) in
-                inr (h.e, h.rest, h.whole, inject (λ wait p. Leads layout closed Γ wait x h.e (λ y. QuietlyFails layout closed Γ p y h.rest X))
-                    (record { seen = parts.0; y = h.y; below = h.below; after = h.after; behaved = (parts.1, h.done) })))
-            k)
+        (λ (h : WentReady Γ (state_of layout x) t (refusing (off_channels closed X)) wait p). inl (inject (λ wait p. (wait ≡ ready) × QuietlyFails layout closed Γ p x t X) (h.0, (silent, h.1))))
+        (λ (h : WentOn layout Γ (state_of layout x) t (refusing (off_channels closed X)) wait p).
+        let parts = and_parts (is_open closed h.e) (is_silent_on closed h.rest) (sym (ap (is_silent_on closed) h.whole) ∙ silent) in
+        inr (
+          h.e,
+          h.rest,
+          h.whole,
+          inject (λ wait p. Leads layout closed Γ wait x h.e (λ y. QuietlyFails layout closed Γ p y h.rest X))
+              (record { seen = parts.0; y = h.y; below = h.below; after = h.after; behaved = (parts.1, h.done) }),
+        ))
+        k)
 
     module _ (w : World) (rest : MapId) (behaves : ℕ → NodeId → List Event → Bool) where
       pub came_resume : (t : List Event) → Resumes w layout closed Γ (alt bs) rest x behaves t → Came t (λ p y u. Resumes w layout closed Γ p rest y behaves u)
@@ -177,11 +198,21 @@ module _ (layout : List (Name × Width × ℕ)) (closed : List Name) (Γ : Envir
           (Came t (λ p y u. Resumes w layout closed Γ p rest y behaves u)) bs
           (goes_out layout Γ x r.t1 (ended (state_of layout r.y)) bs each (alternates_end (guards bs) Γ (state_of layout x) r.t1 (state_of layout r.y) r.ended))
           (λ wait p k inject. ⊎_elim
-              (λ (h : WentReady Γ (state_of layout x) r.t1 (ended (state_of layout r.y)) wait p). inl (inject (λ wait p. (wait ≡ ready) × Resumes w layout closed Γ p rest x behaves t)
-                  (h.0, record { t1 = r.t1; t2 = r.t2; y = r.y; m = r.m; whole = r.whole; below = r.below; silent = r.silent; ended = h.1; leads = r.leads; behaved = r.behaved })))
-              (λ (h : WentOn layout Γ (state_of layout x) r.t1 (ended (state_of layout r.y)) wait p).
-                  let parts = and_parts (is_open closed h.e) (is_silent_on closed h.rest) (sym (ap (is_silent_on closed) h.whole) ∙ r.silent) in
-                  inr (h.e, h.rest ++ r.t2, r.whole ∙ ap (λ v. v ++ r.t2) h.whole, inject (λ wait p. Leads layout closed Γ wait x h.e (λ y. Resumes w layout closed Γ p rest y behaves (h.rest ++ r.t2)))
-                      (record { seen = parts.0; y = h.y; below = h.below; after = h.after;
-                        behaved = record { t1 = h.rest; t2 = r.t2; y = r.y; m = r.m; whole = refl; below = r.below; silent = parts.1; ended = h.done; leads = r.leads; behaved = r.behaved } })))
-              k)
+          (λ (h : WentReady Γ (state_of layout x) r.t1 (ended (state_of layout r.y)) wait p). inl (inject (λ wait p. (wait ≡ ready) × Resumes w layout closed Γ p rest x behaves t)
+          (h.0, record { t1 = r.t1; t2 = r.t2; y = r.y; m = r.m; whole = r.whole; below = r.below; silent = r.silent; ended = h.1; leads = r.leads; behaved = r.behaved })))
+          (λ (h : WentOn layout Γ (state_of layout x) r.t1 (ended (state_of layout r.y)) wait p).
+          let parts = and_parts (is_open closed h.e) (is_silent_on closed h.rest) (sym (ap (is_silent_on closed) h.whole) ∙ r.silent) in
+          inr (
+            h.e,
+            h.rest ++ r.t2,
+            r.whole ∙ ap (λ v. v ++ r.t2) h.whole,
+            inject (λ wait p. Leads layout closed Γ wait x h.e (λ y. Resumes w layout closed Γ p rest y behaves (h.rest ++ r.t2)))
+                (record {
+                  seen = parts.0;
+                  y = h.y;
+                  below = h.below;
+                  after = h.after;
+                  behaved = record { t1 = h.rest; t2 = r.t2; y = r.y; m = r.m; whole = refl; below = r.below; silent = parts.1; ended = h.done; leads = r.leads; behaved = r.behaved };
+                }),
+          ))
+          k)

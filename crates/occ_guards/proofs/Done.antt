@@ -1,5 +1,5 @@
 -- Inputs and outputs as they are returned.
-use Rattle.std.proofs.Common.{◌≡◌, ◌<◌, ◌≤◌, ◌+◌, ◌^◌, ◌==◌, ◌&&◌, ℕ, Bool, true, false, not, List, Some, refl, sym, ap, ◌∙◌, subst, arith}
+use Rattle.std.proofs.Common.{◌≡◌, ◌<◌, ◌≤◌, ◌+◌, ◌^◌, ◌==◌, ◌&&◌, ℕ, Bool, true, false, not, List, Some, refl, sym, ◌∙◌, subst, arith}
 use Rattle.std.specs.Prelude.{if◌then◌else◌, nat_le, nat_lt}
 use Rattle.std.specs.Int.{bit_at}
 use Rattle.std.specs.Int.Bits.{bit_and}
@@ -11,14 +11,13 @@ use Rattle.occ_base.specs.declared.width.Width.{Width}
 use Rattle.occ_base.specs.Width.{bits_of}
 use Rattle.occ_syntax.specs.declared.scope.Kind.{Kind}
 use Rattle.occ_syntax.specs.Eval.{eval}
-use Rattle.occ_syntax.specs.Scopes.{Environment, variable_width}
-use Rattle.occ_syntax.specs.Tree.{Exp, Tree, Waiting, input, output, receive, send}
+use Rattle.occ_syntax.specs.Scopes.{Environment}
+use Rattle.occ_syntax.specs.Tree.{Exp, input, output, receive, send}
 use Rattle.occ_syntax.specs.Types.{types_kept}
 use Rattle.occ_bits.specs.Layout.{entry_of, environment_in, state_of}
 use Rattle.occ_bits.proofs.Laid.{found_within}
 use Rattle.occ_bits.proofs.Parts.{value_same}
 use Rattle.occ_mdd.specs.declared.map.MapId.{MapId}
-use Rattle.occ_node.specs.declared.node.NodeId.{NodeId}
 use Rattle.occ_node.specs.declared.world.World.{World}
 use Rattle.occ_follow.specs.Sequence.{HasNodes}
 use Rattle.occ_lift.specs.Lifted.{IsPrefixed}
@@ -69,18 +68,18 @@ module _ (vars : List (Name × Kind)) (layout : List (Name × Width × ℕ)) (n 
         let here : AreInputs v chan first (bits_of width) (bit_and keep row) 0 next map = subst (λ b. AreInputs v chan first (bits_of width) b 0 next map) is_kept (subst (λ m. AreInputs v chan first m kept_row 0 next map) is_left inputs) in
         let small : bit_and keep row < 2 ^ 64 = omega (arith, and_le_l keep row, keep_small) in
         input_guarded w vars layout n frame keep few closed next over_now Γ around chan var kept shown width first there (bit_and keep row)
-          (row_inside keep row first (bits_of width) fits rows keep_small) (row_outside keep row first (bits_of width) fits rows keep_small) small map r (has_nodes-extends v w l map hm)
-          (inputs_grow v w l next (has_nodes-extends u v k next over.has) chan first (bits_of width) (bit_and keep row) 0 map fits hm here)
-          (subst (λ b. IsChanged w (λ x. bit_and x b) map r) is_kept changed)
+        (row_inside keep row first (bits_of width) fits rows keep_small) (row_outside keep row first (bits_of width) fits rows keep_small) small map r (has_nodes-extends v w l map hm)
+        (inputs_grow v w l next (has_nodes-extends u v k next over.has) chan first (bits_of width) (bit_and keep row) 0 map fits hm here)
+        (subst (λ b. IsChanged w (λ x. bit_and x b) map r) is_kept changed)
 
     pub output_done : (z : Exp) (test : ℕ → Bool) (v_of : ℕ → ℕ) (r : MapId) → list_all (λ (c : Name). not (chan.0 == c.0)) closed ≡ true → ((x : ℕ) → test x ≡ true) → ((x : ℕ) → v_of x ≡ eval (environment_in layout) z (state_of layout x))
         → AreOutputs w chan test v_of next r
         → (Γ : Environment) → IsAround Γ vars → types_kept (send chan.0 z) Γ ≡ true → IsGuarded w layout keep closed Γ (output chan.0 z) next r
     output_done z test v_of r shown full values outputs Γ around kept =
         output_guarded w vars layout n frame keep few closed next over_now Γ chan z shown r
-          (λ x m a h em ea. subst (λ b. IsPrefixed w (output_event chan b) m a)
-            (values x ∙ value_same (environment_in layout) Γ (state_of layout x) (state_of layout x) z (λ y named. sym (width_here Γ vars layout n frame around y)) (λ y named. refl))
-            (outputs.outputs x m a h (full x) em ea))
+        (λ x m a h em ea. subst (λ b. IsPrefixed w (output_event chan b) m a)
+        (values x ∙ value_same (environment_in layout) Γ (state_of layout x) (state_of layout x) z (λ y named. sym (width_here Γ vars layout n frame around y)) (λ y named. refl))
+        (outputs.outputs x m a h (full x) em ea))
 
   module _ (u w : World) (uw : Extends u w) (next : MapId) (over : IsOver u n next) (chan : Name) (r : MapId) where
     pub receive_done : (var : ℕ) → ((Γ : Environment) → IsAround Γ vars → types_kept (receive chan.0 var) Γ ≡ true → IsGuarded w layout keep closed Γ (input chan.0 var) next r)

@@ -1,10 +1,10 @@
 -- Inputs and outputs as guards of the language.
-use Rattle.std.proofs.Common.{◌≡◌, ◌<◌, ◌≤◌, ◌+◌, ◌*◌, ◌%◌, ◌^◌, ◌==◌, ◌&&◌, ℕ, zero, suc, Bool, true, false, cond, min, not, nat_lt, List, [], ◌∷◌, Option, Some, None, refl, sym, ap, ◌∙◌, subst, inl, inr, ⊎_elim, arith}
+use Rattle.std.proofs.Common.{◌≡◌, ◌<◌, ◌≤◌, ◌+◌, ◌%◌, ◌^◌, ◌==◌, ℕ, Bool, true, false, min, not, List, [], ◌∷◌, Some, refl, sym, ap, ◌∙◌, subst, inl, ⊎_elim, arith}
 use Rattle.std.specs.Prelude.{◌↔◌, ◌⊎◌}
 use Rattle.std.specs.Int.{bit_at}
 use Rattle.std.specs.Int.Bits.{bit_and, bit_xor}
 use Rattle.std.specs.List.{list_all}
-use Rattle.std.proofs.lemmas.Bool.{and_parts, both_ways, cases_lt, false≢true, lt-ltb, ltb-true}
+use Rattle.std.proofs.lemmas.Bool.{both_ways, cases_lt, lt-ltb, ltb-true}
 use Rattle.std.proofs.lemmas.Nat.Bits.{bit_at_above, bit_at_and, bit_at_xor, same_from_bits}
 use Rattle.occ_base.specs.declared.event.Event.{Event}
 use Rattle.occ_base.specs.declared.names.Name.{Name}
@@ -12,11 +12,11 @@ use Rattle.occ_base.specs.declared.width.Width.{Width}
 use Rattle.occ_base.specs.Width.{bits_of}
 use Rattle.occ_syntax.specs.declared.scope.Kind.{Kind}
 use Rattle.occ_syntax.specs.Eval.{eval}
-use Rattle.occ_syntax.specs.Meaning.{After, at_event, ended, taken}
+use Rattle.occ_syntax.specs.Meaning.{After, at_event, taken}
 use Rattle.occ_syntax.specs.Scopes.{Environment, Values, channel_width, has_width, variable_width, with_value}
-use Rattle.occ_syntax.specs.Tree.{Exp, Tree, Waiting, and_branch, alt, input, no_branch, output, ready, receive, send, skip, truth}
-use Rattle.occ_syntax.specs.Types.{input_kept, types_kept, waiting_kept}
-use Rattle.occ_bits.specs.Layout.{IsLayout, entry_of, environment_in, state_of}
+use Rattle.occ_syntax.specs.Tree.{Exp, Waiting, input, output, ready, receive, send}
+use Rattle.occ_syntax.specs.Types.{input_kept, waiting_kept}
+use Rattle.occ_bits.specs.Layout.{entry_of, state_of}
 use Rattle.occ_bits.proofs.Laid.{found_width, found_within}
 use Rattle.occ_mdd.specs.Maps.{value}
 use Rattle.occ_mdd.specs.declared.map.MapId.{MapId}
@@ -26,7 +26,7 @@ use Rattle.occ_node.specs.declared.world.World.{World}
 use Rattle.occ_follow.specs.Sequence.{HasNodes}
 use Rattle.occ_weave.specs.Weave.{is_open}
 use Rattle.occ_laws.proofs.Typing.{input_types}
-use Rattle.occ_frame.specs.After.{AgreeBelow, IsAfter, IsOver, change_of}
+use Rattle.occ_frame.specs.After.{IsOver, change_of}
 use Rattle.occ_frame.specs.Changes.{IsChanged}
 use Rattle.occ_frame.specs.Placed.{IsAround, IsFrame}
 use Rattle.occ_frame.proofs.After.{state_back, states_reached}
@@ -34,7 +34,7 @@ use Rattle.occ_frame.proofs.Placing.{frame_layout, width_here}
 use Rattle.occ_guards.specs.Alternation.{Settles}
 use Rattle.occ_guards.specs.Inputs.{AreInputs, LeadsInput, TakesInput, digits_at, input_event, output_event, placed}
 use Rattle.occ_guards.specs.Offering.{At, IsGuarded, IsOffering, Leads, Takes}
-use Rattle.occ_guards.proofs.Making.{offering_nothing, offering_prefixed, offering_same, offering_turned}
+use Rattle.occ_guards.proofs.Making.{offering_prefixed, offering_same, offering_turned}
 use Rattle.occ_guards.proofs.Placed.{placed_change, placed_small, placed_state}
 use Rattle.occ_guards.proofs.Receiving.{at_iff}
 use Rattle.std.proofs.lemmas.Nat.{and_le_r}
@@ -105,7 +105,8 @@ module _ (w : World) (vars : List (Name × Kind)) (layout : List (Name × Width 
       s = with_value (state_of layout x) var k.u;
       after = (k.u, has_it k.u k.below, k.is ∙ ap (input_event chan) (from_zero k.u), refl);
     },
-    λ k. record { u = k.after.0; below = is_small k.after.0 k.after.1; is = k.after.2 ∙ ap (input_event chan) (sym (from_zero k.after.0)) })
+    λ k. record { u = k.after.0; below = is_small k.after.0 k.after.1; is = k.after.2 ∙ ap (input_event chan) (sym (from_zero k.after.0)) },
+  )
 
   state_there : (v x : ℕ) → v < 2 ^ bits_of width → state_of layout (placed first (bits_of width) v x) ≡ with_value (state_of layout x) var v
   state_there v x h = placed_state layout (frame_layout vars layout n frame) var width first there v x h
@@ -125,10 +126,13 @@ module _ (w : World) (vars : List (Name × Kind)) (layout : List (Name × Width 
         let small = is_small k.after.0 k.after.1 in
         let y = placed first (bits_of width) k.after.0 x in
         record {
-          u = k.after.0; below = is_small k.after.0 k.after.1; is = k.after.2 ∙ ap (input_event chan) (sym (from_zero k.after.0));
+          u = k.after.0;
+          below = is_small k.after.0 k.after.1;
+          is = k.after.2 ∙ ap (input_event chan) (sym (from_zero k.after.0));
           behaved = subst (λ v. P v (placed first (bits_of width) k.after.0 x)) (sym (from_zero k.after.0)) ((f k.after.0 (is_small k.after.0 k.after.1)).1
               ((same_at w vars layout n frame keep few next over x k.y (placed first (bits_of width) k.after.0 x) k.below (placed_small first (bits_of width) k.after.0 x fits h) (k.after.3 ∙ sym (state_there k.after.0 x (is_small k.after.0 k.after.1))) B).0 k.behaved));
-        })
+        },
+  )
 
   module _ (row_small : row < 2 ^ 64) (map r : MapId) (has : HasNodes w map) (inputs : AreInputs w chan first (bits_of width) row 0 next map) (changed : IsChanged w (λ x. bit_and x row) map r) where
     pub input_guarded : IsGuarded w layout keep closed Γ (input chan.0 var) next r
@@ -137,10 +141,10 @@ module _ (w : World) (vars : List (Name × Kind)) (layout : List (Name × Width 
           let a = has.nodes x h in
           let small : bit_and x row < 2 ^ 64 = omega (arith, and_le_r x row) in
           offering_same w b _ _ _ _ _ _ (offering_turned w (bit_and x row) small a.0 b _ _ _ (inputs.inputs x a.0 h a.1) (changed.changed x a.0 b h a.1 e))
-            (input_takes x)
-            (λ f t X. input_goes x f h (λ v y. At w next y (λ m. fails w m t X)) (λ c m. fails w m t X) (λ v l. (λ k. k, λ k. k)))
-            (λ f t z l. input_goes x f h (λ v y. At w next y (λ m. ends w m t (bit_xor (bit_xor z (bit_and x row)) (digits_at first row v)))) (λ c m. ends w m t (bit_xor z c))
-              (λ v m. at_iff w next next (placed first (bits_of width) v x) (placed first (bits_of width) v x) _ _ refl (λ q. ap (λ c. ends w q t c) (placed_change first (bits_of width) keep row v x fits m inside outside z))));
+          (input_takes x)
+          (λ f t X. input_goes x f h (λ v y. At w next y (λ m. fails w m t X)) (λ c m. fails w m t X) (λ v l. (λ k. k, λ k. k)))
+          (λ f t z l. input_goes x f h (λ v y. At w next y (λ m. ends w m t (bit_xor (bit_xor z (bit_and x row)) (digits_at first row v)))) (λ c m. ends w m t (bit_xor z c))
+          (λ v m. at_iff w next next (placed first (bits_of width) v x) (placed first (bits_of width) v x) _ _ refl (λ q. ap (λ c. ends w q t c) (placed_change first (bits_of width) keep row v x fits m inside outside z))));
     }
 
 -- ---- outputs
@@ -153,11 +157,15 @@ module _ (w : World) (vars : List (Name × Kind)) (layout : List (Name × Width 
       → ((e ≡ output_event chan (eval Γ z (state_of layout x))) × (A ≡ true)) ↔ Leads layout closed Γ (output chan.0 z) x e (λ y. At w next y (B (change_of keep x y)))
   output_goes x e h m there A B same = (
     λ k. record {
-      seen = ap (is_open closed) k.0 ∙ seen; y = x; below = h; after = (k.0, refl);
+      seen = ap (is_open closed) k.0 ∙ seen;
+      y = x;
+      below = h;
+      after = (k.0, refl);
       behaved = record { m = m; leads = there; behaved = ap (λ c. B c m) (no_change x) ∙ sym same ∙ k.1 };
     },
     λ k. let at = (same_at w vars layout n frame keep few next over x k.y x k.below h k.after.1 B).0 k.behaved in
-        (k.after.0, same ∙ sym (ap (λ c. B c m) (no_change x)) ∙ ap (B (change_of keep x x)) (same_Some m at.m (sym there ∙ at.leads)) ∙ at.behaved))
+        (k.after.0, same ∙ sym (ap (λ c. B c m) (no_change x)) ∙ ap (B (change_of keep x x)) (same_Some m at.m (sym there ∙ at.leads)) ∙ at.behaved),
+  )
 
   pub output_guarded : (r : MapId) → ((x : ℕ) (m a : NodeId) → x < 2 ^ 64 → value w.maps next x ≡ Some m → value w.maps r x ≡ Some a → IsPrefixed w (output_event chan (eval Γ z (state_of layout x))) m a)
       → IsGuarded w layout keep closed Γ (output chan.0 z) next r
@@ -165,9 +173,9 @@ module _ (w : World) (vars : List (Name × Kind)) (layout : List (Name × Width 
     guarded = λ x a h e.
         let m = over.has.nodes x h in
         offering_same w a _ _ _ _ _ _ (offering_prefixed w (output_event chan (eval Γ z (state_of layout x))) m.0 a (before x m.0 a h m.1 e))
-          (λ f. (λ k. record { seen = ap (is_open closed) k ∙ seen; s = state_of layout x; after = (k, refl) }, λ k. k.after.0))
-          (λ f t X. output_goes x f h m.0 m.1 (fails w m.0 t X) (λ c q. fails w q t X) refl)
-          (λ f t y small. output_goes x f h m.0 m.1 (ends w m.0 t y) (λ c q. ends w q t (bit_xor y c)) (ap (λ c. ends w m.0 t c) (sym (xor_zero_r y))));
+        (λ f. (λ k. record { seen = ap (is_open closed) k ∙ seen; s = state_of layout x; after = (k, refl) }, λ k. k.after.0))
+        (λ f t X. output_goes x f h m.0 m.1 (fails w m.0 t X) (λ c q. fails w q t X) refl)
+        (λ f t y small. output_goes x f h m.0 m.1 (ends w m.0 t y) (λ c q. ends w q t (bit_xor y c)) (ap (λ c. ends w m.0 t c) (sym (xor_zero_r y))));
   }
 
 -- ---- where a guard leads

@@ -1,17 +1,16 @@
 -- The two maps of an ALT with one more branch.
-use Rattle.std.proofs.Common.{◌≡◌, ◌<◌, ◌≤◌, ◌+◌, ◌%◌, ◌^◌, ℕ, Bool, true, false, cond, min, not, ◌||◌, ◌&&◌, ◌++◌, List, [], ◌∷◌, Option, Some, None, is_some, refl, sym, ap, ◌∙◌, subst, inl, inr, ⊎_elim, arith}
-use Rattle.std.specs.Prelude.{◌↔◌, ◌⊎◌, if◌then◌else◌}
+use Rattle.std.proofs.Common.{◌≡◌, ◌<◌, ◌+◌, ◌%◌, ◌^◌, ℕ, Bool, true, false, cond, min, List, Option, Some, None, is_some, refl, sym, ap, ◌∙◌, subst, inl, inr, ⊎_elim, arith}
+use Rattle.std.specs.Prelude.{◌↔◌, ◌⊎◌}
 use Rattle.std.specs.Int.{bit_at}
-use Rattle.std.specs.Int.Bits.{bit_and, bit_xor}
+use Rattle.std.specs.Int.Bits.{bit_xor}
 use Rattle.std.proofs.lemmas.Bool.{cases_Bool, both_ways, false≢true}
 use Rattle.std.proofs.lemmas.Nat.{and_le_l, xor_lt}
 use Rattle.std.proofs.lemmas.Nat.Bits.{bit_at_and, bit_at_xor, bit_at-lt, same_from_bits}
-use Rattle.std.proofs.lemmas.Option.{same_Some}
 use Rattle.occ_base.specs.declared.event.Event.{Event}
 use Rattle.occ_base.specs.declared.names.Name.{Name}
 use Rattle.occ_base.specs.declared.width.Width.{Width}
 use Rattle.occ_syntax.specs.Eval.{is_true}
-use Rattle.occ_syntax.specs.Scopes.{Environment, Values}
+use Rattle.occ_syntax.specs.Scopes.{Environment}
 use Rattle.occ_syntax.specs.Tree.{Branches, Exp, Tree, Waiting, and_branch, no_branch, ready}
 use Rattle.occ_bits.specs.Layout.{state_of}
 use Rattle.occ_choice.specs.Joined.{maybe_fails, maybe_ends}
@@ -25,7 +24,7 @@ use Rattle.occ_weave.proofs.Growth.{trans_iff, iff_of_same}
 use Rattle.occ_frame.specs.After.{IsAfter, Resumes, change_of}
 use Rattle.occ_guards.specs.Alternation.{EndsThen, FailsThen, IsAlternation, IsOffered, IsReadyAt, IsUnited, IsWaitingAt, OffersNothing, Settles, SomeEnabled}
 use Rattle.occ_guards.specs.Offering.{At, IsGuarded, IsGuardedAt, IsOffering, Leads, Takes}
-use Rattle.occ_guards.proofs.Offering.{or_iff, sum_iff}
+use Rattle.occ_guards.proofs.Offering.{or_iff}
 use Rattle.occ_guards.proofs.Making.{offering_merged, offering_same}
 
 -- ---- changes
@@ -52,13 +51,15 @@ pub leads_iff : (layout : List (Name × Width × ℕ)) (closed : List Name) (Γ 
     → Leads layout closed Γ wait x e B ↔ Leads layout closed Γ wait x e C
 leads_iff layout closed Γ wait x e B C f = (
   λ k. record { seen = k.seen; y = k.y; below = k.below; after = k.after; behaved = (f k.y k.below).0 k.behaved },
-  λ k. record { seen = k.seen; y = k.y; below = k.below; after = k.after; behaved = (f k.y k.below).1 k.behaved })
+  λ k. record { seen = k.seen; y = k.y; below = k.below; after = k.after; behaved = (f k.y k.below).1 k.behaved },
+)
 
 module _ (w : World) (layout : List (Name × Width × ℕ)) (keep : ℕ) (closed : List Name) (Γ : Environment) (p : Tree) (rest next : MapId) (has : HasNodes w next) (is : IsAfter w layout keep closed Γ p rest next) where
   pub then_fails : (y : ℕ) → y < 2 ^ 64 → (t : List Event) (X : Event → Bool) → At w next y (λ m. fails w m t X) ↔ FailsThen w layout closed Γ rest p y t X
   then_fails y h t X = (
     λ k. (is.after_fails y k.m h k.leads t X).0 k.behaved,
-    λ k. let found = has.nodes y h in record { m = found.0; leads = found.1; behaved = (is.after_fails y found.0 h found.1 t X).1 k })
+    λ k. let found = has.nodes y h in record { m = found.0; leads = found.1; behaved = (is.after_fails y found.0 h found.1 t X).1 k },
+  )
 
   along : (x y z : ℕ) (t : List Event) → Resumes w layout closed Γ p rest y (λ last m u. ends w m u (bit_xor (bit_xor z (change_of keep x y)) (change_of keep y last))) t → EndsThen w layout keep closed Γ rest x p y t z
   along x y z t s = record { t1 = s.t1; t2 = s.t2; y = s.y; m = s.m; whole = s.whole; below = s.below; silent = s.silent; ended = s.ended; leads = s.leads; behaved = ap (λ c. ends w s.m s.t2 c) (sym (change_twice keep x y s.y z)) ∙ s.behaved }
@@ -68,10 +69,10 @@ module _ (w : World) (layout : List (Name × Width × ℕ)) (keep : ℕ) (closed
 
   pub then_ends : (x y : ℕ) → x < 2 ^ 64 → y < 2 ^ 64 → (t : List Event) (z : ℕ) → z < 2 ^ 64 → At w next y (λ m. ends w m t (bit_xor z (change_of keep x y))) ↔ EndsThen w layout keep closed Γ rest x p y t z
   then_ends x y g h t z small =
-      let low : bit_xor z (change_of keep x y) < 2 ^ 64 = xor_lt 64 z (change_of keep x y) small (change_small keep x y g h) in
-      (
-      λ k. along x y z t ((is.after_ends y k.m h k.leads t (bit_xor z (change_of keep x y)) low).0 k.behaved),
-      λ k. let found = has.nodes y h in record { m = found.0; leads = found.1; behaved = (is.after_ends y found.0 h found.1 t (bit_xor z (change_of keep x y)) low).1 (back x y z t k) })
+      let low : bit_xor z (change_of keep x y) < 2 ^ 64 = xor_lt 64 z (change_of keep x y) small (change_small keep x y g h) in (
+        λ k. along x y z t ((is.after_ends y k.m h k.leads t (bit_xor z (change_of keep x y)) low).0 k.behaved),
+        λ k. let found = has.nodes y h in record { m = found.0; leads = found.1; behaved = (is.after_ends y found.0 h found.1 t (bit_xor z (change_of keep x y)) low).1 (back x y z t k) },
+      )
 
 -- ---- one more branch
 -- the first branch is enabled, or isn't
@@ -87,14 +88,12 @@ never_in_front on never = (λ a. inr a, ⊎_elim (λ k. absurd (never k.1)) (λ 
 module _ (w : World) (layout : List (Name × Width × ℕ)) (keep : ℕ) (closed : List Name) (Γ : Environment) (bs : Branches) (e : Exp) (p : Tree) (rest waiting readies next : MapId)
     (is : IsAlternation w layout keep closed Γ bs rest waiting readies) (has_rest : HasNodes w rest) (has : HasNodes w next) (after : IsAfter w layout keep closed Γ p rest next)
     (test : ℕ → Bool) (enabled : (x : ℕ) → x < 2 ^ 64 → test x ≡ is_true Γ e (state_of layout x)) where
-
   module _ (wait : Waiting) (event : wait ≡ ready → ⊥) (settles : (x : ℕ) → x < 2 ^ 64 → Settles layout Γ x wait) (offered r : MapId) (hw : HasNodes w waiting) (ho : HasNodes w offered)
       (guarded : IsGuarded w layout keep closed Γ wait next offered) (joined : IsOffered w test waiting offered r) where
-
     waits_on : (x : ℕ) (a b c : NodeId) → x < 2 ^ 64 → is_true Γ e (state_of layout x) ≡ true → IsWaitingAt w layout keep closed Γ bs rest x a → IsGuardedAt w layout keep closed Γ wait next x b
         → IsOffering w c (λ f. SomeEnabled Γ (state_of layout x) (λ v q. Takes layout closed Γ v x f) bs ⊎ Takes layout closed Γ wait x f)
-            (λ f t X. SomeEnabled Γ (state_of layout x) (λ v q. Leads layout closed Γ v x f (λ y. FailsThen w layout closed Γ rest q y t X)) bs ⊎ Leads layout closed Γ wait x f (λ y. At w next y (λ m. fails w m t X)))
-            (λ f t z. SomeEnabled Γ (state_of layout x) (λ v q. Leads layout closed Γ v x f (λ y. EndsThen w layout keep closed Γ rest x q y t z)) bs ⊎ Leads layout closed Γ wait x f (λ y. At w next y (λ m. ends w m t (bit_xor z (change_of keep x y)))))
+        (λ f t X. SomeEnabled Γ (state_of layout x) (λ v q. Leads layout closed Γ v x f (λ y. FailsThen w layout closed Γ rest q y t X)) bs ⊎ Leads layout closed Γ wait x f (λ y. At w next y (λ m. fails w m t X)))
+        (λ f t z. SomeEnabled Γ (state_of layout x) (λ v q. Leads layout closed Γ v x f (λ y. EndsThen w layout keep closed Γ rest x q y t z)) bs ⊎ Leads layout closed Γ wait x f (λ y. At w next y (λ m. ends w m t (bit_xor z (change_of keep x y)))))
         → IsWaitingAt w layout keep closed Γ (and_branch e wait p bs) rest x c
     waits_on x a b c h on one other both = offering_same w c _ _ _ _ _ _ both
         (λ f. in_front (is_true Γ e (state_of layout x)) on (λ k. k, λ k. k))
@@ -103,8 +102,8 @@ module _ (w : World) (layout : List (Name × Width × ℕ)) (keep : ℕ) (closed
 
     waits_off : (x : ℕ) (c : NodeId) → is_true Γ e (state_of layout x) ≡ false
         → IsOffering w c (λ f. SomeEnabled Γ (state_of layout x) (λ v q. Takes layout closed Γ v x f) bs ⊎ ⊥)
-            (λ f t X. SomeEnabled Γ (state_of layout x) (λ v q. Leads layout closed Γ v x f (λ y. FailsThen w layout closed Γ rest q y t X)) bs ⊎ ⊥)
-            (λ f t z. SomeEnabled Γ (state_of layout x) (λ v q. Leads layout closed Γ v x f (λ y. EndsThen w layout keep closed Γ rest x q y t z)) bs ⊎ ⊥)
+        (λ f t X. SomeEnabled Γ (state_of layout x) (λ v q. Leads layout closed Γ v x f (λ y. FailsThen w layout closed Γ rest q y t X)) bs ⊎ ⊥)
+        (λ f t z. SomeEnabled Γ (state_of layout x) (λ v q. Leads layout closed Γ v x f (λ y. EndsThen w layout keep closed Γ rest x q y t z)) bs ⊎ ⊥)
         → IsWaitingAt w layout keep closed Γ (and_branch e wait p bs) rest x c
     waits_off x c off both = offering_same w c _ _ _ _ _ _ both
         (λ f. not_in_front (is_true Γ e (state_of layout x)) off)
@@ -120,7 +119,7 @@ module _ (w : World) (layout : List (Name × Width × ℕ)) (keep : ℕ) (closed
         ⊎_elim
         (λ (on : test x ≡ true). waits_on x a.0 b.0 c h (sym (enabled x h) ∙ on) one other (offering_merged w a.0 b.0 c _ _ _ _ _ _ one other (joined.on x a.0 b.0 c h a.1 b.1 there on)))
         (λ (off : test x ≡ false). let n = joined.off x a.0 c h a.1 there off in
-            waits_off x c (sym (enabled x h) ∙ off) (offering_merged w a.0 n.0 c _ _ _ _ _ _ one n.1 n.2))
+        waits_off x c (sym (enabled x h) ∙ off) (offering_merged w a.0 n.0 c _ _ _ _ _ _ one n.1 n.2))
         (cases_Bool (test x))
 
     readies_still : (x : ℕ) (o : Option NodeId) → IsReadyAt w layout keep closed Γ bs rest x o → IsReadyAt w layout keep closed Γ (and_branch e wait p bs) rest x o

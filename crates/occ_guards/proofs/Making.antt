@@ -1,9 +1,9 @@
 -- Nodes that wait for events: those that are prefixed, merged, turned, and as the world grows.
-use Rattle.std.proofs.Common.{◌≡◌, ◌<◌, ◌≤◌, ◌+◌, ◌%◌, ◌^◌, ℕ, Bool, true, false, not, ◌||◌, ◌&&◌, ◌++◌, List, [], ◌∷◌, Option, Some, None, refl, sym, ap, ◌∙◌, subst, inl, inr, ⊎_elim, arith, lit<}
+use Rattle.std.proofs.Common.{◌≡◌, ◌<◌, ◌+◌, ◌%◌, ◌^◌, ℕ, Bool, true, false, not, ◌||◌, ◌&&◌, List, [], ◌∷◌, refl, sym, ap, ◌∙◌, subst, inl, inr, ⊎_elim, arith}
 use Rattle.std.specs.Prelude.{◌↔◌, ◌⊎◌, bit_xor}
-use Rattle.std.specs.List.{list_all, list_any}
+use Rattle.std.specs.List.{list_all}
 use Rattle.std.specs.Ordering.{eq_by_cmp}
-use Rattle.std.proofs.lemmas.Bool.{and_from, and_parts, cases_Bool, both_ways, false≢true, or_cases, or_left, or_right}
+use Rattle.std.proofs.lemmas.Bool.{and_from, and_parts, cases_Bool, both_ways, or_cases, or_left, or_right}
 use Rattle.std.proofs.lemmas.List.Folds.{list_all-append, list_any-append}
 use Rattle.std.proofs.lemmas.Nat.{xor_lt}
 use Rattle.std.proofs.lemmas.Nat.Bits.{bit_at_xor, same_from_bits}
@@ -18,8 +18,7 @@ use Rattle.occ_node.specs.Canonical.{HasTrace}
 use Rattle.occ_node.specs.declared.node.NodeId.{NodeId}
 use Rattle.occ_node.specs.declared.world.World.{World}
 use Rattle.occ_node.proofs.Behaviours.{is_row, fails_cons, ends_cons}
-use Rattle.occ_choice.specs.Branches.{IsAlt, branch_fails, branch_ends, is_unready}
-use Rattle.occ_choice.specs.declared.branch.Branch.{Branch}
+use Rattle.occ_choice.specs.Branches.{branch_fails, branch_ends, is_unready}
 use Rattle.occ_choice.specs.declared.branch.Branch.TheVariants.{Event as Comm}
 use Rattle.occ_weave.proofs.Growth.{trans_iff, iff_of_same}
 use Rattle.occ_lift.specs.Lifted.{IsMerged, IsPrefixed, IsTurned, branches_of}
@@ -79,8 +78,9 @@ alone false = refl
 
 event_iff : (e f : Event) (b : Bool) → ((eq_by_cmp event_cmp e f && b) ≡ true) ↔ ((e ≡ f) × (b ≡ true))
 event_iff e f b = (
-    λ h. let parts = and_parts (eq_by_cmp event_cmp e f) b h in (tied_same cmp_total event_exact e f parts.0, parts.1),
-    λ h. and_from (eq_by_cmp event_cmp e f) b (subst (λ g. eq_by_cmp event_cmp e g ≡ true) h.0 (tied cmp_total e)) h.1)
+  λ h. let parts = and_parts (eq_by_cmp event_cmp e f) b h in (tied_same cmp_total event_exact e f parts.0, parts.1),
+  λ h. and_from (eq_by_cmp event_cmp e f) b (subst (λ g. eq_by_cmp event_cmp e g ≡ true) h.0 (tied cmp_total e)) h.1,
+)
 
 module _ (w : World) (event : Event) (p r : NodeId) (is : IsPrefixed w event p r) where
   prefix_now : (X : Event → Bool) → fails w r [] X ≡ not (X event)
@@ -102,10 +102,10 @@ module _ (w : World) (event : Event) (p r : NodeId) (is : IsPrefixed w event p r
   offers_it = ⊎_elim
       (λ (h : is_offered (row_of w r).offers event ≡ true). h)
       (λ (h : is_offered (row_of w r).offers event ≡ false). absurd (no_behaviour w p is.first
-          (⊎_elim (λ (k : fails w p [] (λ e. false) ≡ true). absurd (both_ways _ h (offered_trace w r event [] is.prefixed.known (inl ((prefix_fails event [] (λ e. false)).1 (refl, k))))))
-              (λ (k : fails w p [] (λ e. false) ≡ false). k) (cases_Bool (fails w p [] (λ e. false))))
-          (λ x small. ⊎_elim (λ (k : ends w p [] x ≡ true). absurd (both_ways _ h (offered_trace w r event [] is.prefixed.known (inr (x, small, (prefix_ends event [] x).1 (refl, k))))))
-              (λ (k : ends w p [] x ≡ false). k) (cases_Bool (ends w p [] x)))))
+      (⊎_elim (λ (k : fails w p [] (λ e. false) ≡ true). absurd (both_ways _ h (offered_trace w r event [] is.prefixed.known (inl ((prefix_fails event [] (λ e. false)).1 (refl, k))))))
+      (λ (k : fails w p [] (λ e. false) ≡ false). k) (cases_Bool (fails w p [] (λ e. false))))
+      (λ x small. ⊎_elim (λ (k : ends w p [] x ≡ true). absurd (both_ways _ h (offered_trace w r event [] is.prefixed.known (inr (x, small, (prefix_ends event [] x).1 (refl, k))))))
+      (λ (k : ends w p [] x ≡ false). k) (cases_Bool (ends w p [] x)))))
       (cases_Bool (is_offered (row_of w r).offers event))
 
   pub offering_prefixed : IsOffering w r (λ e. e ≡ event) (λ e t X. (e ≡ event) × (fails w p t X ≡ true)) (λ e t z. (e ≡ event) × (ends w p t z ≡ true))
@@ -134,7 +134,7 @@ module _ (w : World) (p q r : NodeId) (T U : Event → Type 0) (F G : Event → 
   merged_now : (X : Event → Bool) → fails w r [] X ≡ (list_all (is_unready X) (branches_of (row_of w p).offers) && list_all (is_unready X) (branches_of (row_of w q).offers))
   merged_now X = is.merged.alt_fails [] X
       ∙ (λ i. list_all-append (is_unready X) (branches_of (row_of w p).offers) (branches_of (row_of w q).offers) i
-          || (list_any-append (branch_fails w [] X) (branches_of (row_of w p).offers) (branches_of (row_of w q).offers) ∙ (λ j. branches_fail_not w (row_of w p).offers X j || branches_fail_not w (row_of w q).offers X j)) i)
+      || (list_any-append (branch_fails w [] X) (branches_of (row_of w p).offers) (branches_of (row_of w q).offers) ∙ (λ j. branches_fail_not w (row_of w p).offers X j || branches_fail_not w (row_of w q).offers X j)) i)
       ∙ or_nothing w (list_all (is_unready X) (branches_of (row_of w p).offers) && list_all (is_unready X) (branches_of (row_of w q).offers))
 
   merged_fails : (e : Event) (t : List Event) (X : Event → Bool) → fails w r (e ∷ t) X ≡ (fails w p (e ∷ t) X || fails w q (e ∷ t) X)
@@ -148,13 +148,13 @@ module _ (w : World) (p q r : NodeId) (T U : Event → Type 0) (F G : Event → 
   from_one : (e : Event) → (t : List Event) × HasTrace w r (e ∷ t) → T e ⊎ U e
   from_one e (t, k) = ⊎_elim
       (λ (h : fails w r (e ∷ t) (λ e. false) ≡ true). ⊎_elim
-          (λ (l : fails w p (e ∷ t) (λ e. false) ≡ true). inl ((one.offers e).0 (offered_trace w p e t is.first (inl l))))
-          (λ (l : fails w q (e ∷ t) (λ e. false) ≡ true). inr ((other.offers e).0 (offered_trace w q e t is.second (inl l))))
-          (or_cases _ _ (sym (merged_fails e t (λ e. false)) ∙ h)))
+      (λ (l : fails w p (e ∷ t) (λ e. false) ≡ true). inl ((one.offers e).0 (offered_trace w p e t is.first (inl l))))
+      (λ (l : fails w q (e ∷ t) (λ e. false) ≡ true). inr ((other.offers e).0 (offered_trace w q e t is.second (inl l))))
+      (or_cases _ _ (sym (merged_fails e t (λ e. false)) ∙ h)))
       (λ (h : (x : ℕ) × (x < 2 ^ 64) × (ends w r (e ∷ t) x ≡ true)). ⊎_elim
-          (λ (l : ends w p (e ∷ t) h.0 ≡ true). inl ((one.offers e).0 (offered_trace w p e t is.first (inr (h.0, h.1, l)))))
-          (λ (l : ends w q (e ∷ t) h.0 ≡ true). inr ((other.offers e).0 (offered_trace w q e t is.second (inr (h.0, h.1, l)))))
-          (or_cases _ _ (sym (merged_ends e t h.0) ∙ h.2)))
+      (λ (l : ends w p (e ∷ t) h.0 ≡ true). inl ((one.offers e).0 (offered_trace w p e t is.first (inr (h.0, h.1, l)))))
+      (λ (l : ends w q (e ∷ t) h.0 ≡ true). inr ((other.offers e).0 (offered_trace w q e t is.second (inr (h.0, h.1, l)))))
+      (or_cases _ _ (sym (merged_ends e t h.0) ∙ h.2)))
       k
 
   to_first : (e : Event) → (t : List Event) × HasTrace w p (e ∷ t) → is_offered (row_of w r).offers e ≡ true
@@ -172,13 +172,16 @@ module _ (w : World) (p q r : NodeId) (T U : Event → Type 0) (F G : Event → 
   pub offering_merged : IsOffering w r (λ e. T e ⊎ U e) (λ e t X. F e t X ⊎ G e t X) (λ e t z. E e t z ⊎ H e t z)
   offering_merged = record {
     known = is.merged.known;
-    offers = λ e. (λ h. from_one e (trace_offered w r e is.merged.known h),
-        ⊎_elim (λ k. to_first e (trace_offered w p e is.first ((one.offers e).1 k))) (λ k. to_second e (trace_offered w q e is.second ((other.offers e).1 k))));
+    offers = λ e. (
+      λ h. from_one e (trace_offered w r e is.merged.known h),
+      ⊎_elim (λ k. to_first e (trace_offered w p e is.first ((one.offers e).1 k))) (λ k. to_second e (trace_offered w q e is.second ((other.offers e).1 k))),
+    );
     refuses = λ X. (
-        λ h e. let parts = and_parts (list_all (is_unready X) (branches_of (row_of w p).offers)) (list_all (is_unready X) (branches_of (row_of w q).offers)) (sym (merged_now X) ∙ h) in
-            ⊎_elim (λ k. (branches_wait (row_of w p).offers X).0 parts.0 e ((one.offers e).1 k)) (λ k. (branches_wait (row_of w q).offers X).0 parts.1 e ((other.offers e).1 k)),
-        λ h. merged_now X ∙ and_from (list_all (is_unready X) (branches_of (row_of w p).offers)) (list_all (is_unready X) (branches_of (row_of w q).offers))
-            ((branches_wait (row_of w p).offers X).1 (λ e k. h e (inl ((one.offers e).0 k)))) ((branches_wait (row_of w q).offers X).1 (λ e k. h e (inr ((other.offers e).0 k)))));
+      λ h e. let parts = and_parts (list_all (is_unready X) (branches_of (row_of w p).offers)) (list_all (is_unready X) (branches_of (row_of w q).offers)) (sym (merged_now X) ∙ h) in
+          ⊎_elim (λ k. (branches_wait (row_of w p).offers X).0 parts.0 e ((one.offers e).1 k)) (λ k. (branches_wait (row_of w q).offers X).0 parts.1 e ((other.offers e).1 k)),
+      λ h. merged_now X ∙ and_from (list_all (is_unready X) (branches_of (row_of w p).offers)) (list_all (is_unready X) (branches_of (row_of w q).offers))
+          ((branches_wait (row_of w p).offers X).1 (λ e k. h e (inl ((one.offers e).0 k)))) ((branches_wait (row_of w q).offers X).1 (λ e k. h e (inr ((other.offers e).0 k)))),
+    );
     not_ended = λ z small. is.merged.alt_ends [] z ∙ list_any-append (branch_ends w [] z) (branches_of (row_of w p).offers) (branches_of (row_of w q).offers)
         ∙ (λ j. branches_end_not w (row_of w p).offers z j || branches_end_not w (row_of w q).offers z j);
     fail_on = λ e t X. trans_iff (iff_of_same _ _ (merged_fails e t X)) (trans_iff (or_iff _ _) (sum_iff (one.fail_on e t X) (other.fail_on e t X)));
@@ -200,8 +203,11 @@ module _ (w : World) (change : ℕ) (small : change < 2 ^ 64) (p r : NodeId) (T 
   turned_to : (e : Event) → (t : List Event) × HasTrace w p (e ∷ t) → is_offered (row_of w r).offers e ≡ true
   turned_to e (t, k) = offered_trace w r e t is.turned.known (⊎_elim
       (λ (h : fails w p (e ∷ t) (λ e. false) ≡ true). inl (is.turned.same_fail (e ∷ t) (λ e. false) ∙ h))
-      (λ (h : (x : ℕ) × (x < 2 ^ 64) × (ends w p (e ∷ t) x ≡ true)). inr (bit_xor h.0 change, xor_lt 64 h.0 change h.1 small,
-          is.turned.turned_end (e ∷ t) (bit_xor h.0 change) (xor_lt 64 h.0 change h.1 small) ∙ ap (λ x. ends w p (e ∷ t) x) (xor_twice h.0 change) ∙ h.2))
+      (λ (h : (x : ℕ) × (x < 2 ^ 64) × (ends w p (e ∷ t) x ≡ true)). inr (
+        bit_xor h.0 change,
+        xor_lt 64 h.0 change h.1 small,
+        is.turned.turned_end (e ∷ t) (bit_xor h.0 change) (xor_lt 64 h.0 change h.1 small) ∙ ap (λ x. ends w p (e ∷ t) x) (xor_twice h.0 change) ∙ h.2,
+      ))
       k)
 
   pub offering_turned : IsOffering w r T F (λ e t z. E e t (bit_xor z change))

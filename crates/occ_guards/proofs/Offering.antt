@@ -1,31 +1,25 @@
 -- Nodes that wait for events: how they are made.
-use Rattle.std.proofs.Common.{◌≡◌, ◌<◌, ◌^◌, ℕ, Bool, true, false, not, ◌||◌, ◌&&◌, ◌++◌, List, [], ◌∷◌, Option, Some, None, is_some, cond, map, refl, sym, ap, ◌∙◌, inl, inr, ⊎_elim, arith}
-use Rattle.std.specs.Prelude.{◌↔◌, ◌⊎◌, bit_xor}
+use Rattle.std.proofs.Common.{◌≡◌, ◌<◌, ◌^◌, ℕ, Bool, true, false, not, ◌||◌, ◌&&◌, List, [], ◌∷◌, Option, Some, None, is_some, cond, refl, sym, ap, ◌∙◌, inl, inr, ⊎_elim}
+use Rattle.std.specs.Prelude.{◌↔◌, ◌⊎◌}
 use Rattle.std.specs.List.{list_all, list_any}
-use Rattle.std.specs.Ordering.{eq_by_cmp, is_lt}
+use Rattle.std.specs.Ordering.{eq_by_cmp}
 use Rattle.std.proofs.lemmas.Bool.{and_from, and_parts, cases_Bool, both_ways, false≢true, or_cases, or_left, or_right}
-use Rattle.std.proofs.lemmas.List.Folds.{list_all-append, list_any-append}
 use Rattle.occ_base.specs.declared.event.Event.{Event}
-use Rattle.occ_dd.specs.Store.{has}
 use Rattle.occ_accept.specs.Accept.{misses, refuses}
 use Rattle.occ_accept.specs.Order.{event_cmp, strict}
 use Rattle.occ_accept.proofs.Events.{cmp_total, event_exact}
-use Rattle.occ_accept.proofs.Strict.{or_skip, tied, tied_same}
+use Rattle.occ_accept.proofs.Strict.{tied, tied_same}
 use Rattle.occ_node.specs.Offers.{offer_cmp, next_in, is_offered}
 use Rattle.occ_node.specs.Rows.{goes_on}
 use Rattle.occ_node.specs.World.{IsNode, row_of, fails, ends}
-use Rattle.occ_node.specs.Canonical.{HasTrace, IsRecovered}
+use Rattle.occ_node.specs.Canonical.{HasTrace}
 use Rattle.occ_node.specs.declared.node.NodeId.{NodeId}
 use Rattle.occ_node.specs.declared.world.World.{World}
 use Rattle.occ_node.proofs.Table.{none_above}
 use Rattle.occ_node.proofs.Recovery.{recovered}
-use Rattle.occ_node.proofs.Behaviours.{is_row, fails_nil, fails_cons, fails_none, ends_nil, ends_cons, ends_none}
-use Rattle.occ_choice.specs.Branches.{IsAlt, branch_fails, branch_ends, is_unready, waits}
-use Rattle.occ_choice.specs.declared.branch.Branch.{Branch}
-use Rattle.occ_choice.specs.declared.branch.Branch.TheVariants.{Skip, Event as Comm}
-use Rattle.occ_weave.proofs.Growth.{trans_iff, iff_of_same}
-use Rattle.occ_lift.specs.Lifted.{IsMerged, IsPrefixed, IsTurned, branches_of}
-use Rattle.occ_guards.specs.Offering.{IsOffering}
+use Rattle.occ_node.proofs.Behaviours.{is_row, fails_nil, ends_nil}
+use Rattle.occ_choice.specs.Branches.{branch_fails, branch_ends, is_unready}
+use Rattle.occ_lift.specs.Lifted.{branches_of}
 
 -- ---- equivalences
 pub sum_iff : {A B C D : Type 0} → A ↔ B → C ↔ D → (A ⊎ C) ↔ (B ⊎ D)
@@ -71,11 +65,12 @@ is_not b h = ap not h
 pub branches_wait : (offers : List (Event × NodeId)) (X : Event → Bool) → (list_all (is_unready X) (branches_of offers) ≡ true) ↔ ((e : Event) → is_offered offers e ≡ true → X e ≡ false)
 branches_wait [] X = (λ h e k. absurd (false≢true k), λ h. refl)
 branches_wait (o ∷ offers) X =
-    let rest = branches_wait offers X in
-    (λ h e k. let parts = and_parts (not (X o.0)) (list_all (is_unready X) (branches_of offers)) h in
-        ⊎_elim (λ (t : e ≡ o.0). ap X t ∙ is_false (X o.0) parts.0) (λ t. rest.0 parts.1 e t) (offered_cases o offers e k),
-     λ h. and_from (not (X o.0)) (list_all (is_unready X) (branches_of offers)) (is_not (X o.0) (h o.0 (offered_here o offers o.0 (tied cmp_total o.0))))
-        (rest.1 (λ e k. h e (offered_later o offers e k))))
+    let rest = branches_wait offers X in (
+      λ h e k. let parts = and_parts (not (X o.0)) (list_all (is_unready X) (branches_of offers)) h in
+          ⊎_elim (λ (t : e ≡ o.0). ap X t ∙ is_false (X o.0) parts.0) (λ t. rest.0 parts.1 e t) (offered_cases o offers e k),
+      λ h. and_from (not (X o.0)) (list_all (is_unready X) (branches_of offers)) (is_not (X o.0) (h o.0 (offered_here o offers o.0 (tied cmp_total o.0))))
+          (rest.1 (λ e k. h e (offered_later o offers e k))),
+    )
 
 module _ (w : World) where
   pub or_nothing : (a : Bool) → (a || false) ≡ a
@@ -92,7 +87,7 @@ module _ (w : World) where
       let rest = branches_fail offers (and_parts _ _ h).1 e t X in
       ⊎_elim
       (λ (k : eq_by_cmp event_cmp e o.0 ≡ true). (λ i. (k i && fails w o.1 t X) || rest i) ∙ ap (λ n. fails w o.1 t X || goes_on n (λ b. fails w b t X)) (first_alone o offers e h k) ∙ or_nothing (fails w o.1 t X)
-          ∙ sym (ap (λ c. goes_on (cond c (Some o.1) (next_in offers e)) (λ b. fails w b t X)) k))
+      ∙ sym (ap (λ c. goes_on (cond c (Some o.1) (next_in offers e)) (λ b. fails w b t X)) k))
       (λ (k : eq_by_cmp event_cmp e o.0 ≡ false). (λ i. (k i && fails w o.1 t X) || rest i) ∙ sym (ap (λ c. goes_on (cond c (Some o.1) (next_in offers e)) (λ b. fails w b t X)) k))
       (cases_Bool (eq_by_cmp event_cmp e o.0))
 
@@ -102,7 +97,7 @@ module _ (w : World) where
       let rest = branches_end offers (and_parts _ _ h).1 e t z in
       ⊎_elim
       (λ (k : eq_by_cmp event_cmp e o.0 ≡ true). (λ i. (k i && ends w o.1 t z) || rest i) ∙ ap (λ n. ends w o.1 t z || goes_on n (λ b. ends w b t z)) (first_alone o offers e h k) ∙ or_nothing (ends w o.1 t z)
-          ∙ sym (ap (λ c. goes_on (cond c (Some o.1) (next_in offers e)) (λ b. ends w b t z)) k))
+      ∙ sym (ap (λ c. goes_on (cond c (Some o.1) (next_in offers e)) (λ b. ends w b t z)) k))
       (λ (k : eq_by_cmp event_cmp e o.0 ≡ false). (λ i. (k i && ends w o.1 t z) || rest i) ∙ sym (ap (λ c. goes_on (cond c (Some o.1) (next_in offers e)) (λ b. ends w b t z)) k))
       (cases_Bool (eq_by_cmp event_cmp e o.0))
 

@@ -1,22 +1,21 @@
 -- Assignments in which the bits of a variable are replaced.
-use Rattle.std.proofs.Common.{◌≡◌, ◌<◌, ◌≤◌, ◌+◌, ◌-◌, ◌*◌, ◌/◌, ◌%◌, ◌^◌, ◌==◌, ℕ, zero, suc, Bool, true, false, cond, min, List, [], ◌∷◌, Option, Some, None, refl, sym, ap, ◌∙◌, subst, inl, inr, ⊎_elim, arith}
+use Rattle.std.proofs.Common.{◌≡◌, ◌<◌, ◌≤◌, ◌+◌, ◌-◌, ◌*◌, ◌/◌, ◌%◌, ◌^◌, ◌==◌, ℕ, zero, suc, true, false, cond, min, List, [], ◌∷◌, Option, Some, None, refl, sym, ap, ◌∙◌, subst, inl, inr, ⊎_elim, arith}
 use Rattle.std.specs.Prelude.{◌⊎◌}
 use Rattle.std.specs.Int.{bit_at}
 use Rattle.std.specs.Int.Bits.{bit_and, bit_xor}
-use Rattle.std.proofs.Math.Nat.{mod-lt, mod-eq_of_lt}
+use Rattle.std.proofs.Math.Nat.{mod-lt}
 use Rattle.std.proofs.lemmas.Bool.{cases_Bool, cases_lt, eqb-false, eqb-true}
-use Rattle.std.proofs.lemmas.Nat.{pow_pos, pow_below}
-use Rattle.std.proofs.lemmas.Nat.Bits.{bit_at_and, bit_at_above, bit_at_cat_high, bit_at_cat_low, bit_at_xor, bit_at-lt, bit_at-zero, same_from_bits, same_from_bits_below}
+use Rattle.std.proofs.lemmas.Nat.{pow_pos}
+use Rattle.std.proofs.lemmas.Nat.Bits.{bit_at_and, bit_at_above, bit_at_cat_high, bit_at_cat_low, bit_at_xor, bit_at-lt, same_from_bits, same_from_bits_below}
 use Rattle.occ_base.specs.declared.names.Name.{Name}
 use Rattle.occ_base.specs.declared.width.Width.{Width}
 use Rattle.occ_base.specs.Width.{bits_of}
 use Rattle.occ_syntax.specs.declared.scope.Kind.{Kind}
 use Rattle.occ_syntax.specs.declared.scope.Kind.TheVariants.{Var, Chan}
-use Rattle.occ_syntax.specs.Scopes.{Values, with_value}
-use Rattle.occ_syntax.specs.Types.{scope_kept}
+use Rattle.occ_syntax.specs.Scopes.{with_value}
 use Rattle.occ_bits.specs.Layout.{IsLayout, entry_of, laid_out, scope_in, state_of}
 use Rattle.occ_bits.proofs.Arithmetic.{higher_bit, low_bit}
-use Rattle.occ_bits.proofs.Laid.{found_state, found_within, same_pair}
+use Rattle.occ_bits.proofs.Laid.{found_state, same_pair}
 use Rattle.occ_diagram.specs.Assignment.{with_bit}
 use Rattle.occ_diagram.proofs.Bits.{bit_at-with_bit_other, bit_at-with_bit_same, with_bit_lt}
 use Rattle.occ_frame.specs.After.{change_of}
@@ -56,8 +55,8 @@ placed_in first zero v x k h = absurd (omega arith)
 placed_in first (suc n) v x k h = ⊎_elim
     (λ (l : k < n). bit_at-with_bit_other (placed first n v x) (first + n) (bit_at v n) (first + k) (λ e. omega arith) ∙ placed_in first n v x k l)
     (λ (l : n ≤ k).
-        let e : k ≡ n = omega arith in
-        ap (λ j. bit_at (placed first (suc n) v x) (first + j)) e ∙ bit_at-with_bit_same (placed first n v x) (first + n) (bit_at v n) (bit_at-lt v n) ∙ sym (ap (bit_at v) e))
+    let e : k ≡ n = omega arith in
+    ap (λ j. bit_at (placed first (suc n) v x) (first + j)) e ∙ bit_at-with_bit_same (placed first n v x) (first + n) (bit_at v n) (bit_at-lt v n) ∙ sym (ap (bit_at v) e))
     (cases_lt k n)
 
 pub placed_small : (first n v x : ℕ) → first + n ≤ 64 → x < 2 ^ 64 → placed first n v x < 2 ^ 64
@@ -87,19 +86,19 @@ laid_apart a [] y z w f v g ne d e = absurd (cc)
 laid_apart a ((n, Chan u d) ∷ scope) y z w f v g ne c e = laid_apart a scope y z w f v g ne c e
 laid_apart a ((n, Var u) ∷ scope) y z w f v g ne d e = ⊎_elim
     (λ (s : (y == n.0) ≡ true). ⊎_elim
-        (λ (t : (z == n.0) ≡ true). absurd (ne (eqb-true y n.0 s ∙ sym (eqb-true z n.0 t))))
-        (λ (t : (z == n.0) ≡ false).
-            let sum : a + bits_of u ≡ f + bits_of w = here_is a n.0 u (laid_out (a + bits_of u) scope) y w f s d in
-            let from : a + bits_of u ≤ g = laid_from (a + bits_of u) scope z v g (later_is a n.0 u (laid_out (a + bits_of u) scope) z v g t e) in
-            inl (omega arith))
-        (cases_Bool (z == n.0)))
+    (λ (t : (z == n.0) ≡ true). absurd (ne (eqb-true y n.0 s ∙ sym (eqb-true z n.0 t))))
+    (λ (t : (z == n.0) ≡ false).
+    let sum : a + bits_of u ≡ f + bits_of w = here_is a n.0 u (laid_out (a + bits_of u) scope) y w f s d in
+    let from : a + bits_of u ≤ g = laid_from (a + bits_of u) scope z v g (later_is a n.0 u (laid_out (a + bits_of u) scope) z v g t e) in
+    inl (omega arith))
+    (cases_Bool (z == n.0)))
     (λ (s : (y == n.0) ≡ false). ⊎_elim
-        (λ (t : (z == n.0) ≡ true).
-            let sum : a + bits_of u ≡ g + bits_of v = here_is a n.0 u (laid_out (a + bits_of u) scope) z v g t e in
-            let from : a + bits_of u ≤ f = laid_from (a + bits_of u) scope y w f (later_is a n.0 u (laid_out (a + bits_of u) scope) y w f s d) in
-            inr (omega arith))
-        (λ (t : (z == n.0) ≡ false). laid_apart (a + bits_of u) scope y z w f v g ne (later_is a n.0 u (laid_out (a + bits_of u) scope) y w f s d) (later_is a n.0 u (laid_out (a + bits_of u) scope) z v g t e))
-        (cases_Bool (z == n.0)))
+    (λ (t : (z == n.0) ≡ true).
+    let sum : a + bits_of u ≡ g + bits_of v = here_is a n.0 u (laid_out (a + bits_of u) scope) z v g t e in
+    let from : a + bits_of u ≤ f = laid_from (a + bits_of u) scope y w f (later_is a n.0 u (laid_out (a + bits_of u) scope) y w f s d) in
+    inr (omega arith))
+    (λ (t : (z == n.0) ≡ false). laid_apart (a + bits_of u) scope y z w f v g ne (later_is a n.0 u (laid_out (a + bits_of u) scope) y w f s d) (later_is a n.0 u (laid_out (a + bits_of u) scope) z v g t e))
+    (cases_Bool (z == n.0)))
     (cases_Bool (y == n.0))
 
 pub entries_apart : (entries : List (Name × Width × ℕ)) → IsLayout entries → (y z : ℕ) (w : Width) (f : ℕ) (v : Width) (g : ℕ) → (y ≡ z → ⊥) → entry_of entries y ≡ Some (w, f) → entry_of entries z ≡ Some (v, g) → (f + bits_of w ≤ g) ⊎ (g + bits_of v ≤ f)
@@ -137,7 +136,7 @@ module _ (entries : List (Name × Width × ℕ)) (is : IsLayout entries) (var : 
   at_each : (z : ℕ) → state_of entries (placed f (bits_of w) v x) z ≡ with_value (state_of entries x) var v z
   at_each z = ⊎_elim
       (λ (t : (z == var) ≡ true). ap (state_of entries (placed f (bits_of w) v x)) (eqb-true z var t) ∙ found_state entries var w f (placed f (bits_of w) v x) there
-          ∙ same_number (placed f (bits_of w) v x) f (bits_of w) v small (λ k l. placed_in f (bits_of w) v x k l) ∙ sym (ap (λ b. cond b v (state_of entries x z)) t))
+      ∙ same_number (placed f (bits_of w) v x) f (bits_of w) v small (λ k l. placed_in f (bits_of w) v x k l) ∙ sym (ap (λ b. cond b v (state_of entries x z)) t))
       (λ (t : (z == var) ≡ false). at_other z (λ e. differ z e t) (entry_of entries z) refl ∙ sym (ap (λ b. cond b v (state_of entries x z)) t))
       (cases_Bool (z == var))
     where
@@ -152,9 +151,9 @@ row_cases : (first n k : ℕ) → ((j : ℕ) × (j < n) × (k ≡ first + j)) �
 row_cases first n k = ⊎_elim
     (λ (l : k < first). inr (inl l))
     (λ (l : first ≤ k). ⊎_elim
-        (λ (m : k < first + n). inl (k - first, omega arith, omega arith))
-        (λ (m : first + n ≤ k). inr (inr m))
-        (cases_lt k (first + n)))
+    (λ (m : k < first + n). inl (k - first, omega arith, omega arith))
+    (λ (m : first + n ≤ k). inr (inr m))
+    (cases_lt k (first + n)))
     (cases_lt k first)
 
 turned_bit : (z x v k : ℕ) → z < 2 → x < 2 → v < 2 → k < 2 → ((z + min x k) % 2 + min v k) % 2 ≡ (z + min ((x + v) % 2) k) % 2

@@ -1,14 +1,13 @@
 -- The inputs of a variable: one value, the values of one more digit, and all values of the channel.
-use Rattle.std.proofs.Common.{◌≡◌, ◌<◌, ◌≤◌, ◌+◌, ◌-◌, ◌*◌, ◌%◌, ◌^◌, ◌==◌, ◌&&◌, ℕ, zero, suc, Bool, true, false, cond, min, nat_lt, List, [], ◌∷◌, Option, Some, None, refl, sym, ap, ◌∙◌, subst, inl, inr, ⊎_elim, arith}
+use Rattle.std.proofs.Common.{◌≡◌, ◌<◌, ◌≤◌, ◌+◌, ◌-◌, ◌^◌, ℕ, suc, Bool, true, List, Option, Some, refl, sym, ap, ◌∙◌, subst, inl, inr, ⊎_elim, arith}
 use Rattle.std.specs.Prelude.{◌↔◌, ◌⊎◌}
-use Rattle.std.specs.Int.{bit_at}
-use Rattle.std.specs.Int.Bits.{bit_and, bit_xor}
+use Rattle.std.specs.Int.Bits.{bit_xor}
 use Rattle.std.proofs.lemmas.Bool.{cases_lt}
 use Rattle.std.proofs.lemmas.Option.{same_Some}
 use Rattle.occ_base.specs.declared.event.Event.{Event}
 use Rattle.occ_base.specs.declared.names.Name.{Name}
 use Rattle.occ_diagram.specs.Assignment.{with_bit}
-use Rattle.occ_mdd.specs.Maps.{IsMap, value}
+use Rattle.occ_mdd.specs.Maps.{value}
 use Rattle.occ_mdd.specs.declared.map.MapId.{MapId}
 use Rattle.occ_node.specs.World.{IsNode, fails, ends}
 use Rattle.occ_node.specs.declared.node.NodeId.{NodeId}
@@ -22,7 +21,7 @@ use Rattle.occ_base.specs.declared.width.Width.{Width}
 use Rattle.occ_syntax.specs.Scopes.{Environment}
 use Rattle.occ_syntax.specs.Tree.{Waiting}
 use Rattle.occ_frame.specs.After.{change_of}
-use Rattle.occ_guards.specs.Offering.{At, IsGuarded, IsOffering, Leads}
+use Rattle.occ_guards.specs.Offering.{At, IsGuarded, Leads}
 use Rattle.occ_guards.proofs.Joining.{leads_iff}
 use Rattle.occ_guards.proofs.Making.{offering_grow, offering_merged, offering_prefixed, offering_same}
 use Rattle.occ_guards.proofs.Placed.{placed_same, placed_small, top_high, top_low, top_rest}
@@ -37,7 +36,8 @@ on_two R a b c p q r h e f g = subst (λ c. OnTwo R (Some p) (Some q) c) g (subs
 pub at_iff : (w : World) (map other : MapId) (y z : ℕ) (B C : NodeId → Bool) → value w.maps map y ≡ value w.maps other z → ((m : NodeId) → B m ≡ C m) → At w map y B ↔ At w other z C
 at_iff w map other y z B C e f = (
   λ k. record { m = k.m; leads = sym e ∙ k.leads; behaved = sym (f k.m) ∙ k.behaved },
-  λ k. record { m = k.m; leads = e ∙ k.leads; behaved = f k.m ∙ k.behaved })
+  λ k. record { m = k.m; leads = e ∙ k.leads; behaved = f k.m ∙ k.behaved },
+)
 
 -- ---- one value
 module _ (w : World) (chan : Name) (first keep base : ℕ) (next : MapId) (x : ℕ) (m n a : NodeId) (there : value w.maps next x ≡ Some m) (turned : IsTurned w (digits_at first keep base) m n) (before : IsPrefixed w (input_event chan base) n a) where
@@ -56,8 +56,11 @@ module _ (w : World) (chan : Name) (first keep base : ℕ) (next : MapId) (x : �
   one_leads : (e : Event) (A : Bool) (B : ℕ → NodeId → Bool) → A ≡ B base m → ((e ≡ input_event chan base) × (A ≡ true)) ↔ LeadsInput chan first 0 base x e (λ v y. At w next y (B v))
   one_leads e A B same = (
     λ k. record { u = 0; below = omega arith; is = k.0 ∙ ap (input_event chan) nothing_more; behaved = record { m = m; leads = there; behaved = sym (same ∙ ap (λ v. B v m) nothing_more) ∙ k.1 } },
-    λ k. (k.is ∙ ap (input_event chan) (no_digit k.u k.below),
-      same ∙ (λ i. B (none_less k.u k.below i) (same_Some m k.behaved.m (sym there ∙ k.behaved.leads) i)) ∙ k.behaved.behaved))
+    λ k. (
+      k.is ∙ ap (input_event chan) (no_digit k.u k.below),
+      same ∙ (λ i. B (none_less k.u k.below i) (same_Some m k.behaved.m (sym there ∙ k.behaved.leads) i)) ∙ k.behaved.behaved,
+    ),
+  )
 
   pub one_input : AreInputsAt w chan first 0 keep base next x a
   one_input = offering_same w a _ _ _ _ _ _ (offering_prefixed w (input_event chan base) n a before)
@@ -73,7 +76,7 @@ one_inputs v w k chan first keep base change next turned r same has there shifte
       let n = there.nodes x h in
       let is : IsTurned v (digits_at first keep base) m.0 n.0 = subst (λ d. IsTurned v d m.0 n.0) same (on_one _ _ _ m.0 n.0 (shifted.related x h) m.1 n.1) in
       one_input w chan first keep base next x m.0 n.0 a (k.maps.same next x has.known ∙ m.1) (turned_grow v w k.grows (digits_at first keep base) m.0 n.0 is)
-        (on_one _ _ _ n.0 a (prefixed.related x h) (k.maps.same turned x there.known ∙ n.1) e);
+      (on_one _ _ _ n.0 a (prefixed.related x h) (k.maps.same turned x there.known ∙ n.1) e);
 }
 
 -- ---- one more digit
@@ -87,14 +90,15 @@ module _ (chan : Name) (first n base : ℕ) where
   both_takes : (e : Event) → (TakesInput chan n base e ⊎ TakesInput chan n (base + 2 ^ n) e) ↔ TakesInput chan (suc n) base e
   both_takes e = (
     ⊎_elim
-      (λ (k : TakesInput chan n base e). let b : k.u < 2 ^ n = k.below in record { u = k.u; below = omega (arith, half); is = k.is })
-      (λ (k : TakesInput chan n (base + 2 ^ n) e). let b : k.u < 2 ^ n = k.below in record { u = 2 ^ n + k.u; below = omega (arith, half); is = k.is ∙ ap (input_event chan) (shifted_sum k.u) }),
+        (λ (k : TakesInput chan n base e). let b : k.u < 2 ^ n = k.below in record { u = k.u; below = omega (arith, half); is = k.is })
+        (λ (k : TakesInput chan n (base + 2 ^ n) e). let b : k.u < 2 ^ n = k.below in record { u = 2 ^ n + k.u; below = omega (arith, half); is = k.is ∙ ap (input_event chan) (shifted_sum k.u) }),
     λ k. let b : k.u < 2 ^ suc n = k.below in ⊎_elim
-      (λ (l : k.u < 2 ^ n). inl (record { u = k.u; below = l; is = k.is }))
-      (λ (l : 2 ^ n ≤ k.u).
+        (λ (l : k.u < 2 ^ n). inl (record { u = k.u; below = l; is = k.is }))
+        (λ (l : 2 ^ n ≤ k.u).
         let e : base + k.u ≡ base + 2 ^ n + (k.u - 2 ^ n) = omega arith in
         inr (record { u = k.u - 2 ^ n; below = omega (arith, half); is = k.is ∙ ap (input_event chan) e }))
-      (cases_lt k.u (2 ^ n)))
+        (cases_lt k.u (2 ^ n)),
+  )
 
   -- the digits of a number, by its highest
   low_place : (u x : ℕ) → u < 2 ^ n → placed first (suc n) u x ≡ with_bit (placed first n u x) (first + n) 0
@@ -107,25 +111,34 @@ module _ (chan : Name) (first n base : ℕ) where
       → (LeadsInput chan first n base x e P ⊎ LeadsInput chan first n (base + 2 ^ n) x e Q) ↔ LeadsInput chan first (suc n) base x e R
   both_leads x e P Q R f g = (
     ⊎_elim
-      (λ (k : LeadsInput chan first n base x e P). let b : k.u < 2 ^ n = k.below in record {
-        u = k.u; below = omega (arith, half); is = k.is;
-        behaved = subst (R (base + k.u)) (sym (low_place k.u x k.below)) ((f (base + k.u) (placed first n k.u x)).0 k.behaved);
-      })
-      (λ (k : LeadsInput chan first n (base + 2 ^ n) x e Q). let b : k.u < 2 ^ n = k.below in record {
-        u = 2 ^ n + k.u; below = omega (arith, half); is = k.is ∙ ap (input_event chan) (shifted_sum k.u);
-        behaved = subst (R (base + (2 ^ n + k.u))) (sym (high_place k.u x k.below)) (subst (λ v. R v (with_bit (placed first n k.u x) (first + n) 1)) (shifted_sum k.u) ((g (base + 2 ^ n + k.u) (placed first n k.u x)).0 k.behaved));
-      }),
+        (λ (k : LeadsInput chan first n base x e P). let b : k.u < 2 ^ n = k.below in record {
+          u = k.u;
+          below = omega (arith, half);
+          is = k.is;
+          behaved = subst (R (base + k.u)) (sym (low_place k.u x k.below)) ((f (base + k.u) (placed first n k.u x)).0 k.behaved);
+        })
+        (λ (k : LeadsInput chan first n (base + 2 ^ n) x e Q). let b : k.u < 2 ^ n = k.below in record {
+          u = 2 ^ n + k.u;
+          below = omega (arith, half);
+          is = k.is ∙ ap (input_event chan) (shifted_sum k.u);
+          behaved = subst (R (base + (2 ^ n + k.u))) (sym (high_place k.u x k.below)) (subst (λ v. R v (with_bit (placed first n k.u x) (first + n) 1)) (shifted_sum k.u) ((g (base + 2 ^ n + k.u) (placed first n k.u x)).0 k.behaved));
+        }),
     λ k. let b : k.u < 2 ^ suc n = k.below in ⊎_elim
-      (λ (l : k.u < 2 ^ n). inl (record { u = k.u; below = l; is = k.is; behaved = (f (base + k.u) (placed first n k.u x)).1 (subst (R (base + k.u)) (low_place k.u x l) k.behaved) }))
-      (λ (l : 2 ^ n ≤ k.u).
+        (λ (l : k.u < 2 ^ n). inl (record { u = k.u; below = l; is = k.is; behaved = (f (base + k.u) (placed first n k.u x)).1 (subst (R (base + k.u)) (low_place k.u x l) k.behaved) }))
+        (λ (l : 2 ^ n ≤ k.u).
         let d : ℕ = k.u - 2 ^ n in
         let whole : k.u ≡ 2 ^ n + (k.u - 2 ^ n) = omega arith in
         let less : k.u - 2 ^ n < 2 ^ n = omega (arith, half) in
         let e : base + k.u ≡ base + 2 ^ n + (k.u - 2 ^ n) = omega arith in
-        inr (record { u = k.u - 2 ^ n; below = less; is = k.is ∙ ap (input_event chan) e;
+        inr (record {
+          u = k.u - 2 ^ n;
+          below = less;
+          is = k.is ∙ ap (input_event chan) e;
           behaved = (g (base + 2 ^ n + (k.u - 2 ^ n)) (placed first n (k.u - 2 ^ n) x)).1
-            (subst (λ v. R v (with_bit (placed first n (k.u - 2 ^ n) x) (first + n) 1)) e (subst (R (base + k.u)) (ap (λ u. placed first (suc n) u x) whole ∙ high_place (k.u - 2 ^ n) x less) k.behaved)) }))
-      (cases_lt k.u (2 ^ n)))
+              (subst (λ v. R v (with_bit (placed first n (k.u - 2 ^ n) x) (first + n) 1)) e (subst (R (base + k.u)) (ap (λ u. placed first (suc n) u x) whole ∙ high_place (k.u - 2 ^ n) x less) k.behaved));
+        }))
+        (cases_lt k.u (2 ^ n)),
+  )
 
 module _ (w : World) (chan : Name) (first n keep base : ℕ) (next zero_side one_side low high r : MapId)
     (on_zero : (y : ℕ) → value w.maps zero_side y ≡ value w.maps next (with_bit y (first + n) 0)) (on_one_side : (y : ℕ) → value w.maps one_side y ≡ value w.maps next (with_bit y (first + n) 1))
@@ -137,13 +150,13 @@ module _ (w : World) (chan : Name) (first n keep base : ℕ) (next zero_side one
         let a = has_low.nodes x h in
         let b = has_high.nodes x h in
         offering_same w c _ _ _ _ _ _ (offering_merged w a.0 b.0 c _ _ _ _ _ _ (lows.inputs x a.0 h a.1) (highs.inputs x b.0 h b.1) (on_two _ _ _ _ a.0 b.0 c (joint.related x h) a.1 b.1 e))
-          (both_takes chan first n base)
-          (λ f t X. both_leads chan first n base x f _ _ _
-            (λ v y. at_iff w zero_side next y (with_bit y (first + n) 0) (λ m. fails w m t X) (λ m. fails w m t X) (on_zero y) (λ m. refl))
-            (λ v y. at_iff w one_side next y (with_bit y (first + n) 1) (λ m. fails w m t X) (λ m. fails w m t X) (on_one_side y) (λ m. refl)))
-          (λ f t z small. both_leads chan first n base x f _ _ _
-            (λ v y. at_iff w zero_side next y (with_bit y (first + n) 0) (λ m. ends w m t (bit_xor z (digits_at first keep v))) (λ m. ends w m t (bit_xor z (digits_at first keep v))) (on_zero y) (λ m. refl))
-            (λ v y. at_iff w one_side next y (with_bit y (first + n) 1) (λ m. ends w m t (bit_xor z (digits_at first keep v))) (λ m. ends w m t (bit_xor z (digits_at first keep v))) (on_one_side y) (λ m. refl)));
+        (both_takes chan first n base)
+        (λ f t X. both_leads chan first n base x f _ _ _
+        (λ v y. at_iff w zero_side next y (with_bit y (first + n) 0) (λ m. fails w m t X) (λ m. fails w m t X) (on_zero y) (λ m. refl))
+        (λ v y. at_iff w one_side next y (with_bit y (first + n) 1) (λ m. fails w m t X) (λ m. fails w m t X) (on_one_side y) (λ m. refl)))
+        (λ f t z small. both_leads chan first n base x f _ _ _
+        (λ v y. at_iff w zero_side next y (with_bit y (first + n) 0) (λ m. ends w m t (bit_xor z (digits_at first keep v))) (λ m. ends w m t (bit_xor z (digits_at first keep v))) (on_zero y) (λ m. refl))
+        (λ v y. at_iff w one_side next y (with_bit y (first + n) 1) (λ m. ends w m t (bit_xor z (digits_at first keep v))) (λ m. ends w m t (bit_xor z (digits_at first keep v))) (on_one_side y) (λ m. refl)));
   }
 
   pub inputs_more : (left : ℕ) → suc n ≡ left → AreInputs w chan first left keep base next r
@@ -154,7 +167,8 @@ module _ (v w : World) (k : Extends v w) (next : MapId) (has : HasNodes v next) 
   pub at_grow : (y : ℕ) → y < 2 ^ 64 → (B C : NodeId → Bool) → ((m : NodeId) → IsNode v m → C m ≡ B m) → At v next y B ↔ At w next y C
   at_grow y h B C f = (
     λ a. record { m = a.m; leads = k.maps.same next y has.known ∙ a.leads; behaved = f a.m (node y h a.m a.leads) ∙ a.behaved },
-    λ a. let led : value v.maps next y ≡ Some a.m = sym (k.maps.same next y has.known) ∙ a.leads in record { m = a.m; leads = led; behaved = sym (f a.m (node y h a.m led)) ∙ a.behaved })
+    λ a. let led : value v.maps next y ≡ Some a.m = sym (k.maps.same next y has.known) ∙ a.leads in record { m = a.m; leads = led; behaved = sym (f a.m (node y h a.m led)) ∙ a.behaved },
+  )
     where
       node : (y : ℕ) → y < 2 ^ 64 → (m : NodeId) → value v.maps next y ≡ Some m → IsNode v m
       node y h m e = let found = has.nodes y h in subst (IsNode v) (same_Some found.0 m (sym found.1 ∙ e)) found.2
@@ -163,16 +177,17 @@ module _ (v w : World) (k : Extends v w) (next : MapId) (has : HasNodes v next) 
       → LeadsInput chan first left base x e (λ u y. At v next y (B u)) ↔ LeadsInput chan first left base x e (λ u y. At w next y (C u))
   input_leads chan first left base x fits h e B C f = (
     λ l. record { u = l.u; below = l.below; is = l.is; behaved = (at_grow (placed first left l.u x) (placed_small first left l.u x fits h) (B (base + l.u)) (C (base + l.u)) (f (base + l.u))).0 l.behaved },
-    λ l. record { u = l.u; below = l.below; is = l.is; behaved = (at_grow (placed first left l.u x) (placed_small first left l.u x fits h) (B (base + l.u)) (C (base + l.u)) (f (base + l.u))).1 l.behaved })
+    λ l. record { u = l.u; below = l.below; is = l.is; behaved = (at_grow (placed first left l.u x) (placed_small first left l.u x fits h) (B (base + l.u)) (C (base + l.u)) (f (base + l.u))).1 l.behaved },
+  )
 
   pub inputs_grow : (chan : Name) (first left keep base : ℕ) (r : MapId) → first + left ≤ 64 → HasNodes v r → AreInputs v chan first left keep base next r → AreInputs w chan first left keep base next r
   inputs_grow chan first left keep base r fits hr is = record {
     inputs = λ x a h e.
         let was : value v.maps r x ≡ Some a = sym (k.maps.same r x hr.known) ∙ e in
         offering_same w a _ _ _ _ _ _ (offering_grow v w k.grows a _ _ _ (is.inputs x a h was))
-          (λ f. (λ l. l, λ l. l))
-          (λ f t X. input_leads chan first left base x fits h f (λ u m. fails v m t X) (λ u m. fails w m t X) (λ u m l. k.grows.same_fails m t X l))
-          (λ f t z small. input_leads chan first left base x fits h f (λ u m. ends v m t (bit_xor z (digits_at first keep u))) (λ u m. ends w m t (bit_xor z (digits_at first keep u))) (λ u m l. k.grows.same_ends m t (bit_xor z (digits_at first keep u)) l));
+        (λ f. (λ l. l, λ l. l))
+        (λ f t X. input_leads chan first left base x fits h f (λ u m. fails v m t X) (λ u m. fails w m t X) (λ u m l. k.grows.same_fails m t X l))
+        (λ f t z small. input_leads chan first left base x fits h f (λ u m. ends v m t (bit_xor z (digits_at first keep u))) (λ u m. ends w m t (bit_xor z (digits_at first keep u))) (λ u m l. k.grows.same_ends m t (bit_xor z (digits_at first keep u)) l));
   }
 
   guard_leads : (layout : List (Name × Width × ℕ)) (closed : List Name) (Γ : Environment) (wait : Waiting) (x : ℕ) (e : Event) (B C : ℕ → NodeId → Bool) → ((y : ℕ) (m : NodeId) → IsNode v m → C y m ≡ B y m)
@@ -184,7 +199,7 @@ module _ (v w : World) (k : Extends v w) (next : MapId) (has : HasNodes v next) 
     guarded = λ x a h e.
         let was : value v.maps r x ≡ Some a = sym (k.maps.same r x hr.known) ∙ e in
         offering_same w a _ _ _ _ _ _ (offering_grow v w k.grows a _ _ _ (is.guarded x a h was))
-          (λ f. (λ l. l, λ l. l))
-          (λ f t X. guard_leads layout closed Γ wait x f (λ y m. fails v m t X) (λ y m. fails w m t X) (λ y m l. k.grows.same_fails m t X l))
-          (λ f t z small. guard_leads layout closed Γ wait x f (λ y m. ends v m t (bit_xor z (change_of keep x y))) (λ y m. ends w m t (bit_xor z (change_of keep x y))) (λ y m l. k.grows.same_ends m t (bit_xor z (change_of keep x y)) l));
+        (λ f. (λ l. l, λ l. l))
+        (λ f t X. guard_leads layout closed Γ wait x f (λ y m. fails v m t X) (λ y m. fails w m t X) (λ y m l. k.grows.same_fails m t X l))
+        (λ f t z small. guard_leads layout closed Γ wait x f (λ y m. ends v m t (bit_xor z (change_of keep x y))) (λ y m. ends w m t (bit_xor z (change_of keep x y))) (λ y m l. k.grows.same_ends m t (bit_xor z (change_of keep x y)) l));
   }

@@ -1,5 +1,5 @@
 -- What each step on maps has of its parts, in the world at the end.
-use Rattle.std.proofs.Common.{◌≡◌, ◌<◌, ◌≤◌, ◌+◌, ◌*◌, ◌%◌, ◌^◌, ◌==◌, ◌&&◌, ◌++◌, ℕ, zero, suc, Bool, true, false, cond, min, not, length, get_or, take, List, [], ◌∷◌, Option, Some, None, refl, sym, ap, ◌∙◌, subst, inl, inr, ⊎_elim, arith}
+use Rattle.std.proofs.Common.{◌≡◌, ◌<◌, ◌≤◌, ◌+◌, ◌*◌, ◌^◌, ◌==◌, ◌&&◌, ◌++◌, ℕ, suc, Bool, true, false, cond, min, not, length, get_or, take, List, [], ◌∷◌, Some, None, sym, ap, ◌∙◌, subst, ⊎_elim, arith}
 use Rattle.std.specs.Prelude.{◌⊎◌, if◌then◌else◌, nat_le, nat_lt}
 use Rattle.std.specs.Int.{bit_at}
 use Rattle.std.specs.Int.Bits.{bit_and}
@@ -7,18 +7,16 @@ use Rattle.std.specs.List.{All}
 use Rattle.std.proofs.lemmas.Bool.{and_from, and_left, and_right, cases_Bool, cases_lt, eqb-true, le-leb, lt-leb, le-ltb, lt-ltb}
 use Rattle.std.proofs.lemmas.List.{length-take-le, take_more}
 use Rattle.std.proofs.lemmas.List.Elements.{All-take}
-use Rattle.std.proofs.lemmas.Nat.{and_le_r, one_shl}
 use Rattle.std.proofs.lemmas.Nat.Bits.{bit_at-lt, bit_at_above, bit_at_and}
 use Rattle.std.proofs.lemmas.Option.{same_Some}
-use Rattle.occ_base.specs.declared.event.Event.{Event}
 use Rattle.occ_base.specs.declared.names.Name.{Name}
 use Rattle.occ_bits.specs.Words.{digit, number_at}
-use Rattle.occ_bits.proofs.Numbers.{digit-keeps, number-keeps, number-push}
-use Rattle.occ_dd.specs.Store.{IsKnown as IsSetKnown, IsSet, Keeps, has}
+use Rattle.occ_bits.proofs.Numbers.{number-keeps, number-push}
+use Rattle.occ_dd.specs.Store.{IsKnown as IsSetKnown, IsSet, has}
 use Rattle.occ_dd.specs.declared.set.SetId.{SetId}
 use Rattle.occ_dd.specs.declared.store.Store.{Store}
 use Rattle.occ_diagram.specs.Assignment.{with_bit}
-use Rattle.occ_mdd.specs.Maps.{IsKnown, IsMap, value}
+use Rattle.occ_mdd.specs.Maps.{IsMap, value}
 use Rattle.occ_mdd.specs.declared.map.MapId.{MapId}
 use Rattle.occ_node.specs.declared.node.NodeId.{NodeId}
 use Rattle.occ_node.specs.declared.world.World.{World}
@@ -46,11 +44,11 @@ inputs_from u a b c d e ka kb kc kd ke chan first left n keep base above next ze
     let hzc = has_nodes-extends a c (extends_trans a b c kb kc) zero_side hz in
     let hod = has_nodes-extends b d (extends_trans b c d kc kd) one_side ho in
     inputs_more e chan first n keep base next zero_side one_side low high r
-      (λ y. ae.maps.same zero_side y is_zero.known ∙ is_zero.values y ∙ sym (ue.maps.same next (with_bit y (first + n) 0) has.known))
-      (λ y. be.maps.same one_side y is_one.known ∙ is_one.values y ∙ ka.maps.same next (with_bit y (first + n) 1) has.known ∙ sym (ue.maps.same next (with_bit y (first + n) 1) has.known))
-      (inputs_grow c e ce zero_side hzc chan first n keep base low n_fits hl lows)
-      (subst (λ v. AreInputs e chan first n keep v one_side high) is_above (inputs_grow d e ke one_side hod chan first n keep above high n_fits hh highs))
-      (has_nodes-extends c e ce low hl) (has_nodes-extends d e ke high hh) joint left more
+    (λ y. ae.maps.same zero_side y is_zero.known ∙ is_zero.values y ∙ sym (ue.maps.same next (with_bit y (first + n) 0) has.known))
+    (λ y. be.maps.same one_side y is_one.known ∙ is_one.values y ∙ ka.maps.same next (with_bit y (first + n) 1) has.known ∙ sym (ue.maps.same next (with_bit y (first + n) 1) has.known))
+    (inputs_grow c e ce zero_side hzc chan first n keep base low n_fits hl lows)
+    (subst (λ v. AreInputs e chan first n keep v one_side high) is_above (inputs_grow d e ke one_side hod chan first n keep above high n_fits hh highs))
+    (has_nodes-extends c e ce low hl) (has_nodes-extends d e ke high hh) joint left more
 
 -- ---- the bits of a variable among those that matter
 module _ (keep row first n : ℕ) (fits : first + n ≤ 64) (is : (k : ℕ) → k < 64 → bit_at row k ≡ (if nat_le first k && nat_lt k (first + n) then 1 else 0)) (small : keep < 2 ^ 64) where
@@ -58,27 +56,27 @@ module _ (keep row first n : ℕ) (fits : first + n ≤ 64) (is : (k : ℕ) → 
   row_inside j h =
       let one : bit_at row (first + j) ≡ 1 = is (first + j) (omega arith) ∙ ap (λ (b : Bool). cond b 1 0) (and_from (nat_le first (first + j)) (nat_lt (first + j) (first + n)) (le-leb first (first + j) (omega arith)) (lt-ltb (first + j) (first + n) (omega arith))) in
       bit_at_and keep row (first + j) ∙ ap (min (bit_at keep (first + j))) one ∙ only_one (bit_at keep (first + j)) (bit_at-lt keep (first + j))
-      where
-        only_one : (a : ℕ) → a < 2 → min a 1 ≡ a
-        only_one a h = omega arith
+    where
+      only_one : (a : ℕ) → a < 2 → min a 1 ≡ a
+      only_one a h = omega arith
 
   pub row_outside : (k : ℕ) → (k < first) ⊎ (first + n ≤ k) → bit_at (bit_and keep row) k ≡ 0
   row_outside k out = bit_at_and keep row k ∙ ⊎_elim
       (λ (l : k < 64). ap (min (bit_at keep k)) (none l) ∙ nothing (bit_at keep k))
       (λ (l : 64 ≤ k). ap (λ m. min m (bit_at row k)) (bit_at_above keep 64 k small l) ∙ nothing_first (bit_at row k))
       (cases_lt k 64)
-      where
-        nothing : (a : ℕ) → min a 0 ≡ 0
-        nothing a = omega arith
+    where
+      nothing : (a : ℕ) → min a 0 ≡ 0
+      nothing a = omega arith
 
-        nothing_first : (a : ℕ) → min 0 a ≡ 0
-        nothing_first a = omega arith
+      nothing_first : (a : ℕ) → min 0 a ≡ 0
+      nothing_first a = omega arith
 
-        none : k < 64 → bit_at row k ≡ 0
-        none l = is k l ∙ ap (λ (b : Bool). cond b 1 0) (⊎_elim
-            (λ (m : k < first). and_left (nat_le first k) (nat_lt k (first + n)) (lt-leb first k m))
-            (λ (m : first + n ≤ k). and_right (nat_le first k) (nat_lt k (first + n)) (le-ltb k (first + n) m))
-            out)
+      none : k < 64 → bit_at row k ≡ 0
+      none l = is k l ∙ ap (λ (b : Bool). cond b 1 0) (⊎_elim
+          (λ (m : k < first). and_left (nat_le first k) (nat_lt k (first + n)) (lt-leb first k m))
+          (λ (m : first + n ≤ k). and_right (nat_le first k) (nat_lt k (first + n)) (le-ltb k (first + n) m))
+          out)
 
 -- ---- outputs
 pub empty_set : (s : Store) (a b : SetId) → IsSet s b (λ x. false) → (a.0 == b.0) ≡ true → (x : ℕ) → has s a x ≡ false
@@ -148,13 +146,13 @@ module _ (u b c d e : World) (kb : Extends u b) (kc : Extends b c) (kd : Extends
   output_at : (x : ℕ) (m a : NodeId) → x < 2 ^ 64 → has u.store set x ≡ true → value e.maps next x ≡ Some m → value e.maps r x ≡ Some a → IsPrefixed e (output_event chan (base + number_at u.store (take left digits) x)) m a
   output_at x m a h on there at = ⊎_elim
       (λ (t : has u.store one_digit x ≡ true).
-          let led : value c.maps high x ≡ Some a = sym (kd.maps.same high x hh.known) ∙ sym (side_is x true t) ∙ at in
-          subst (λ v. IsPrefixed e (output_event chan v) m a) (high_value x t)
-            (prefixed_later c e (extends_trans c d e kd ke).grows _ m a (highs.outputs x m a h (with_is x ∙ and_from (has u.store set x) (has u.store one_digit x) on t) (next_was c uc (extends_trans c d e kd ke) x m there) led)))
+      let led : value c.maps high x ≡ Some a = sym (kd.maps.same high x hh.known) ∙ sym (side_is x true t) ∙ at in
+      subst (λ v. IsPrefixed e (output_event chan v) m a) (high_value x t)
+      (prefixed_later c e (extends_trans c d e kd ke).grows _ m a (highs.outputs x m a h (with_is x ∙ and_from (has u.store set x) (has u.store one_digit x) on t) (next_was c uc (extends_trans c d e kd ke) x m there) led)))
       (λ (t : has u.store one_digit x ≡ false).
-          let led : value d.maps low x ≡ Some a = sym (side_is x false t) ∙ at in
-          subst (λ v. IsPrefixed e (output_event chan v) m a) (low_value x t)
-            (prefixed_later d e ke.grows _ m a (lows.outputs x m a h (outside_is x ∙ and_from (has u.store set x) (not (has u.store one_digit x)) on (ap not t)) (next_was d ud ke x m there) led)))
+      let led : value d.maps low x ≡ Some a = sym (side_is x false t) ∙ at in
+      subst (λ v. IsPrefixed e (output_event chan v) m a) (low_value x t)
+      (prefixed_later d e ke.grows _ m a (lows.outputs x m a h (outside_is x ∙ and_from (has u.store set x) (not (has u.store one_digit x)) on (ap not t)) (next_was d ud ke x m there) led)))
       (cases_Bool (has u.store one_digit x))
 
   pub outputs_more : AreOutputs e chan (has u.store set) (λ x. base + number_at u.store (take left digits) x) next r

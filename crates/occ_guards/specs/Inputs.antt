@@ -1,5 +1,5 @@
 -- The inputs of the values of some digits, and the outputs of a value, each with what comes after it.
-use Rattle.std.specs.Prelude.{ℕ, zero, suc, ◌+◌, ◌*◌, ◌%◌, ◌<◌, ◌≡◌, ◌^◌, Bool, true, Some, List, bit_and, bit_xor}
+use Rattle.std.specs.Prelude.{ℕ, zero, suc, ◌+◌, ◌*◌, ◌%◌, ◌<◌, ◌≡◌, ◌^◌, Bool, true, Some, bit_and, bit_xor}
 use Rattle.std.specs.Int.{bit_at}
 use Rattle.occ_base.specs.declared.event.Dir.TheVariants.{Input, Output}
 use Rattle.occ_base.specs.declared.event.Event.{Event}

@@ -1,4 +1,4 @@
-use Rattle.std.proofs.Common.{◌≡◌, ◌≤◌, ◌<◌, ◌+◌, ◌-◌, ◌^◌, ℕ, sym, subst, arith}
+use Rattle.std.proofs.Common.{◌≤◌, ◌-◌, arith}
 use Rattle.std.proofs.lemmas.Result.{IfOk-weaker}
 use Rattle.occ_lift.proofs.Worlds.{has_nodes-extends}
 use Rattle.occ_lift.specs.Lifted.{IsMerged, OnTwo}
@@ -24,12 +24,12 @@ returns-clause-inputs t c =
     (λ r. Lifts c.merged.new.world c.in_ok-low.low c.in_ok-high.high r (OnTwo (IsMerged c.merged.new.world)))
     (λ r. AreInputs c.merged.new.world c.args.inputs.chan c.args.inputs.first c.args.left c.args.inputs.keep c.args.value c.args.next r)
     (λ r is. inputs_from c.args.world.now c.cofactor.new.world c.cofactor-2.new.world c.input_from.new.world c.input_from-2.new.world c.merged.new.world
-        c.cofactor.ensures.extends c.cofactor-2.ensures.extends c.input_from.ensures.extends c.input_from-2.ensures.extends c.merged.ensures.extends
-        c.args.inputs.chan c.args.inputs.first c.args.left (c.args.left - 1) c.args.inputs.keep c.args.value _ c.args.next c.in_ok-zero.zero c.in_ok-one.one c.in_ok-low.low c.in_ok-high.high r
-        (one_more c.args.left some) (above_is c.args.value c.args.left some c.requires.left) c.requires.first c.requires.next
-        c.in_ok-zero.ensures.map c.in_ok-one.ensures.map (c.in_ok-zero.ensures.nodes c.requires.next)
-        (c.in_ok-one.ensures.nodes (has_nodes-extends c.args.world.now c.cofactor.new.world c.cofactor.ensures.extends c.args.next c.requires.next))
-        c.in_ok-low.ensures.inputs c.in_ok-high.ensures.inputs c.in_ok-low.ensures.nodes c.in_ok-high.ensures.nodes is)
+    c.cofactor.ensures.extends c.cofactor-2.ensures.extends c.input_from.ensures.extends c.input_from-2.ensures.extends c.merged.ensures.extends
+    c.args.inputs.chan c.args.inputs.first c.args.left (c.args.left - 1) c.args.inputs.keep c.args.value _ c.args.next c.in_ok-zero.zero c.in_ok-one.one c.in_ok-low.low c.in_ok-high.high r
+    (one_more c.args.left some) (above_is c.args.value c.args.left some c.requires.left) c.requires.first c.requires.next
+    c.in_ok-zero.ensures.map c.in_ok-one.ensures.map (c.in_ok-zero.ensures.nodes c.requires.next)
+    (c.in_ok-one.ensures.nodes (has_nodes-extends c.args.world.now c.cofactor.new.world c.cofactor.ensures.extends c.args.next c.requires.next))
+    c.in_ok-low.ensures.inputs c.in_ok-high.ensures.inputs c.in_ok-low.ensures.nodes c.in_ok-high.ensures.nodes is)
     c.merged.ensures.merged
 
 pub overflow_add-value : goal.overflow_add-value

@@ -1,6 +1,5 @@
-use Rattle.std.proofs.Common.{◌≡◌, ◌≤◌, ◌<◌, ◌+◌, ◌++◌, [], ◌∷◌, List, length, get_or, refl, sym, ap, ◌∙◌, subst, arith}
-use Rattle.occ_lift.proofs.Worlds.{extends_refl, extends_trans, has_nodes-extends, may_have, may_have-extends}
-use Rattle.occ_frame.proofs.Keeping.{keep-extends, keep_learnt, keep_none, none_may, set-extends, sets-extend}
+use Rattle.std.proofs.Common.{refl}
+use Rattle.occ_lift.proofs.Worlds.{extends_trans, has_nodes-extends, may_have-extends}
 use Rattle.occ_guards.proofs.Steps.{offered_from}
 use Rattle.occ_guards.proofs.choice.Alternation.offering.Goals as goal
 
@@ -14,5 +13,8 @@ pub returns-clause-ready : goal.returns-clause-ready
 returns-clause-ready c = (may_have-extends c.args.world.now c.merged.new.world (extends_trans c.args.world.now c.choose.new.world c.merged.new.world (extends_trans c.args.world.now c.stop.new.world c.choose.new.world c.stop.ensures.extends c.choose.ensures.extends) c.merged.ensures.extends) c.args.self.ready c.requires.ready)
 
 pub returns-clause-offered : goal.returns-clause-offered
-returns-clause-offered c = (refl, offered_from c.args.world.now c.stop.new.world c.choose.new.world c.merged.new.world c.stop.ensures.extends c.choose.ensures.extends c.merged.ensures.extends c.args.enabled c.requires.enabled
-    c.args.self.waiting c.args.offered c.in_ok-stopped.stopped c.in_ok-there.there c.in_ok-waiting.waiting c.requires.offered c.in_ok-stopped.ensures.stop c.in_ok-there.ensures.map c.in_ok-waiting.ensures.merged)
+returns-clause-offered c = (
+  refl,
+  offered_from c.args.world.now c.stop.new.world c.choose.new.world c.merged.new.world c.stop.ensures.extends c.choose.ensures.extends c.merged.ensures.extends c.args.enabled c.requires.enabled
+      c.args.self.waiting c.args.offered c.in_ok-stopped.stopped c.in_ok-there.there c.in_ok-waiting.waiting c.requires.offered c.in_ok-stopped.ensures.stop c.in_ok-there.ensures.map c.in_ok-waiting.ensures.merged,
+)
