@@ -127,7 +127,7 @@ settled (Compared table verdict) first second start between names p q e r s c on
       accepted = record { between = between; first = accepted_start first one start between p e r l; second = accepted_file second two between names q s k };
       one_interface = c.1.one_interface;
       right = c.1.right;
-      least = c.1.least;
+      first = c.1.first;
     })
 
 pub settle : (r : Result Answer Memory) (first second : Loaded) (start between names : List (List ℕ)) (p q : Program) → start ≡ [] → IsAcceptedFrom first start between p

@@ -5,5 +5,4 @@ pub mod Once
 pub mod OneAnswer
 pub mod Known
 pub mod Accepting
-pub mod Straightness
 pub mod Named

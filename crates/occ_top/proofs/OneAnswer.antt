@@ -1,6 +1,5 @@
--- A command line over the same files has one answer, where it isn't a verdict that nothing is said of.
-use Rattle.std.proofs.Common.{◌≡◌, ◌⊎◌, inl, inr, ℕ, Bool, true, false, List, [], Option, Some, None, refl, sym, ◌∙◌, ap, ap₂, subst, true≢false, slice_index_or, ◌∷◌}
-use Rattle.std.proofs.lemmas.Bool.{cases_Bool}
+-- A command line over the same files has one answer.
+use Rattle.std.proofs.Common.{◌≡◌, ℕ, true, false, List, [], Option, Some, None, refl, sym, ◌∙◌, ap, ap₂, subst, slice_index_or, ◌∷◌}
 use Rattle.occ_base.specs.declared.names.Name.{Name}
 use Rattle.occ_syntax.specs.declared.scope.Program.{Program}
 use Rattle.occ_syntax.specs.declared.scope.Kind.{Kind}
@@ -15,16 +14,13 @@ use Rattle.occ_usage.specs.Faults.{faults, names_of}
 use Rattle.occ_usage.specs.declared.fault.UsageFault.{UsageFault}
 use Rattle.occ_behaviour.specs.declared.behaviour.Side.TheVariants.{First, Second}
 use Rattle.occ_behaviour.specs.declared.behaviour.Verdict.{Verdict}
-use Rattle.occ_behaviour.specs.Members.{IsRight}
-use Rattle.occ_straight.specs.Straight.{is_straight}
-use Rattle.occ_straight.specs.Least.{IsLeast}
-use Rattle.occ_straight.proofs.Unique.{one_verdict}
+use Rattle.occ_verdict.specs.Verdict.{IsVerdictOf}
 use Rattle.occ_top.specs.declared.answer.Answer.{Answer}
 use Rattle.occ_top.specs.declared.answer.Answer.TheVariants.{Usage, Refused, Unusable, InterfacesDiffer, Compared}
 use Rattle.occ_top.specs.Words.{same, job_of}
 use Rattle.occ_top.specs.Files.{Files}
 use Rattle.occ_top.specs.Texts.{status_of, text_of}
-use Rattle.occ_top.specs.Answers.{ReadsAs, IsAccepted, IsRefused, IsUnusable, IsUnusableText, AcceptsBoth, DifferInInterface, AreCompared, Settles, IsAnswer, usage, comparison, Answers, IsBeyond, node_of}
+use Rattle.occ_top.specs.Answers.{ReadsAs, IsAccepted, IsRefused, IsUnusable, IsUnusableText, AcceptsBoth, DifferInInterface, AreCompared, Settles, IsAnswer, usage, comparison, Answers, node_of}
 use Rattle.occ_top.proofs.Once.{IsOneReading, IsOnce, faultless}
 
 some_is : {X : Type 0} (x y : X) → Some x ≡ Some y → x ≡ y
@@ -70,8 +66,12 @@ Agree (unusable m k f) (unusable n l g) = AreOneFault m n k l f g
 head_is : {X : Type 0} (x y : X) (xs ys : List X) → x ∷ xs ≡ y ∷ ys → x ≡ y
 head_is x y xs ys e = cc
 
--- what follows stands on the reading of a text being one
-module _ (once : IsOnce) where
+-- two programs have one verdict
+record IsOneVerdict : Type 0 where
+  one : (params : List (Name × Kind)) (p q : Tree) (v w : Verdict) → IsVerdictOf params p q v → IsVerdictOf params p q w → v ≡ w
+
+-- what follows stands on the reading of a text being one, and on the verdict being one
+module _ (once : IsOnce) (only : IsOneVerdict) where
   reads : (a b : List ℕ) (old m n : List (List ℕ)) (p q : Program) (ls ks : List ℕ) → b ≡ a → ReadsAs a old m p ls → ReadsAs b old n q ks → IsOneReading m n p q ls ks
   reads a b old m n p q ls ks alike r s =
       let P : List ℕ → Type 0 = λ t. ReadsAs t old n q ks in
@@ -127,15 +127,6 @@ module _ (once : IsOnce) where
 
   -- ---- two texts
 
-  -- Both texts are accepted, have one interface, and aren't both straight.
-  record IsBeyondFiles (one two : Option (List ℕ)) : Type 0 where
-    names : List (List ℕ)
-    p : Program
-    q : Program
-    accepted : AcceptsBoth one two names p q
-    one_interface : p.params ≡ q.params
-    not_straight : is_straight (tree p.body) ≡ true → is_straight (tree q.body) ≡ true → ⊥
-
   back : {A B C : Type 0} (P : A → B → C → Type 0) (x y : A) (z u : B) (v w : C) → x ≡ y → z ≡ u → v ≡ w → P y u w → P x z v
   back {A} {B} {C} P x y z u v w e f g h =
       let F : A → Type 0 = λ t. P t z v in
@@ -144,27 +135,16 @@ module _ (once : IsOnce) where
       subst F (sym e) (subst G (sym f) (subst H (sym g) h))
 
   decided_alike : (p q r s : Program) (v w : Verdict) → p.params ≡ r.params → tree p.body ≡ tree r.body → tree q.body ≡ tree s.body
-      → IsRight p.params (tree p.body) (tree q.body) v → IsLeast p.params (tree p.body) (tree q.body) v
-      → IsRight r.params (tree r.body) (tree s.body) w → IsLeast r.params (tree r.body) (tree s.body) w → v ≡ w
-  decided_alike p q r s v w e f g rv lv rw lw =
-      let R : List (Name × Kind) → Tree → Tree → Type 0 = λ x y z. IsRight x y z w in
-      let L : List (Name × Kind) → Tree → Tree → Type 0 = λ x y z. IsLeast x y z w in
-      one_verdict p.params (tree p.body) (tree q.body) v w rv lv (back R _ _ _ _ _ _ e f g rw) (back L _ _ _ _ _ _ e f g lw)
+      → IsVerdictOf p.params (tree p.body) (tree q.body) v → IsVerdictOf r.params (tree r.body) (tree s.body) w → v ≡ w
+  decided_alike p q r s v w e f g fv fw =
+      let F : List (Name × Kind) → Tree → Tree → Type 0 = λ x y z. IsVerdictOf x y z w in
+      only.one p.params (tree p.body) (tree q.body) v w fv (back F _ _ _ _ _ _ e f g fw)
 
-  compared_alike : (one two : Option (List ℕ)) (m n : List (List ℕ)) (v w : Verdict) → AreCompared one two m v → AreCompared one two n w → (Compared m v ≡ Compared n w) ⊎ IsBeyondFiles one two
+  compared_alike : (one two : Option (List ℕ)) (m n : List (List ℕ)) (v w : Verdict) → AreCompared one two m v → AreCompared one two n w → Compared m v ≡ Compared n w
   compared_alike one two m n v w a b =
       let first = agree one [] (taken a.accepted.between a.p) (taken b.accepted.between b.p) a.accepted.first b.accepted.first in
       let second = agree_behind two a.accepted.between b.accepted.between (taken m a.q) (taken n b.q) first.names a.accepted.second b.accepted.second in
-      let beyond : ((is_straight (tree a.p.body) ≡ true) → (is_straight (tree a.q.body) ≡ true) → ⊥) → IsBeyondFiles one two =
-      λ h. record { names = m; p = a.p; q = a.q; accepted = a.accepted; one_interface = a.one_interface; not_straight = h } in
-      elim (cases_Bool (is_straight (tree a.p.body))) [
-        | inl x ↦ elim (cases_Bool (is_straight (tree a.q.body))) [
-          | inl y ↦ inl (ap₂ Compared second.names (decided_alike a.p a.q b.p b.q v w first.params first.body second.body a.right (a.least x y) b.right
-              (b.least (sym (ap is_straight first.body) ∙ x) (sym (ap is_straight second.body) ∙ y))))
-          | inr y ↦ inr (beyond (λ s t. true≢false (sym t ∙ y)))
-        ]
-        | inr x ↦ inr (beyond (λ s t. true≢false (sym s ∙ x)))
-      ]
+      ap₂ Compared second.names (decided_alike a.p a.q b.p b.q v w first.params first.body second.body a.first b.first)
 
   interfaces : (one two : Option (List ℕ)) (n : List (List ℕ)) (w : Verdict) → DifferInInterface one two → AreCompared one two n w → ⊥
   interfaces one two n w a b =
@@ -172,10 +152,10 @@ module _ (once : IsOnce) where
       let second = agree_behind two a.accepted.between b.accepted.between (taken a.names a.q) (taken n b.q) first.names a.accepted.second b.accepted.second in
       a.differ (first.params ∙ b.one_interface ∙ sym second.params)
 
-  one_settled : (one two : Option (List ℕ)) (a b : Answer) → Settles one two a → Settles one two b → (a ≡ b) ⊎ IsBeyondFiles one two
+  one_settled : (one two : Option (List ℕ)) (a b : Answer) → Settles one two a → Settles one two b → a ≡ b
   one_settled one two Usage b s t = absurd s
   one_settled one two (Refused First fa) Usage s t = absurd t
-  one_settled one two (Refused First fa) (Refused First fb) s t = inl (ap (Refused First) (agree one [] (refused fa) (refused fb) s.refused t.refused))
+  one_settled one two (Refused First fa) (Refused First fb) s t = (ap (Refused First) (agree one [] (refused fa) (refused fb) s.refused t.refused))
   one_settled one two (Refused First fa) (Refused Second fb) s t = absurd (agree one [] (refused fa) (taken t.names t.program) s.refused t.accepted)
   one_settled one two (Refused First fa) (Unusable nb First lb fb) s t = absurd (agree one [] (refused fa) (unusable nb lb fb) s.refused t.unusable)
   one_settled one two (Refused First fa) (Unusable nb Second lb fb) s t = absurd (agree one [] (refused fa) (taken t.between t.program) s.refused t.accepted)
@@ -185,7 +165,7 @@ module _ (once : IsOnce) where
   one_settled one two (Refused Second fa) (Refused First fb) s t = absurd (agree one [] (taken s.names s.program) (refused fb) s.accepted t.refused)
   one_settled one two (Refused Second fa) (Refused Second fb) s t =
       let e = agree one [] (taken s.names s.program) (taken t.names t.program) s.accepted t.accepted in
-      inl (ap (Refused Second) (agree_behind two s.names t.names (refused fa) (refused fb) e.names s.refused t.refused))
+      (ap (Refused Second) (agree_behind two s.names t.names (refused fa) (refused fb) e.names s.refused t.refused))
   one_settled one two (Refused Second fa) (Unusable nb First lb fb) s t = absurd (agree one [] (taken s.names s.program) (unusable nb lb fb) s.accepted t.unusable)
   one_settled one two (Refused Second fa) (Unusable nb Second lb fb) s t =
       let e = agree one [] (taken s.names s.program) (taken t.between t.program) s.accepted t.accepted in
@@ -201,7 +181,7 @@ module _ (once : IsOnce) where
   one_settled one two (Unusable na First la fa) (Refused Second fb) s t = absurd (agree one [] (unusable na la fa) (taken t.names t.program) s.unusable t.accepted)
   one_settled one two (Unusable na First la fa) (Unusable nb First lb fb) s t =
       let e = agree one [] (unusable na la fa) (unusable nb lb fb) s.unusable t.unusable in
-      inl (λ i. Unusable (e.names i) First (e.lines i) (e.faults i))
+      (λ i. Unusable (e.names i) First (e.lines i) (e.faults i))
   one_settled one two (Unusable na First la fa) (Unusable nb Second lb fb) s t = absurd (agree one [] (unusable na la fa) (taken t.between t.program) s.unusable t.accepted)
   one_settled one two (Unusable na First la fa) InterfacesDiffer s t = absurd (agree one [] (unusable na la fa) (taken t.accepted.between t.p) s.unusable t.accepted.first)
   one_settled one two (Unusable na First la fa) (Compared nb vb) s t = absurd (agree one [] (unusable na la fa) (taken t.accepted.between t.p) s.unusable t.accepted.first)
@@ -214,7 +194,7 @@ module _ (once : IsOnce) where
   one_settled one two (Unusable na Second la fa) (Unusable nb Second lb fb) s t =
       let e = agree one [] (taken s.between s.program) (taken t.between t.program) s.accepted t.accepted in
       let d = agree_behind two s.between t.between (unusable na la fa) (unusable nb lb fb) e.names s.unusable t.unusable in
-      inl (λ i. Unusable (d.names i) Second (d.lines i) (d.faults i))
+      (λ i. Unusable (d.names i) Second (d.lines i) (d.faults i))
   one_settled one two (Unusable na Second la fa) InterfacesDiffer s t =
       let e = agree one [] (taken s.between s.program) (taken t.accepted.between t.p) s.accepted t.accepted.first in
       absurd (agree_behind two s.between t.accepted.between (unusable na la fa) (taken t.names t.q) e.names s.unusable t.accepted.second)
@@ -230,7 +210,7 @@ module _ (once : IsOnce) where
   one_settled one two InterfacesDiffer (Unusable nb Second lb fb) s t =
       let e = agree one [] (taken s.accepted.between s.p) (taken t.between t.program) s.accepted.first t.accepted in
       absurd (agree_behind two s.accepted.between t.between (taken s.names s.q) (unusable nb lb fb) e.names s.accepted.second t.unusable)
-  one_settled one two InterfacesDiffer InterfacesDiffer s t = inl refl
+  one_settled one two InterfacesDiffer InterfacesDiffer s t = refl
   one_settled one two InterfacesDiffer (Compared nb vb) s t = absurd (interfaces one two nb vb s t)
   one_settled one two (Compared na va) Usage s t = absurd t
   one_settled one two (Compared na va) (Refused First fb) s t = absurd (agree one [] (taken s.accepted.between s.p) (refused fb) s.accepted.first t.refused)
@@ -247,32 +227,17 @@ module _ (once : IsOnce) where
   words_are : (a b c d : List ℕ) → Some (same a b) ≡ Some (same c d) → (a ≡ c) × (b ≡ d)
   words_are a b c d e = (cc, cc)
 
-  beyond : (files : Files) (words : List (List ℕ)) (x y : List ℕ) → job_of words ≡ Some (same x y) → IsBeyondFiles (files x) (files y) → IsBeyond files words
-  beyond files words x y is b = record {
-    first = x;
-    second = y;
-    asked = is;
-    names = b.names;
-    p = b.p;
-    q = b.q;
-    accepted = b.accepted;
-    one_interface = b.one_interface;
-    not_straight = b.not_straight;
-  }
-
-  one_is : (files : Files) (words : List (List ℕ)) (a b : Answer) → IsAnswer files words a → IsAnswer files words b → (a ≡ b) ⊎ IsBeyond files words
-  one_is files words a b (usage none e) (usage nothing f) = inl (e ∙ sym f)
+  one_is : (files : Files) (words : List (List ℕ)) (a b : Answer) → IsAnswer files words a → IsAnswer files words b → a ≡ b
+  one_is files words a b (usage none e) (usage nothing f) = e ∙ sym f
   one_is files words a b (usage none e) (comparison x y is s) = let bad = sym none ∙ is in absurd (let no : ⊥ = cc in no)
   one_is files words a b (comparison x y is s) (usage none e) = let bad = sym none ∙ is in absurd (let no : ⊥ = cc in no)
   one_is files words a b (comparison x y is s) (comparison z w it t) =
       let e = words_are z w x y (sym it ∙ is) in
       let P : List ℕ → Type 0 = λ v. Settles (files v) (files w) b in
       let Q : List ℕ → Type 0 = λ v. Settles (files x) (files v) b in
-      elim (one_settled (files x) (files y) a b s (subst Q e.1 (subst P e.0 t))) [ inl alike ↦ inl alike | inr far ↦ inr (beyond files words x y is far) ]
+      one_settled (files x) (files y) a b s (subst Q e.1 (subst P e.0 t))
 
-  pub one_answer : (files : Files) (words : List (List ℕ)) (s t : ℕ) (a b : List ℕ) → Answers files words s a → Answers files words t b → ((s ≡ t) × (a ≡ b)) ⊎ IsBeyond files words
+  pub one_answer : (files : Files) (words : List (List ℕ)) (s t : ℕ) (a b : List ℕ) → Answers files words s a → Answers files words t b → (s ≡ t) × (a ≡ b)
   one_answer files words s t a b x y =
-      elim (one_is files words x.answer y.answer x.is y.is) [
-        | inl e ↦ inl (x.status_is ∙ ap status_of e ∙ sym y.status_is, x.text_is ∙ ap text_of e ∙ sym y.text_is)
-        | inr far ↦ inr far
-      ]
+      let e = one_is files words x.answer y.answer x.is y.is in
+      (x.status_is ∙ ap status_of e ∙ sym y.status_is, x.text_is ∙ ap text_of e ∙ sym y.text_is)

@@ -13,8 +13,7 @@ use Rattle.occ_usage.specs.declared.fault.UsageFault.TheVariants as shared
 use Rattle.occ_behaviour.specs.declared.behaviour.Side.TheVariants.{First, Second}
 use Rattle.occ_behaviour.specs.declared.behaviour.Verdict.{Verdict}
 use Rattle.occ_behaviour.specs.Members.{IsRight}
-use Rattle.occ_straight.specs.Straight.{is_straight}
-use Rattle.occ_straight.specs.Least.{IsLeast}
+use Rattle.occ_verdict.specs.Verdict.{IsVerdictOf}
 use Rattle.occ_top.specs.declared.answer.Answer.{Answer}
 use Rattle.occ_top.specs.declared.answer.Answer.TheVariants.{Usage, Refused, Unusable, InterfacesDiffer, Compared}
 use Rattle.occ_top.specs.Words.{same, job_of}
@@ -108,14 +107,14 @@ pub record DifferInInterface (one two : Option (List ℕ)) : Type 0 where
   pub accepted : AcceptsBoth one two names p q
   pub differ : p.params ≡ q.params → ⊥
 
--- Both programs have one interface, and the verdict on them is right. Where both are straight, it names the least difference.
+-- Both programs have one interface, and the verdict on them is right: the one that they have.
 pub record AreCompared (one two : Option (List ℕ)) (names : List (List ℕ)) (verdict : Verdict) : Type 0 where
   pub p : Program
   pub q : Program
   pub accepted : AcceptsBoth one two names p q
   pub one_interface : p.params ≡ q.params
   pub right : IsRight p.params (tree p.body) (tree q.body) verdict
-  pub least : is_straight (tree p.body) ≡ true → is_straight (tree q.body) ≡ true → IsLeast p.params (tree p.body) (tree q.body) verdict
+  pub first : IsVerdictOf p.params (tree p.body) (tree q.body) verdict
 
 -- the answer to two files whose programs are to be compared
 abbrev pub Settles : Option (List ℕ) → Option (List ℕ) → Answer → Type 0
@@ -138,15 +137,3 @@ pub record Answers (files : Files) (words : List (List ℕ)) (status : ℕ) (tex
   pub is : IsAnswer files words answer
   pub status_is : status ≡ status_of answer
   pub text_is : text ≡ text_of answer
-
--- The words ask for a comparison of two programs that are accepted and have one interface, and aren't both straight.
-pub record IsBeyond (files : Files) (words : List (List ℕ)) : Type 0 where
-  pub first : List ℕ
-  pub second : List ℕ
-  pub asked : job_of words ≡ Some (same first second)
-  pub names : List (List ℕ)
-  pub p : Program
-  pub q : Program
-  pub accepted : AcceptsBoth (files first) (files second) names p q
-  pub one_interface : p.params ≡ q.params
-  pub not_straight : is_straight (tree p.body) ≡ true → is_straight (tree q.body) ≡ true → ⊥

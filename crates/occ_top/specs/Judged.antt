@@ -2,8 +2,7 @@
 use Rattle.std.specs.Prelude.{ℕ, ◌≡◌, ◌≢◌, List, ◌∷◌, true, slice_index_or}
 use Rattle.occ_syntax.specs.declared.scope.Program.{Program}
 use Rattle.occ_syntax.specs.View.{tree}
-use Rattle.occ_straight.specs.Least.{IsLeast}
-use Rattle.occ_straight.specs.Straight.{is_straight}
+use Rattle.occ_verdict.specs.Verdict.{IsVerdictOf}
 use Rattle.occ_usage.specs.Accepted.{usage_faults}
 use Rattle.occ_usage.specs.declared.fault.UsageFault.{UsageFault}
 use Rattle.occ_usage.specs.declared.fault.UsageFault.TheVariants as shared
@@ -85,7 +84,7 @@ IsRefusalAnswer names place refusal.Memory answer = ⊥
 pub record IsVerdictOn (p q : Program) (verdict : Verdict) : Type 0 where
   pub one_interface : p.params ≡ q.params
   pub right : IsRight p.params (tree p.body) (tree q.body) verdict
-  pub least : is_straight (tree p.body) ≡ true → is_straight (tree q.body) ≡ true → IsLeast p.params (tree p.body) (tree q.body) verdict
+  pub first : IsVerdictOf p.params (tree p.body) (tree q.body) verdict
 
 abbrev pub IsComparison : List (List ℕ) → Program → Program → Answer → Type 0
 IsComparison names p q Usage = ⊥

@@ -10,13 +10,13 @@ ghost use Rattle.occ_top.specs.Judged.{IsAcceptedFrom, IsAcceptedAs, IsRefusedFr
 
 use crate::answer::Answer;
 use crate::load::Loaded;
-use crate::verdict::compare_programs;
 use occ_base::{Memory, Name, Names};
 use occ_behaviour::Side;
 use occ_parse::{Text, parse};
 use occ_reading::{Bound, ParseFault, Which};
 use occ_syntax::Kind;
 use occ_usage::{Accepted, UsageFault, check};
+use occ_verdict::decide;
 use std::alloc::Global;
 
 /// Why a program isn't accepted.
@@ -149,7 +149,7 @@ fn compared(
     if !have_one_interface(one.params.items(), two.params.items()) {
         return Ok(Answer::InterfacesDiffer);
     }
-    let verdict = compare_programs(alloc, left, right)?;
+    let verdict = decide(alloc, left, right)?;
     Ok(Answer::Compared { names, verdict })
 }
 

@@ -1,14 +1,15 @@
-ghost use Rattle.std.specs.Prelude.{ℕ, ◌≡◌, ◌⊎◌, List};
+ghost use Rattle.std.specs.Prelude.{ℕ, ◌≡◌, List};
 ghost use Rattle.occ_top.specs.Files.{Files};
-ghost use Rattle.occ_top.specs.Answers.{Answers, IsBeyond};
+ghost use Rattle.occ_top.specs.Answers.{Answers};
 
 use occ_reading::one_reading;
+use occ_verdict::one_verdict;
 
-/// A command line over the same files has one answer, with one status and one text, where it isn't a comparison of programs
-/// that aren't both straight.
+/// A command line over the same files has one answer, with one status and one text.
 pub fn one_answer()
     ensures { (files : Files) (words : List (List ℕ)) (s t : ℕ) (a b : List ℕ)
-        → Answers files words s a → Answers files words t b → ((s ≡ t) × (a ≡ b)) ⊎ IsBeyond files words }
+        → Answers files words s a → Answers files words t b → (s ≡ t) × (a ≡ b) }
 {
     one_reading();
+    one_verdict();
 }

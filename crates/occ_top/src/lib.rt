@@ -8,7 +8,6 @@ mod load;
 #[cfg(test)]
 mod tests;
 mod top;
-mod verdict;
 mod words;
 
 pub use law::one_answer;

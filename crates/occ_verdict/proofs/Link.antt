@@ -48,7 +48,7 @@ use Rattle.occ_compare.specs.Interface.{AreComparable, HasNodes as HasAllNodes, 
 use Rattle.occ_compare.specs.Places.{state_at, values_at}
 use Rattle.occ_base.specs.declared.memory.Memory.{Memory}
 use Rattle.occ_lift.specs.Maps.{Extends}
-use Rattle.occ_compare.specs.Verdicts.{BelongsToOne, IsMember, IsPrintable, MeanTheSame, Stands}
+use Rattle.occ_compare.specs.Verdicts.{BelongsToOne, IsFirst, IsMember, IsPrintable, MeanTheSame, Stands}
 use Rattle.occ_compare.specs.Walk.{opposite, picked}
 use Rattle.occ_frame.specs.After.{AgreeBelow, IsOver}
 use Rattle.occ_frame.specs.Placed.{IsAround, IsFrame}
@@ -56,6 +56,7 @@ use Rattle.occ_bits.proofs.States.{are_states, state_fits}
 use Rattle.occ_frame.proofs.After.{map_node, over-extends, same_truth, state_below, value_was, zero_off}
 use Rattle.occ_frame.proofs.Bits.{pow_more}
 use Rattle.occ_norm.specs.Root.{IsRoot}
+use Rattle.occ_verdict.specs.Verdict.{IsVerdictOf}
 use Rattle.occ_verdict.proofs.Overlay.{does_over, over}
 
 -- ---- states as lists and as values
@@ -300,3 +301,20 @@ module _ (w : World) (params : List (Name × Kind)) (scope : scope_kept params �
   pub named : (r : Result Verdict Memory) → IfOk r (λ v. IsOfInterface w a → IsOfInterface w b → IsPrintable a.params v) → IfOk r (IsPrintable params)
   named (Ok v) printable = subst (λ ps. IsPrintable ps v) ea (printable of_first of_second)
   named (Err m) printable = tt
+
+  pub placed : (r : Result Verdict Memory) → IfOk r (λ v. (v ≡ Same) ↔ MeanTheSame w a.states b.states) → IfOk r (λ v. IsOfInterface w a → IsOfInterface w b → IsFirst w a b v) → IfOk r (IsVerdictOf params p q)
+  placed (Ok v) means is = record {
+    world = w;
+    one = a;
+    two = b;
+    one_params = ea;
+    two_params = eb;
+    first = first;
+    second = second;
+    comparable = comparable;
+    first_within = of_first;
+    second_within = of_second;
+    alike = means;
+    is = is of_first of_second;
+  }
+  placed (Err m) means is = tt

@@ -10,4 +10,4 @@ returns c = one_answer (record {
       record { names = e.table; params = e.params; body = e.body; numbers = e.numbers };
   one_fault = λ text old f g r s. c.one_reading.ensures.fault bound.Program text old f g r s;
   not_both = λ text old m p ls f r s. c.one_reading.ensures.apart bound.Program text old m p.name p.params (tree p.body) ls f r s;
-})
+}) (record { one = c.one_verdict.ensures })

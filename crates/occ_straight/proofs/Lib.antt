@@ -1,9 +1,0 @@
-pub mod Fronts
-pub mod Holding
-pub mod Leading
-pub mod Numbers
-pub mod Outcomes
-pub mod Overlay
-pub mod Numbering
-pub mod Comparing
-pub mod Unique

@@ -1,4 +1,0 @@
-pub mod Straight
-pub mod Least
-pub mod Numbered
-pub mod Running
