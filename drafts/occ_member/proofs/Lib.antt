@@ -1,0 +1,14 @@
+pub mod Listing
+pub mod Holding
+pub mod Walks
+pub mod Fitting
+pub mod Sides
+pub mod Values
+pub mod Going
+pub mod Declaring
+pub mod Choosing
+pub mod Parallel
+pub mod Adding
+pub mod Weaving
+pub mod Steps
+pub mod Finding

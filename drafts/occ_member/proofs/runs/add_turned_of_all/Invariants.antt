@@ -1,0 +1,18 @@
+use Rattle.std.proofs.Common.{◌≡◌, ◌⊎◌, ◌++◌, ◌||◌, ◌+◌, ◌*◌, ◌<◌, ℕ, true, List, [], ◌∷◌, drop, take, length, Global}
+use Rattle.occ_base.specs.declared.event.Event.{Event}
+use Rattle.occ_base.specs.declared.names.Name.{Name}
+use Rattle.occ_syntax.specs.declared.scope.Kind.{Kind}
+use Rattle.occ_syntax.specs.Scopes.{Trace, EventSet, among, environment, values}
+use Rattle.occ_syntax.specs.Meaning.{Outcome, guards, is_silent}
+use Rattle.occ_member.specs.declared.run.Run.{Run}
+use Rattle.std.proofs.Common.{Vec}
+use Rattle.occ_member.specs.Runs.{AreFit, Avoids, Gains, IsFit, Shows, SomeOf, SomeRun, Tells}
+use Rattle.occ_member.proofs.Listing.{Moving}
+use Rattle.occ_base.specs.Event.{other_direction}
+use Rattle.occ_syntax.specs.Names.{end_in_some}
+use Rattle.occ_syntax.specs.View.{trees}
+use Rattle.occ_member.specs.Bounds.{on_ends}
+use Rattle.occ_member.proofs.runs.add_turned_of_all.Given as goal
+
+abbrev pub invariant-loop-part : goal.invariant-loop-part
+invariant-loop-part l = (e : Event) → (on_ends l.initial.free.items e || end_in_some (trees l.parts) e.chan.0 (other_direction e.dir)) ≡ (on_ends l.free.items e || end_in_some (trees (drop l.part-index l.parts)) e.chan.0 (other_direction e.dir))

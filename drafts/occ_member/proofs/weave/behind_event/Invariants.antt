@@ -1,0 +1,15 @@
+use Rattle.std.proofs.Common.{◌≡◌, ◌⊎◌, ◌++◌, ◌||◌, ◌+◌, ◌*◌, ◌<◌, ℕ, true, List, [], ◌∷◌, drop, take, length, Global}
+use Rattle.occ_base.specs.declared.event.Event.{Event}
+use Rattle.occ_base.specs.declared.names.Name.{Name}
+use Rattle.occ_syntax.specs.declared.scope.Kind.{Kind}
+use Rattle.occ_syntax.specs.Scopes.{Trace, EventSet, among, environment, values}
+use Rattle.occ_syntax.specs.Meaning.{Outcome, guards, is_silent}
+use Rattle.occ_member.specs.declared.run.Run.{Run}
+use Rattle.std.proofs.Common.{Vec}
+use Rattle.occ_member.specs.Runs.{AreFit, Avoids, Gains, IsFit, Shows, SomeOf, SomeRun, Tells}
+use Rattle.occ_member.proofs.Listing.{Moving}
+use Rattle.occ_member.specs.Moves.{Behind, SomeTrace}
+use Rattle.occ_member.proofs.weave.behind_event.Given as goal
+
+abbrev pub invariant-loop-trace : goal.invariant-loop-trace
+invariant-loop-trace l = (t : Trace) → Gains (Unit {0}) ⊥ (SomeTrace l.traces.items t) (SomeOf (λ one. Behind l.event one t) (take l.trace-index l.later))
