@@ -16,7 +16,7 @@ use Rattle.occ_node.specs.declared.world.World.{World}
 use Rattle.occ_compare.specs.Verdicts.{MeanTheSame}
 use Rattle.occ_frame.proofs.After.{same_truth}
 use Rattle.occ_first.specs.Alike.{AreAlike, AreAlikeRoots}
-use Rattle.occ_first.proofs.First.{one_first_difference}
+use Rattle.occ_first.proofs.Roots.{one_first_of}
 use Rattle.occ_norm.specs.Root.{IsRoot}
 use Rattle.occ_verdict.specs.Verdict.{IsVerdictOf}
 
@@ -29,7 +29,7 @@ module _ (v w : World) (params : List (Name × Kind)) (p : Tree) (a b : Root) (e
   }
 
   roots_alike : AreAlikeRoots v w a b
-  roots_alike = record { params = ea ∙ sym eb; alike = nodes_alike }
+  roots_alike = record { params = ea ∙ sym eb; nodes = nodes_alike }
 
 -- two programs that mean the same in one world do so in another
 mean_alike : (v w : World) (params : List (Name × Kind)) (p q : Tree) (a b c d : Root) → IsRoot v params p a.states → IsRoot v params q b.states → IsRoot w params p c.states → IsRoot w params q d.states
@@ -56,6 +56,6 @@ one_verdict params p q Same (Differ b side) s t =
 one_verdict params p q (Differ b side) Same s t =
     s.alike.1 (mean_alike t.world s.world params p q t.one t.two s.one s.two t.first t.second s.first s.second t.one_params t.two_params s.one_params s.two_params (t.alike.0 refl))
 one_verdict params p q (Differ b side) (Differ d other) s t =
-    let k = one_first_difference s.world t.world s.one s.two t.one t.two b d side other s.comparable t.comparable s.first_within s.second_within t.first_within t.second_within
+    let k = one_first_of s.world t.world s.one s.two t.one t.two b d side other s.comparable t.comparable
         (roots_alike s.world t.world params p s.one t.one s.one_params t.one_params s.first t.first) (roots_alike s.world t.world params q s.two t.two s.two_params t.two_params s.second t.second) s.is t.is in
     λ i. Differ (k.0 i) (k.1 i)

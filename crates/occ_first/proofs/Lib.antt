@@ -1,0 +1,4 @@
+pub mod Least
+pub mod Unique
+pub mod Across
+pub mod Roots
