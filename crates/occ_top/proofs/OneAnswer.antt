@@ -67,8 +67,8 @@ head_is : {X : Type 0} (x y : X) (xs ys : List X) → x ∷ xs ≡ y ∷ ys → 
 head_is x y xs ys e = cc
 
 -- two programs have one verdict
-record IsOneVerdict : Type 0 where
-  one : (params : List (Name × Kind)) (p q : Tree) (v w : Verdict) → IsVerdictOf params p q v → IsVerdictOf params p q w → v ≡ w
+pub record IsOneVerdict : Type 0 where
+  pub one : (params : List (Name × Kind)) (p q : Tree) (v w : Verdict) → IsVerdictOf params p q v → IsVerdictOf params p q w → v ≡ w
 
 -- what follows stands on the reading of a text being one, and on the verdict being one
 module _ (once : IsOnce) (only : IsOneVerdict) where

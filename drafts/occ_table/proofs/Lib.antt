@@ -1,5 +1,0 @@
-pub mod Numerals
-pub mod Splitting
-pub mod Powers
-pub mod Rising
-pub mod Taking

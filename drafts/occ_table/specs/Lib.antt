@@ -1,6 +1,0 @@
-pub mod Words
-pub mod Lines
-pub mod Reading
-pub mod Judging
-pub mod Normal
-pub mod Behaviours
