@@ -1,7 +1,6 @@
 -- What becomes of a program that was read.
-use Rattle.std.proofs.Common.{◌≡◌, ◌≢◌, ℕ, List, ◌∷◌, Result, Ok, Err, IfOk, IfErr, sym, subst}
+use Rattle.std.proofs.Common.{◌≡◌, ℕ, List, Result, Ok, Err, IfOk, IfErr, sym, subst}
 use Rattle.occ_syntax.specs.declared.scope.Program.{Program}
-use Rattle.occ_syntax.specs.Tree.{Tree}
 use Rattle.occ_syntax.specs.View.{tree}
 use Rattle.occ_syntax.specs.Usage.{KeepsUsage}
 use Rattle.occ_parse.specs.Known.{NamesAreKnown}

@@ -1,8 +1,7 @@
 -- What a fault of usage names has a text, where the names of the program have.
-use Rattle.std.proofs.Common.{◌≡◌, ◌∙◌, ◌<◌, ◌+◌, ◌&&◌, ◌||◌, ◌++◌, ℕ, Bool, cond, true, false, refl, sym, ap, subst, List, [], ◌∷◌, map, length, nat_lt}
+use Rattle.std.proofs.Common.{◌≡◌, ◌<◌, ◌++◌, ℕ, Bool, cond, true, false, refl, subst, List, [], ◌∷◌, length, nat_lt}
 use Rattle.std.specs.List.{list_all}
 use Rattle.std.proofs.lemmas.Bool.{and_parts, and_from, ltb-true}
-use Rattle.std.proofs.lemmas.List.Folds.{list_all-append}
 use Rattle.occ_base.specs.declared.event.Dir.{Dir}
 use Rattle.occ_base.specs.declared.event.Dir.TheVariants.{Input, Output}
 use Rattle.occ_base.specs.declared.names.Name.{Name}
@@ -12,7 +11,7 @@ use Rattle.occ_syntax.specs.Tree.{Tree, skip, stop, assign, receive, send, seq, 
 use Rattle.occ_syntax.specs.View.{tree}
 use Rattle.occ_names.specs.Mentions.{called}
 use Rattle.occ_usage.specs.Accepted.{usage_faults}
-use Rattle.occ_usage.specs.Faults.{shared_variable, shared_end, variable_faults, end_fault, end_faults, later, after, after_all, faults, faults_of_all, faults_of_cases, faults_of_branches, names_of}
+use Rattle.occ_usage.specs.Faults.{shared_variable, shared_end, variable_faults, end_fault, end_faults, later, after, faults, faults_of_all, faults_of_cases, faults_of_branches, names_of}
 use Rattle.occ_usage.specs.declared.fault.UsageFault.{UsageFault}
 use Rattle.occ_usage.specs.declared.fault.UsageFault.TheVariants as shared
 use Rattle.occ_parse.specs.Known.{declares, all_declare, cases_declare, branches_declare, params_declare, is_below, NamesAreKnown}

@@ -1,5 +1,5 @@
 -- A command line over the same files has one answer.
-use Rattle.std.proofs.Common.{◌≡◌, ℕ, true, false, List, [], Option, Some, None, refl, sym, ◌∙◌, ap, ap₂, subst, slice_index_or, ◌∷◌}
+use Rattle.std.proofs.Common.{◌≡◌, ℕ, List, [], Option, Some, refl, sym, ◌∙◌, ap, ap₂, subst, slice_index_or, ◌∷◌}
 use Rattle.occ_base.specs.declared.names.Name.{Name}
 use Rattle.occ_syntax.specs.declared.scope.Program.{Program}
 use Rattle.occ_syntax.specs.declared.scope.Kind.{Kind}
@@ -17,10 +17,10 @@ use Rattle.occ_behaviour.specs.declared.behaviour.Verdict.{Verdict}
 use Rattle.occ_verdict.specs.Verdict.{IsVerdictOf}
 use Rattle.occ_top.specs.declared.answer.Answer.{Answer}
 use Rattle.occ_top.specs.declared.answer.Answer.TheVariants.{Usage, Refused, Unusable, InterfacesDiffer, Compared}
-use Rattle.occ_top.specs.Words.{same, job_of}
+use Rattle.occ_top.specs.Words.{same}
 use Rattle.occ_top.specs.Files.{Files}
 use Rattle.occ_top.specs.Texts.{status_of, text_of}
-use Rattle.occ_top.specs.Answers.{ReadsAs, IsAccepted, IsRefused, IsUnusable, IsUnusableText, AcceptsBoth, DifferInInterface, AreCompared, Settles, IsAnswer, usage, comparison, Answers, node_of}
+use Rattle.occ_top.specs.Answers.{ReadsAs, IsAccepted, IsRefused, IsUnusable, DifferInInterface, AreCompared, Settles, IsAnswer, usage, comparison, Answers, node_of}
 use Rattle.occ_top.proofs.Once.{IsOneReading, IsOnce, faultless}
 
 some_is : {X : Type 0} (x y : X) → Some x ≡ Some y → x ≡ y

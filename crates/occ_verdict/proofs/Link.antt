@@ -1,10 +1,8 @@
 -- From the roots of two programs to the programs.
-use Rattle.std.proofs.Common.{◌≡◌, ◌==◌, ◌&&◌, ◌<◌, ◌≤◌, ◌^◌, ◌/◌, ◌%◌, ◌+◌, ◌↔◌, ◌⊎◌, inl, inr, ⊎_elim, ℕ, Bool, true, false, cond, List, [], ◌∷◌, Option, Some, None, is_some, Result, Ok, Err, IfOk, nat_lt, refl, sym, ap, ◌∙◌, subst, arith}
+use Rattle.std.proofs.Common.{◌≡◌, ◌<◌, ◌≤◌, ◌^◌, ◌/◌, ◌%◌, ◌+◌, ◌↔◌, inl, inr, ℕ, Bool, true, false, cond, List, [], ◌∷◌, Option, Some, None, is_some, Result, Ok, Err, IfOk, refl, sym, ap, ◌∙◌, subst, arith}
 use Rattle.std.proofs.lemmas.Bool.{and_from, eq-eqb, lt-ltb}
 use Rattle.std.proofs.lemmas.Nat.{pow_pos}
 use Rattle.std.proofs.Math.Nat.{mod-lt}
-use Rattle.std.proofs.lemmas.Option.{same_Some}
-use Rattle.std.specs.Int.{bit_at}
 use Rattle.std.specs.List.{list_all}
 use Rattle.std.specs.Option.{IsSomeAnd}
 use mathlib.Core.Path.{fun_ext}
@@ -15,9 +13,9 @@ use Rattle.occ_base.specs.Width.{bits_of}
 use Rattle.occ_syntax.specs.declared.scope.Kind.{Kind}
 use Rattle.occ_syntax.specs.declared.scope.Kind.TheVariants.{Var, Chan}
 use Rattle.occ_syntax.specs.Counts.{bits_of_scope}
-use Rattle.occ_syntax.specs.Meaning.{ended, refusing, meaning, fails as part_fails, ends as part_ends}
+use Rattle.occ_syntax.specs.Meaning.{ended, refusing, fails as part_fails, ends as part_ends}
 use Rattle.occ_syntax.specs.Same.{SAME}
-use Rattle.occ_syntax.specs.Scopes.{EventSet, IsState, IsWithin as IsWithinScope, Trace, Values, among, environment, in_interface, values, variable_width, with_value}
+use Rattle.occ_syntax.specs.Scopes.{EventSet, IsState, Trace, Values, among, environment, in_interface, values, variable_width, with_value}
 use Rattle.occ_syntax.specs.Tree.{Tree}
 use Rattle.occ_syntax.specs.Types.{scope_kept, types_kept}
 use Rattle.occ_laws.specs.Foundation.{AreWithin}
@@ -31,7 +29,7 @@ use Rattle.occ_bits.proofs.Arithmetic.{low_bit}
 use Rattle.occ_mdd.specs.Maps.{value}
 use Rattle.occ_mdd.specs.declared.map.MapId.{MapId}
 use Rattle.occ_node.specs.Canonical.{HasTrace}
-use Rattle.occ_node.specs.World.{IsNode, fails, ends}
+use Rattle.occ_node.specs.World.{IsNode, ends}
 use Rattle.occ_node.specs.declared.node.NodeId.{NodeId}
 use Rattle.occ_node.specs.declared.root.Root.{Root}
 use Rattle.occ_node.specs.declared.world.World.{World}
@@ -42,16 +40,15 @@ use Rattle.occ_behaviour.specs.declared.behaviour.Side.{Side}
 use Rattle.occ_behaviour.specs.declared.behaviour.Side.TheVariants.{First, Second}
 use Rattle.occ_behaviour.specs.declared.behaviour.Verdict.{Verdict}
 use Rattle.occ_behaviour.specs.declared.behaviour.Verdict.TheVariants.{Same, Differ}
-use Rattle.occ_behaviour.specs.Members.{IsMember as IsMemberOf, IsOnlyOf, IsRight, Stands as StandsIn}
+use Rattle.occ_behaviour.specs.Members.{IsRight, Stands as StandsIn}
 use Rattle.occ_behaviour.specs.States.{is_state}
-use Rattle.occ_compare.specs.Interface.{AreComparable, HasNodes as HasAllNodes, IsOfInterface, IsWithin}
+use Rattle.occ_compare.specs.Interface.{AreComparable, HasNodes as HasAllNodes, IsOfInterface}
 use Rattle.occ_compare.specs.Places.{state_at, values_at}
 use Rattle.occ_base.specs.declared.memory.Memory.{Memory}
 use Rattle.occ_lift.specs.Maps.{Extends}
 use Rattle.occ_compare.specs.Verdicts.{BelongsToOne, IsFirst, IsMember, IsPrintable, MeanTheSame, Stands}
-use Rattle.occ_compare.specs.Walk.{opposite, picked}
-use Rattle.occ_frame.specs.After.{AgreeBelow, IsOver}
-use Rattle.occ_frame.specs.Placed.{IsAround, IsFrame}
+use Rattle.occ_frame.specs.After.{AgreeBelow}
+use Rattle.occ_frame.specs.Placed.{IsFrame}
 use Rattle.occ_bits.proofs.States.{are_states, state_fits}
 use Rattle.occ_frame.proofs.After.{map_node, over-extends, same_truth, state_below, value_was, zero_off}
 use Rattle.occ_frame.proofs.Bits.{pow_more}
@@ -157,7 +154,7 @@ module _ (w : World) (params : List (Name × Kind)) (scope : scope_kept params �
     stands_out b x a h e at (Ends state) s = (
       ap (is_state params) s.2 ∙ listed_fits 0 params s.0,
       subst (λ v. part_ends (environment params) p v b.trace (values state)) (sym (ap values e ∙ values_state (laid_out 0 params) x))
-      (subst (λ v. part_ends (environment params) p (state_of (laid_out 0 params) x) b.trace v) (sym (ap values s.2 ∙ values_state (laid_out 0 params) s.0)) ((root.root_ends x a h at b.trace s.0 s.1).0 s.3)),
+          (subst (λ v. part_ends (environment params) p (state_of (laid_out 0 params) x) b.trace v) (sym (ap values s.2 ∙ values_state (laid_out 0 params) s.0)) ((root.root_ends x a h at b.trace s.0 s.1).0 s.3)),
     )
 
     -- and back, where the last state is that of an assignment
@@ -173,8 +170,8 @@ module _ (w : World) (params : List (Name × Kind)) (scope : scope_kept params �
       k.1,
       k.2,
       (root.root_ends x a h at b.trace k.0 k.1).1
-      (subst (λ v. part_ends (environment params) p (state_of (laid_out 0 params) x) b.trace v) (ap values k.2 ∙ values_state (laid_out 0 params) k.0)
-        (subst (λ v. part_ends (environment params) p v b.trace (values state)) (ap values e ∙ values_state (laid_out 0 params) x) s.1)),
+          (subst (λ v. part_ends (environment params) p (state_of (laid_out 0 params) x) b.trace v) (ap values k.2 ∙ values_state (laid_out 0 params) k.0)
+          (subst (λ v. part_ends (environment params) p v b.trace (values state)) (ap values e ∙ values_state (laid_out 0 params) x) s.1)),
     )
 
   -- ---- two programs
@@ -210,7 +207,7 @@ module _ (w : World) (params : List (Name × Kind)) (scope : scope_kept params �
         let m = first.over.has.nodes x h in
         let n = second.over.has.nodes x h in
         let here = subst (λ v. part_ends (environment params) p (state_of (laid_out 0 params) x) t v) (settled s' state')
-            (subst (λ v. part_ends (environment params) p v t (over (environment params) (λ y. 0) s')) (settled s state) (does_over (environment params) p hp (λ y. 0) s t (ended s') d)) in
+        (subst (λ v. part_ends (environment params) p v t (over (environment params) (λ y. 0) s')) (settled s state) (does_over (environment params) p hp (λ y. 0) s t (ended s') d)) in
         let there = (second.root_ends x n.0 h n.1 t z hz).0 (sym ((same_nodes x m.0 n.0 h m.1 n.1).same_ends t z hz) ∙ (first.root_ends x m.0 h m.1 t z hz).1 here) in
         let back = does_over (environment params) q hq s (state_of (laid_out 0 params) x) t (ended (state_of (laid_out 0 params) z)) there in
         subst (λ v. part_ends (environment params) q s t v) (ap (over (environment params) s) (sym (settled s' state')) ∙ kept_value s s' t d)
@@ -222,7 +219,6 @@ turned_over w a b h x m n l e f = let k = h x n m l f e in record { same_fails =
 
 module _ (w : World) (params : List (Name × Kind)) (scope : scope_kept params ≡ true) (few : bits_of_scope params ≤ 16) (p q : Tree) (hp : types_kept p (environment params) ≡ true) (hq : types_kept q (environment params) ≡ true)
     (one two : MapId) (first : IsRoot w params p one) (second : IsRoot w params q two) where
-
   pub all_same : MeanTheSame w one two → SAME (environment params) p q
   all_same h = record {
     same_failures = λ s t X state within. (fails_too w params scope few p q hp hq one two first second h s t X state, fails_too w params scope few q p hq hp two one second first (turned_over w one two h) s t X state);
@@ -277,7 +273,6 @@ record_is a params e = λ i. record { params = e i; states = a.states }
 
 module _ (w : World) (params : List (Name × Kind)) (scope : scope_kept params ≡ true) (few : bits_of_scope params ≤ 16) (p q : Tree) (hp : types_kept p (environment params) ≡ true) (hq : types_kept q (environment params) ≡ true)
     (a b : Root) (ea : a.params ≡ params) (eb : b.params ≡ params) (first : IsRoot w params p a.states) (second : IsRoot w params q b.states) where
-
   pub comparable : AreComparable w a b
   comparable = record {
     params = ea ∙ sym eb;

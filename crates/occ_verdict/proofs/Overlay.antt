@@ -1,15 +1,14 @@
 -- What isn't a variable in scope doesn't matter: a part over values that are taken from u for the variables, and from s elsewhere.
-use Rattle.std.proofs.Common.{◌≡◌, ◌==◌, ◌&&◌, ◌-◌, ◌^◌, ◌<◌, ◌⊎◌, inl, inr, MatchBool, ℕ, Bool, true, false, cond, not, List, [], ◌∷◌, Option, Some, None, is_some, is_none, refl, sym, ap, ◌∙◌, subst, ⊎_elim}
+use Rattle.std.proofs.Common.{◌≡◌, ◌==◌, ◌-◌, ◌^◌, inl, inr, MatchBool, ℕ, Bool, true, false, cond, List, [], ◌∷◌, Option, Some, None, is_some, is_none, refl, sym, ap, ◌∙◌, subst, ⊎_elim}
 use Rattle.std.proofs.lemmas.Bool.{and_parts, cases_Bool, eqb-true}
 use mathlib.Core.Path.{fun_ext}
-use Rattle.occ_base.specs.declared.event.Dir.TheVariants.{Input, Output}
+use Rattle.occ_base.specs.declared.event.Dir.TheVariants.{Output}
 use Rattle.occ_base.specs.declared.event.Event.{Event}
 use Rattle.occ_base.specs.declared.width.Width.{Width}
-use Rattle.occ_syntax.specs.declared.scope.Kind.{Kind}
 use Rattle.occ_syntax.specs.declared.scope.Kind.TheVariants.{Var, Chan}
 use Rattle.occ_syntax.specs.Eval.{eval, bits_of_exp, applied, is_true}
 use Rattle.occ_syntax.specs.Meaning.{After, Alternates, Combines, Followed, Guards, IsQuiet, Meaning, Outcome, Stopped, Taken, Together, WithChannel, WithVariable, alternatives, and_guard, assigned, at_event, at_once, at_ready, at_the_same_time, beside, beside_all, both_ended, chosen, ended, first_choice, first_ended, followed, guards, in_first, in_second, in_turn, join, meaning, neither_ended, never, no_guard, off_channel, over_channel, over_variable, refusing, second_ended, stable, stopped, taken, together}
-use Rattle.occ_syntax.specs.Scopes.{Environment, EventSet, Trace, Values, allows, channel_width, variable_kind, variable_width, with_name, with_value}
+use Rattle.occ_syntax.specs.Scopes.{Environment, EventSet, Trace, Values, channel_width, variable_kind, variable_width, with_name, with_value}
 use Rattle.occ_syntax.specs.Tree.{Branches, Cases, Exp, Tree, Trees, Waiting, alt, and_branch, and_case, and_tree, assign, complement, connect, declare, input, negation, no_branch, no_case, no_tree, numeral, operation, output, par, ready, receive, select, send, seq, skip, stop, truth, variable}
 use Rattle.occ_syntax.specs.Types.{agree, all_types_kept, branches_kept, can_declare, cases_kept, is_condition, is_pair, is_width, pairs_kept, type_of, types_kept, waiting_kept}
 use Rattle.occ_laws.proofs.Facts.{agreed, and_four, and_three, both}

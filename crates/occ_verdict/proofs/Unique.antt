@@ -1,11 +1,8 @@
 -- Two programs have one verdict, whatever world it is made in.
-use Rattle.std.proofs.Common.{◌≡◌, ◌<◌, ◌^◌, ◌↔◌, ℕ, Bool, true, false, List, Some, refl, sym, ap, ◌∙◌}
-use Rattle.occ_base.specs.declared.event.Event.{Event}
+use Rattle.std.proofs.Common.{◌≡◌, ◌<◌, ◌^◌, ℕ, Bool, true, false, List, Some, refl, sym, ◌∙◌}
 use Rattle.occ_base.specs.declared.names.Name.{Name}
 use Rattle.occ_syntax.specs.declared.scope.Kind.{Kind}
 use Rattle.occ_syntax.specs.Tree.{Tree}
-use Rattle.occ_behaviour.specs.declared.behaviour.Behaviour.{Behaviour}
-use Rattle.occ_behaviour.specs.declared.behaviour.Side.{Side}
 use Rattle.occ_behaviour.specs.declared.behaviour.Verdict.{Verdict}
 use Rattle.occ_behaviour.specs.declared.behaviour.Verdict.TheVariants.{Same, Differ}
 use Rattle.occ_mdd.specs.Maps.{value}
@@ -57,5 +54,5 @@ one_verdict params p q (Differ b side) Same s t =
     s.alike.1 (mean_alike t.world s.world params p q t.one t.two s.one s.two t.first t.second s.first s.second t.one_params t.two_params s.one_params s.two_params (t.alike.0 refl))
 one_verdict params p q (Differ b side) (Differ d other) s t =
     let k = one_first_of s.world t.world s.one s.two t.one t.two b d side other s.comparable t.comparable
-        (roots_alike s.world t.world params p s.one t.one s.one_params t.one_params s.first t.first) (roots_alike s.world t.world params q s.two t.two s.two_params t.two_params s.second t.second) s.is t.is in
+    (roots_alike s.world t.world params p s.one t.one s.one_params t.one_params s.first t.first) (roots_alike s.world t.world params q s.two t.two s.two_params t.two_params s.second t.second) s.is t.is in
     λ i. Differ (k.0 i) (k.1 i)
