@@ -41,7 +41,7 @@ changed_none w change m has none = record {
 pub changed_by : (w : World) (f g : ℕ → ℕ) (m r : MapId) → ((x : ℕ) → f x ≡ g x) → IsChanged w f m r → IsChanged w g m r
 changed_by w f g m r same_change is = record { changed = λ x a b h e k. subst (λ c. IsTurned w c a b) (same_change x) (is.changed x a b h e k) }
 
-xor_in_turn : (x c d : ℕ) → bit_xor (bit_xor x d) c ≡ bit_xor x (bit_xor c d)
+pub xor_in_turn : (x c d : ℕ) → bit_xor (bit_xor x d) c ≡ bit_xor x (bit_xor c d)
 xor_in_turn x c d = same_from_bits _ _ (λ i.
     bit_at_xor (bit_xor x d) c i ∙ ap (λ b. (b + bit_at c i) % 2) (bit_at_xor x d i) ∙ sums (bit_at x i) (bit_at c i) (bit_at d i)
     ∙ sym (bit_at_xor x (bit_xor c d) i ∙ ap (λ b. (bit_at x i + b) % 2) (bit_at_xor c d i)))

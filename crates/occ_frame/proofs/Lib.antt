@@ -3,3 +3,4 @@ pub mod Keeping
 pub mod Bits
 pub mod After
 pub mod Changing
+pub mod Turning

@@ -6,6 +6,6 @@ mod changes;
 mod frame;
 mod sets;
 
-pub use changes::{freed, rebased, support, turned_on};
+pub use changes::{depth, freed, is_full, rebased, support, turned_on};
 pub use frame::{Frame, bits_from, has_bit, lowest};
-pub use sets::{bit_set, changed, digits, holds, within, without};
+pub use sets::{bit_set, changed, digits, holds, is_free, within, without};

@@ -3,6 +3,7 @@ ghost use Rattle.std.specs.Int.{bit_at};
 ghost use Rattle.occ_bits.specs.Layout.{environment_in, state_of};
 ghost use Rattle.occ_bits.specs.Words.{IsValue};
 ghost use Rattle.occ_dd.specs.Store.{IsKnown, IsSet, Keeps, has};
+ghost use Rattle.occ_diagram.specs.Assignment.{turned};
 ghost use Rattle.occ_syntax.specs.Eval.{is_true};
 ghost use Rattle.occ_syntax.specs.Types.{is_condition, type_of};
 ghost use Rattle.occ_syntax.specs.View.{exp};
@@ -74,6 +75,17 @@ pub fn changed(world: &mut World, set: SetId, bit: u32) -> Result<SetId, Memory>
     ensures set { IfOk result (λ r. IsSet world.new.store r (λ x. if has world.old.store set x then not (bit_at x bit == 1) else bit_at x bit == 1)) }
 {
     turned(&mut world.store, set, bit)
+}
+
+/// Whether a set has the same states whatever a bit is.
+pub fn is_free(world: &mut World, set: SetId, bit: u32) -> Result<bool, Memory>
+    requires set { IsKnown world.old.store set }
+    requires bit { bit < 64 }
+    ensures extends { Extends world.old world.new }
+    ensures free { IfOk result (λ answer. answer ≡ true → (x : ℕ) → has world.old.store set (turned x bit) ≡ has world.old.store set x) }
+{
+    let turned = world.store.flip(set, bit)?;
+    Ok(turned.0 == set.0)
 }
 
 /// The states in which a condition is TRUE.

@@ -1,5 +1,5 @@
 -- The bits that an assignment writes are different ones, and what they change.
-use Rattle.std.proofs.Common.{◌≡◌, ◌≢◌, ◌⊎◌, inl, inr, ℕ, suc, ◌+◌, ◌%◌, ◌<◌, ◌≤◌, ◌^◌, ◌==◌, ◌++◌, Bool, true, false, not, cond, min, List, [], ◌∷◌, Some, length, refl, sym, ap, ◌∙◌, subst, arith, ⊎_elim}
+use Rattle.std.proofs.Common.{◌≡◌, ◌⊎◌, inl, inr, ℕ, suc, ◌+◌, ◌%◌, ◌<◌, ◌≤◌, ◌^◌, ◌==◌, ◌++◌, Bool, true, false, not, cond, min, List, [], ◌∷◌, Some, length, refl, sym, ap, ◌∙◌, subst, arith, ⊎_elim}
 use Rattle.std.proofs.lemmas.Bool.{and_parts, cases_Bool, eqb-true, eqb-false, eq-eqb, ne_eqb}
 use Rattle.std.specs.Int.{bit_at}
 use Rattle.std.specs.Int.Bits.{bit_xor, xor_assoc, xor_zero_r}
@@ -19,21 +19,12 @@ use Rattle.occ_dd.specs.declared.store.Store.{Store}
 use Rattle.occ_syntax.specs.Tree.{Exp}
 use Rattle.occ_syntax.specs.Types.{pairs_kept}
 use Rattle.occ_frame.specs.After.{change_of}
-use Rattle.occ_writes.specs.Written.{AreAssigned, change_by, differs, digit_writes, onto, step}
+use Rattle.occ_writes.specs.Written.{AreAssigned, AreDistinct, IsOff, change_by, differs, digit_writes, onto, step}
 use Rattle.occ_writes.specs.declared.writes.Write.{Write}
 use Rattle.occ_writes.proofs.Places.{apart}
 use Rattle.occ_writes.proofs.Written.{count_is, off_first}
 
 -- ---- no bit is written twice
--- none of the writes is of the bit
-abbrev pub IsOff : ℕ → List Write → Type 0
-IsOff b [] = Unit {0}
-IsOff b (w ∷ ws) = (w.bit ≢ b) × IsOff b ws
-
-abbrev pub AreDistinct : List Write → Type 0
-AreDistinct [] = Unit {0}
-AreDistinct (w ∷ ws) = IsOff w.bit ws × AreDistinct ws
-
 -- none of the writes is of one of so many bits from a bit on
 abbrev OutOf : ℕ → ℕ → List Write → Type 0
 OutOf f n [] = Unit {0}

@@ -5,7 +5,7 @@ use Rattle.std.proofs.lemmas.List.{take_all}
 use Rattle.std.proofs.lemmas.Nat.{pow_below}
 use Rattle.std.proofs.lemmas.Option.{same_Some}
 use Rattle.std.specs.Int.{bit_at}
-use Rattle.std.specs.Int.Bits.{bit_and, bit_xor}
+use Rattle.std.specs.Int.Bits.{bit_and, bit_xor, xor_zero_r}
 use Rattle.std.proofs.lemmas.Nat.{xor_comm}
 use Rattle.occ_base.specs.declared.event.Event.{Event}
 use Rattle.occ_base.specs.declared.names.Name.{Name}
@@ -37,7 +37,7 @@ use Rattle.occ_frame.proofs.After.{change_below, changed-extends, over-extends, 
 use Rattle.occ_frame.proofs.Changing.{changed_by, changed_none, changed_twice}
 use Rattle.occ_frame.proofs.Placing.{frame_layout, width_here}
 use Rattle.occ_writes.specs.Writes.{AreWrites, IsWrite}
-use Rattle.occ_writes.specs.Written.{AreAssigned, IsSubstituted, change_by, differs, onto, step}
+use Rattle.occ_writes.specs.Written.{AreAssigned, IsExchanged, IsSubstituted, change_by, differs, onto, step}
 use Rattle.occ_writes.specs.declared.writes.Write.{Write}
 use Rattle.occ_writes.proofs.Written.{put_assigned, state_all}
 use Rattle.occ_writes.proofs.Apart.{assigned_distinct, change_all, change_more}
@@ -164,4 +164,36 @@ assign_after w0 w1 w k l vars layout bits keep closed frame small xs es rest sta
           leads = l.maps.same rest (to x) made.known ∙ (ap (λ ws. value w1.maps rest (onto w1.store ws x x)) (sym (take_all (length writes) writes (omega arith))) ∙ sym (made.values x)) ∙ found.1;
           turned = subst (λ c. IsTurned w c found.0 a) (ap (λ ws. change_by w1.store keep ws x) (take_all n writes all) ∙ change_all w1.store keep writes x (assigned_distinct w1.store layout (frame_layout vars layout bits frame) xs es writes is kept))
               (changed.changed x found.0 a h (l.maps.same start x made.has.known ∙ found.1) e);
+        }
+
+-- the same where all writes are made at once; the worlds: at first, at the end
+pub exchange_after : (v w : World) → Extends v w → (vars : List (Name × Kind)) (layout : List (Name × Width × ℕ)) (bits keep : ℕ) (closed : List Name) → IsFrame vars layout bits → keep < 2 ^ bits
+    → (xs : List ℕ) (es : List Exp) (rest r : MapId) → pairs_kept (environment_in layout) xs es ≡ true → IsOver v bits rest
+    → (writes : List Write) → AreWrites w.store writes → AreAssigned w.store layout xs es writes → IsExchanged w writes keep (length writes) 0 rest r
+    → (Γ : Environment) → IsAround Γ vars → IsAfter w layout keep closed Γ (assign xs es) rest r
+exchange_after v w k vars layout bits keep closed frame small xs es rest r kept over writes are is made Γ around =
+    assign_from w layout bits keep closed Γ xs es rest r to small (over-extends v w k bits rest over) (λ x h. onto_below w.store writes are x x h) state (state_back vars layout bits frame) each
+  where
+    to : ℕ → ℕ
+    to x = onto w.store writes x x
+
+    state : (x : ℕ) → state_of layout (to x) ≡ assigned xs es Γ (state_of layout x)
+    state x = state_all w.store layout (frame_layout vars layout bits frame) xs es writes is kept x x ∙ put_assigned xs es (environment_in layout) (state_of layout x)
+        ∙ assigned_around Γ (environment_in layout) (width_here Γ vars layout bits frame around) xs es (state_of layout x)
+
+    whole : take (length writes) writes ≡ writes
+    whole = take_all (length writes) writes (omega arith)
+
+    change : (x : ℕ) → bit_xor 0 (change_by w.store keep (take (length writes) writes) x) ≡ change_of keep x (to x)
+    change x = xor_comm 0 (change_by w.store keep (take (length writes) writes) x) ∙ xor_zero_r (change_by w.store keep (take (length writes) writes) x)
+        ∙ ap (λ ws. change_by w.store keep ws x) whole ∙ change_all w.store keep writes x (assigned_distinct w.store layout (frame_layout vars layout bits frame) xs es writes is kept)
+
+    each : (x : ℕ) (a : NodeId) → x < 2 ^ 64 → value w.maps r x ≡ Some a → Leads w rest (to x) (change_of keep x (to x)) a
+    each x a h e =
+        let found = (has_nodes-extends v w k rest over.has).nodes (to x) (onto_below w.store writes are x x h) in
+        record {
+          m = found.0;
+          leads = found.1;
+          turned = subst (λ c. IsTurned w c found.0 a) (change x)
+              (made.exchanged x found.0 a h (ap (λ ws. value w.maps rest (onto w.store ws x x)) whole ∙ found.1) e);
         }

@@ -4,3 +4,4 @@ pub mod Written
 pub mod Apart
 pub mod Substituted
 pub mod Assigning
+pub mod Exchanging

@@ -1,11 +1,11 @@
 -- What writes make of an assignment.
-use Rattle.std.specs.Prelude.{ℕ, ◌+◌, ◌≡◌, ◌==◌, ◌^◌, ◌++◌, Bool, not, List, [], ◌∷◌, Some, take, bit_xor, if◌then◌else◌}
+use Rattle.std.specs.Prelude.{ℕ, ◌+◌, ◌<◌, ◌≡◌, ◌==◌, ◌^◌, ◌++◌, Bool, not, List, [], ◌∷◌, Some, get_or, take, bit_xor, if◌then◌else◌}
 use Rattle.std.specs.Int.{bit_at}
 use Rattle.occ_base.specs.declared.names.Name.{Name}
 use Rattle.occ_base.specs.declared.width.Width.{Width}
 use Rattle.occ_bits.specs.Layout.{entry_of}
 use Rattle.occ_bits.specs.Words.{IsValue, digit}
-use Rattle.occ_diagram.specs.Assignment.{with_bit}
+use Rattle.occ_diagram.specs.Assignment.{turned, with_bit}
 use Rattle.occ_dd.specs.Store.{has}
 use Rattle.occ_dd.specs.declared.set.SetId.{SetId}
 use Rattle.occ_dd.specs.declared.store.Store.{Store}
@@ -14,7 +14,9 @@ use Rattle.occ_diagram.specs.declared.memo.Call.{Call}
 use Rattle.occ_diagram.specs.declared.memo.Memo.{Memo}
 use Rattle.occ_mdd.specs.Maps.{IsKnown, value}
 use Rattle.occ_mdd.specs.declared.map.MapId.{MapId}
+use Rattle.occ_node.specs.declared.node.NodeId.{NodeId}
 use Rattle.occ_node.specs.declared.world.World.{World}
+use Rattle.occ_lift.specs.Lifted.{IsTurned}
 use Rattle.occ_follow.specs.Sequence.{HasNodes}
 use Rattle.occ_syntax.specs.Tree.{Exp}
 use Rattle.occ_frame.specs.Kept.{map_id}
@@ -71,6 +73,35 @@ step s keep write x = if bit_at keep write.bit == 1 then (if differs (has s writ
 abbrev pub change_by : Store → ℕ → List Write → ℕ → ℕ
 change_by s keep [] x = 0
 change_by s keep (write ∷ writes) x = bit_xor (step s keep write x) (change_by s keep writes x)
+
+-- ---- writes that can be made at once
+-- whether a write changes its bit
+abbrev pub is_changed : Store → Write → ℕ → Bool
+is_changed s write x = differs (has s write.set x) (bit_at x write.bit)
+
+-- whether a write changes its bit doesn't depend on the bits of some writes
+abbrev pub IsFree : Store → Write → List Write → Type 0
+IsFree s write [] = Unit {0}
+IsFree s write (other ∷ others) = ((x : ℕ) → is_changed s write (turned x other.bit) ≡ is_changed s write x) × IsFree s write others
+
+-- that of each of the first writes, so many, doesn't depend on the bits of those before it
+abbrev pub AreFree : Store → List Write → ℕ → Type 0
+AreFree s writes n = (i : ℕ) → i < n → IsFree s (get_or writes i (record { bit = 0; set = record { 0 = 0 } })) (take i writes)
+
+-- none of the writes is of the bit
+abbrev pub IsOff : ℕ → List Write → Type 0
+IsOff b [] = Unit {0}
+IsOff b (w ∷ ws) = (w.bit ≡ b → ⊥) × IsOff b ws
+
+-- no bit is written twice
+abbrev pub AreDistinct : List Write → Type 0
+AreDistinct [] = Unit {0}
+AreDistinct (w ∷ ws) = IsOff w.bit ws × AreDistinct ws
+
+-- at each assignment the node of r is what the map has once the first writes, so many, are made, turned by their change and another one
+pub record IsExchanged (w : World) (writes : List Write) (keep left change : ℕ) (map r : MapId) : Type 0 where
+  pub exchanged : (x : ℕ) (a b : NodeId) → x < 2 ^ 64 → value w.maps map (onto w.store (take left writes) x x) ≡ Some a → value w.maps r x ≡ Some b
+      → IsTurned w (bit_xor change (change_by w.store keep (take left writes) x)) a b
 
 -- ---- maps of what writes make of a state
 -- at each assignment r has what the map has once the first writes, so many, are made

@@ -14,13 +14,13 @@ ghost use Rattle.occ_frame.specs.After.{IsAfter, IsOver};
 ghost use Rattle.occ_frame.specs.Changes.{IsChanged};
 ghost use Rattle.occ_frame.specs.Placed.{IsAround};
 ghost use Rattle.occ_writes.specs.Writes.{AreWrites, IsWrite};
-ghost use Rattle.occ_writes.specs.Written.{Adds, AreAssigned, IsSubstituted, KeepSubstituted, digit_writes, step};
+ghost use Rattle.occ_writes.specs.Written.{Adds, AreAssigned, AreDistinct, AreFree, IsExchanged, IsFree, IsSubstituted, KeepSubstituted, digit_writes, step};
 
 use occ_base::{Memory, Name};
 use occ_dd::SetId;
 use occ_diagram::{Call, Memo};
-use occ_frame::{Frame, changed, digits, has_bit, turned_on};
-use occ_lift::{choose, cofactor};
+use occ_frame::{Frame, changed, digits, has_bit, is_free, is_full, turned_on};
+use occ_lift::{choose, cofactor, flip, shifted, stop};
 use occ_mdd::MapId;
 use occ_node::World;
 use occ_syntax::Expr;
@@ -160,6 +160,113 @@ fn written(
     turned_on(alloc, world, changed, write.bit, map)
 }
 
+// Whether a set has the same states whatever the bits below a bit are.
+fn is_above(world: &mut World, set: SetId, bit: u32) -> Result<bool, Memory>
+    requires set { IsSetKnown world.old.store set }
+    requires bit { bit ≤ 64 }
+    ensures { Extends world.old world.new }
+{
+    for below in 0..bit {
+        let free = is_free(world, set, below)?;
+        if !free {
+            return Ok(false);
+        }
+    }
+    Ok(true)
+}
+
+// Whether what a write changes doesn't depend on the bits of some writes, nor on any bit below its own: parting a map by it
+// is quick then.
+fn is_apart(world: &mut World, write: Write, others: &[Write]) -> Result<bool, Memory>
+    requires write { IsWrite world.old.store write }
+    requires others { AreWrites world.old.store others.now }
+    ensures extends { Extends world.old world.new }
+    ensures free { IfOk result (λ answer. answer ≡ true → IsFree world.old.store write others.now) }
+{
+    let set = changed(world, write.set, write.bit)?;
+    let above = is_above(world, set, write.bit)?;
+    if !above {
+        return Ok(false);
+    }
+    for place in 0..others.len() {
+        let free = is_free(world, set, others[place].bit)?;
+        if !free {
+            return Ok(false);
+        }
+    }
+    Ok(true)
+}
+
+// Whether what each write changes doesn't depend on the bits of those before it.
+fn are_apart(world: &mut World, writes: &[Write]) -> Result<bool, Memory>
+    requires writes { AreWrites world.old.store writes.now }
+    ensures extends { Extends world.old world.new }
+    ensures free { IfOk result (λ answer. answer ≡ true → AreFree world.old.store writes.now (length writes.now)) }
+{
+    for place in 0..writes.len() {
+        let free = is_apart(world, writes[place], &writes[..place])?;
+        if !free {
+            return Ok(false);
+        }
+    }
+    Ok(true)
+}
+
+// Whether writes can be made all at once, and the map has so many nodes that this takes less time.
+fn are_joint(world: &mut World, writes: &[Write], map: MapId) -> Result<bool, Memory>
+    requires writes { AreWrites world.old.store writes.now }
+    requires map { HasNodes world.old map }
+    ensures extends { Extends world.old world.new }
+    ensures free { IfOk result (λ answer. answer ≡ true → AreFree world.new.store writes.now (length writes.now)) }
+{
+    if 16 < writes.len() {
+        return Ok(false);
+    }
+    let full = is_full(world, writes.len() as u32 + 6, map)?;
+    if !full {
+        return Ok(false);
+    }
+    are_apart(world, writes)
+}
+
+// The map of the first writes, so many, and then what a map has, where some more bits of final states are turned. What each
+// write changes doesn't depend on the bits of those before it. So the states are parted by what is changed, and in each part
+// those bits of the states are exchanged and all nodes turned once; outside the part stands any other map.
+fn exchanged(
+    alloc: Global,
+    world: &mut World,
+    keep: u64,
+    writes: &[Write],
+    left: usize,
+    change: u64,
+    map: MapId,
+    other: MapId,
+) -> Result<MapId, Memory>
+    requires left { left ≤ length writes.now }
+    requires writes { AreWrites world.old.store writes.now }
+    requires distinct { AreDistinct writes.now }
+    requires free { AreFree world.old.store writes.now (length writes.now) }
+    requires map { HasNodes world.old map }
+    requires other { HasNodes world.old other }
+    ensures extends { Extends world.old world.new }
+    ensures nodes { IfOk result (HasNodes world.new) }
+    ensures exchanged { IfOk result (IsExchanged world.new writes.now keep left change map) }
+{
+    if left == 0 {
+        return shifted(alloc, world, map, change);
+    }
+    let place = left - 1;
+    let Write { bit, set } = writes[place];
+    let turns = changed(world, set, bit)?;
+    let there = flip(world, map, bit)?;
+    let on = choose(world, turns, there, other)?;
+    let off = choose(world, turns, other, map)?;
+    let more = change ^ (keep & (1 << bit));
+    let high = exchanged(alloc, world, keep, writes, place, more, on, other)?;
+    let low = exchanged(alloc, world, keep, writes, place, change, off, other)?;
+    choose(world, turns, high, low)
+}
+
 /// The map of an assignment and then what another map has.
 pub fn assigned(
     alloc: Global,
@@ -177,6 +284,20 @@ pub fn assigned(
         → IsAfter world.new frame.now.layout frame.now.keep frame.now.closed.items Γ (assign (numbers vars.now) (exps values.now)) rest r) }
 {
     let writes = writes_of(alloc, world, frame, vars, values)?;
+    let joint = are_joint(world, &writes, rest)?;
+    if joint {
+        let other = stop(alloc, world)?;
+        return exchanged(
+            alloc,
+            world,
+            frame.keep,
+            &writes,
+            writes.len(),
+            0,
+            rest,
+            other,
+        );
+    }
     let mut memo = Memo::new(alloc);
     let mut map = substituted(world, &writes, writes.len(), rest, &mut memo)?;
     for write in &writes {
