@@ -1,0 +1,10 @@
+pub mod Words
+pub mod Numerals
+pub mod Lines
+pub mod Named
+pub mod States
+pub mod Events
+pub mod Rows
+pub mod Params
+pub mod Places
+pub mod Tables
