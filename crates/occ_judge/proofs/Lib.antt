@@ -1,0 +1,7 @@
+mod Faults
+mod Texts
+mod Powers
+mod Ranks
+mod Names
+mod Rows
+mod Marking

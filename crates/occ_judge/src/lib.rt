@@ -1,0 +1,13 @@
+//! The first fault of a table whose lines have their forms.
+#![tactic(auto)]
+
+mod lines;
+mod places;
+mod reach;
+mod sets;
+#[cfg(test)]
+mod tests;
+mod text;
+mod whole;
+
+pub use whole::judge;

@@ -1,0 +1,19 @@
+//! How normal texts are read: words, values, states, events and lines, one after another, and a whole text as a table.
+#![tactic(auto)]
+
+mod events;
+mod params;
+mod reading;
+mod sections;
+mod states;
+#[cfg(test)]
+mod tests;
+mod text;
+mod words;
+
+pub use events::{event_of, events_of, rank, set_of};
+pub use params::bits_of;
+pub use reading::first_line;
+pub use states::state_of;
+pub use text::read;
+pub use words::{before, behind, between, cut};
