@@ -1,0 +1,8 @@
+pub mod Halving
+pub mod Placing
+pub mod Sorting
+pub mod Ranking
+pub mod Listing
+pub mod Marking
+pub mod Rows
+pub mod Waiting

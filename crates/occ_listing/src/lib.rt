@@ -1,0 +1,15 @@
+//! The row of a table that a node of the diagrams is: its ends as states, its acceptances and its offers, each list in the
+//! order of the lines of a normal text.
+#![tactic(auto)]
+
+mod ends;
+mod events;
+mod members;
+mod offers;
+mod places;
+mod row;
+mod sets;
+#[cfg(test)]
+mod tests;
+
+pub use row::listed_row;

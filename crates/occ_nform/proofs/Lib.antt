@@ -1,0 +1,8 @@
+mod Overlay
+mod Assignments
+mod Programs
+mod Apart
+pub mod Written
+pub mod Plain
+mod Counting
+mod Texts

@@ -1,0 +1,12 @@
+pub mod Rows
+pub mod Nodes
+pub mod Levels
+pub mod Moves
+pub mod Graph
+pub mod Final
+pub mod Steps
+pub mod Named
+pub mod Sorting
+pub mod Texts
+pub mod Placing
+pub mod Whole
