@@ -1,0 +1,6 @@
+//! The normal text of an accepted program, by its behaviours from each of its initial states.
+#![tactic(auto)]
+
+mod canon;
+
+pub use canon::{measured, normal_text};

@@ -1,0 +1,4 @@
+mod Header
+mod Named
+mod Params
+mod Whole

@@ -1,0 +1,11 @@
+//! The words of a command line: which command they ask for, and its words. The commands are `same A B`, `normalise A`,
+//! `normal T`, `belongs A T` and `stress KIND N`, where `KIND` is `buffers`, `adders` or `muxes`, and `N` a number from 1
+//! to 48; the other words name files.
+#![tactic(auto)]
+
+mod stages;
+#[cfg(test)]
+mod tests;
+mod words;
+
+pub use words::{Command, command_in};
