@@ -4,19 +4,20 @@ use Rattle.occ_syntax.specs.declared.scope.Program.{Program}
 use Rattle.occ_syntax.specs.View.{tree}
 use Rattle.occ_syntax.specs.Usage.{KeepsUsage}
 use Rattle.occ_parse.specs.Known.{NamesAreKnown}
+use Rattle.occ_usage.specs.Accepted.{IsTyped}
 use Rattle.occ_usage.specs.declared.accepted.Accepted.{Accepted}
-use Rattle.occ_top.specs.declared.judge.Refusal.{Refusal}
-use Rattle.occ_top.specs.declared.judge.Refusal.TheVariants as refusal
-use Rattle.occ_top.specs.Answers.{ReadsAs}
+use Rattle.occ_top.specs.declared.accept.Refusal.{Refusal}
+use Rattle.occ_top.specs.declared.accept.Refusal.TheVariants as refusal
+use Rattle.occ_top.specs.Accepts.{ReadsAs}
 use Rattle.occ_top.specs.Judged.{IsAcceptedAs, IsRefusedFor, IsFaulty}
 use Rattle.occ_top.proofs.Known.{first_named}
 
-pub accepted_as : (text : List ℕ) (old new : List (List ℕ)) (program : Program) (numbers : List ℕ) (r : Result Accepted Refusal) → ReadsAs text old new program numbers → NamesAreKnown new program
+pub accepted_as : (text : List ℕ) (old new : List (List ℕ)) (program : Program) (numbers : List ℕ) (r : Result Accepted Refusal) → ReadsAs text old new program numbers → IsTyped program → NamesAreKnown new program
     → IfOk r (λ a. (a.program ≡ program) × KeepsUsage (tree program.body)) → IfOk r (λ a. IsAcceptedAs text old new a.program)
-accepted_as text old new program numbers (Err f) read known h = tt
-accepted_as text old new program numbers (Ok a) read known h =
+accepted_as text old new program numbers (Err f) read typed known h = tt
+accepted_as text old new program numbers (Ok a) read typed known h =
     let P : Program → Type 0 = λ p. IsAcceptedAs text old new p in
-    subst P (sym h.0) (record { accepted = record { numbers = numbers; read = read; usage = h.1 }; known = known })
+    subst P (sym h.0) (record { accepted = record { numbers = numbers; read = read; typed = typed; usage = h.1 }; known = known })
 
 refused_by : (text : List ℕ) (old new : List (List ℕ)) (program : Program) (numbers : List ℕ) (f : Refusal) → ReadsAs text old new program numbers → NamesAreKnown new program
     → IsFaulty program numbers f → IsRefusedFor text old new f

@@ -6,16 +6,17 @@ use Rattle.occ_top.specs.declared.load.Loaded.{Loaded}
 use Rattle.occ_top.specs.declared.load.Stop.{Stop}
 use Rattle.occ_top.specs.declared.load.Stop.TheVariants.{Read, Memory}
 use Rattle.occ_top.specs.declared.answer.Answer.{Answer}
-use Rattle.occ_top.specs.Words.{Job, same, job_of, file_words, file_words_of}
+use Rattle.occ_gen.specs.declared.shape.Shape.{Shape}
+use Rattle.occ_words.specs.Words.{Job, same, normalise, normal, belongs, stress, job_of}
 use Rattle.occ_top.specs.Files.{Files, AsksFront, AsksFor, IsLoaded}
 use Rattle.occ_top.specs.Texts.{status_of, text_of}
-use Rattle.occ_top.specs.Answers.{IsAnswer, comparison, Answers, Settles}
+use Rattle.occ_top.specs.Answers.{IsAnswer, comparison, normalisation, checking, membership, stressing, Answers, Settles, Normalises, Checks, Judges, Stresses}
 use Rattle.occ_top.specs.Ran.{Ran, answered, cut_short}
 
 abbrev Asks : Type 0
 Asks = Option (List (List ℕ))
 
-with_nothing : (old : Asks) → old ≡ with_more old []
+pub with_nothing : (old : Asks) → old ≡ with_more old []
 with_nothing None = refl
 with_nothing (Some xs) = ap Some (sym (append-nil xs))
 
@@ -92,30 +93,52 @@ second_stops {T} {U} old middle new a b r s e is at m f =
     go Read f = front_of_two old middle new a b 1 m f
     go Memory f = front_of_two old middle new a b 0 m f
 
--- the names that a comparison asks for are the command's words
-pub names_are : (words : List (List ℕ)) (a b : List ℕ) (old new : Asks) → job_of words ≡ Some (same a b) → new ≡ with_more old (a ∷ b ∷ []) → new ≡ with_more old (file_words words)
-names_are words a b old new is e = e ∙ ap (λ j. with_more old (file_words_of j)) (sym is)
-
 -- ---- answers
 
--- two files that were read have an answer
-pub compared : (told : Option Files) (a b : List ℕ) (one two : Loaded) (answer : Answer)
-    → IfSome told (λ files. IsLoaded (files a) one) → IfSome told (λ files. IsLoaded (files b) two)
-    → ((x y : Option (List ℕ)) → IsLoaded x one → IsLoaded y two → Settles x y answer)
-    → IfSome told (λ files. Settles (files a) (files b) answer)
-compared None a b one two answer l k s = tt
-compared (Some files) a b one two answer l k s = s (files a) (files b) l k
+-- a file that was read has an answer
+pub one_answered : (most : ℕ) (R : Option (List ℕ) → Answer → Type 0) (told : Option Files) (a : List ℕ) (one : Loaded) (answer : Answer)
+    → IfSome told (λ files. IsLoaded most (files a) one) → ((x : Option (List ℕ)) → IsLoaded most x one → R x answer) → IfSome told (λ files. R (files a) answer)
+one_answered most R None a one answer l s = tt
+one_answered most R (Some files) a one answer l s = s (files a) l
 
--- the words ask for a comparison, which is settled
+-- two files that were read have an answer
+pub both_answered : (most : ℕ) (R : Option (List ℕ) → Option (List ℕ) → Answer → Type 0) (told : Option Files) (a b : List ℕ) (one two : Loaded) (answer : Answer)
+    → IfSome told (λ files. IsLoaded most (files a) one) → IfSome told (λ files. IsLoaded most (files b) two)
+    → ((x y : Option (List ℕ)) → IsLoaded most x one → IsLoaded most y two → R x y answer)
+    → IfSome told (λ files. R (files a) (files b) answer)
+both_answered most R None a b one two answer l k s = tt
+both_answered most R (Some files) a b one two answer l k s = s (files a) (files b) l k
+
+-- ---- what the words ask for is answered
+
 pub asked_same : {E : Type 0} (told : Option Files) (words : List (List ℕ)) (a b : List ℕ) (r : Result Answer E) → Some (same a b) ≡ job_of words
     → IfOk r (λ answer. IfSome told (λ files. Settles (files a) (files b) answer)) → IfOk r (λ answer. IfSome told (λ files. IsAnswer files words answer))
 asked_same None words a b (Ok answer) is s = tt
 asked_same (Some files) words a b (Ok answer) is s = comparison a b (sym is) s
 asked_same told words a b (Err e) is s = tt
 
-pub asked_for_same : {T : Type 0} (old new : Asks) (words : List (List ℕ)) (a b : List ℕ) (r : Result T Stop) → Some (same a b) ≡ job_of words
-    → AsksFor old new (a ∷ b ∷ []) r → AsksFor old new (file_words words) r
-asked_for_same {T} old new words a b r is f = let P : Option Job → Type 0 = λ j. AsksFor old new (file_words_of j) r in subst P is f
+pub asked_normalise : {E : Type 0} (told : Option Files) (words : List (List ℕ)) (a : List ℕ) (r : Result Answer E) → Some (normalise a) ≡ job_of words
+    → IfOk r (λ answer. IfSome told (λ files. Normalises (files a) answer)) → IfOk r (λ answer. IfSome told (λ files. IsAnswer files words answer))
+asked_normalise None words a (Ok answer) is s = tt
+asked_normalise (Some files) words a (Ok answer) is s = normalisation a (sym is) s
+asked_normalise told words a (Err e) is s = tt
+
+pub asked_normal : {E : Type 0} (told : Option Files) (words : List (List ℕ)) (a : List ℕ) (r : Result Answer E) → Some (normal a) ≡ job_of words
+    → IfOk r (λ answer. IfSome told (λ files. Checks (files a) answer)) → IfOk r (λ answer. IfSome told (λ files. IsAnswer files words answer))
+asked_normal None words a (Ok answer) is s = tt
+asked_normal (Some files) words a (Ok answer) is s = checking a (sym is) s
+asked_normal told words a (Err e) is s = tt
+
+pub asked_belongs : {E : Type 0} (told : Option Files) (words : List (List ℕ)) (a b : List ℕ) (r : Result Answer E) → Some (belongs a b) ≡ job_of words
+    → IfOk r (λ answer. IfSome told (λ files. Judges (files a) (files b) answer)) → IfOk r (λ answer. IfSome told (λ files. IsAnswer files words answer))
+asked_belongs None words a b (Ok answer) is s = tt
+asked_belongs (Some files) words a b (Ok answer) is s = membership a b (sym is) s
+asked_belongs told words a b (Err e) is s = tt
+
+pub asked_stress : (told : Option Files) (words : List (List ℕ)) (shape : Shape) (stages : ℕ) (answer : Answer) → Some (stress shape stages) ≡ job_of words
+    → Stresses shape stages answer → IfSome told (λ files. IsAnswer files words answer)
+asked_stress None words shape stages answer is s = tt
+asked_stress (Some files) words shape stages answer is s = stressing shape stages (sym is) s
 
 pub answers_with : (told : Option Files) (words : List (List ℕ)) (answer : Answer) (status : ℕ) (text : List ℕ)
     → IfSome told (λ files. IsAnswer files words answer) → status ≡ status_of answer → text ≡ text_of answer → IfSome told (λ files. Answers files words status text)

@@ -1,4 +1,3 @@
-pub mod Parsing
 pub mod Judging
 pub mod Leaving
 pub mod Once
@@ -6,3 +5,5 @@ pub mod OneAnswer
 pub mod Known
 pub mod Accepting
 pub mod Named
+pub mod Stages
+pub mod Members

@@ -10,18 +10,23 @@ use Rattle.occ_top.specs.declared.load.Stop.TheVariants.{Read, Memory}
 abbrev pub Files : Type 0
 Files = List ℕ → Option (List ℕ)
 
--- how many bytes a text has at most
+-- how many bytes the text of a program or of a behaviour has at most
 abbrev pub most_bytes : ℕ
 most_bytes = 65536
 
-abbrev pub IsLoaded : Option (List ℕ) → Loaded → Type 0
-IsLoaded file (Bytes bytes) = (file ≡ Some bytes.items) × (length bytes.items ≤ most_bytes)
-IsLoaded file TooLong = IsSomeAnd file (λ bytes. most_bytes < length bytes)
+-- how many bytes a normal text has at most
+abbrev pub most_table_bytes : ℕ
+most_table_bytes = 67108864
 
--- the file holds no more bytes than a text has at most, or is known to be too long
-abbrev pub IsShort : Loaded → Type 0
-IsShort (Bytes bytes) = length bytes.items ≤ most_bytes
-IsShort TooLong = Unit {0}
+-- the file as it was read, where it may have so many bytes
+abbrev pub IsLoaded : ℕ → Option (List ℕ) → Loaded → Type 0
+IsLoaded most file (Bytes bytes) = (file ≡ Some bytes.items) × (length bytes.items ≤ most)
+IsLoaded most file TooLong = IsSomeAnd file (λ bytes. most < length bytes)
+
+-- the file holds no more bytes than a text of its kind has at most, or is known to be too long
+abbrev pub IsShort : ℕ → Loaded → Type 0
+IsShort most (Bytes bytes) = length bytes.items ≤ most
+IsShort most TooLong = Unit {0}
 
 -- A front of the names was asked for, that many of them.
 pub record AsksFront (old new : Option (List (List ℕ))) (names : List (List ℕ)) (from : ℕ) : Type 0 where

@@ -1,29 +1,28 @@
 -- What is judged of files that were read.
-use Rattle.std.specs.Prelude.{ℕ, ◌≡◌, ◌≢◌, List, ◌∷◌, true, slice_index_or}
+use Rattle.std.specs.Prelude.{ℕ, ◌≡◌, ◌≢◌, List, [], ◌∷◌, true, slice_index_or}
+use Rattle.occ_base.specs.Names.{IsDistinct}
 use Rattle.occ_syntax.specs.declared.scope.Program.{Program}
-use Rattle.occ_syntax.specs.View.{tree}
-use Rattle.occ_verdict.specs.Verdict.{IsVerdictOf}
+use Rattle.occ_table.specs.Tables.{IsInterface, are_params}
 use Rattle.occ_usage.specs.Accepted.{usage_faults}
 use Rattle.occ_usage.specs.declared.fault.UsageFault.{UsageFault}
 use Rattle.occ_usage.specs.declared.fault.UsageFault.TheVariants as shared
 use Rattle.occ_behaviour.specs.declared.behaviour.Side.{Side}
-use Rattle.occ_behaviour.specs.declared.behaviour.Verdict.{Verdict}
-use Rattle.occ_behaviour.specs.Members.{IsRight}
 use Rattle.occ_reading.specs.Reading.{IsRefused as IsRefusedText}
 use Rattle.occ_reading.specs.declared.bound.Bound.TheVariants as bound
-use Rattle.occ_reading.specs.declared.fault.ParseFault.{ParseFault}
 use Rattle.occ_reading.specs.declared.fault.ParseFault.TheVariants.{Limit}
 use Rattle.occ_reading.specs.declared.fault.ParseFault.TheVariants.{Memory as NoMemory}
 use Rattle.occ_reading.specs.declared.fault.Which.TheVariants.{Bytes as AllBytes}
+use Rattle.occ_claim.specs.declared.claim.ClaimFault.{ClaimFault}
+use Rattle.occ_claim.specs.declared.claim.ClaimFault.TheVariants as claim
+use Rattle.occ_parse.specs.Known.{NamesAreKnown}
 use Rattle.occ_top.specs.declared.answer.Answer.{Answer}
-use Rattle.occ_top.specs.declared.answer.Answer.TheVariants.{Usage, Refused, Unusable, InterfacesDiffer, Compared}
-use Rattle.occ_top.specs.declared.judge.Refusal.{Refusal}
-use Rattle.occ_top.specs.declared.judge.Refusal.TheVariants as refusal
+use Rattle.occ_top.specs.declared.answer.Answer.TheVariants.{Refused, Unusable, RefusedClaim}
+use Rattle.occ_top.specs.declared.accept.Refusal.{Refusal}
+use Rattle.occ_top.specs.declared.accept.Refusal.TheVariants as refusal
 use Rattle.occ_top.specs.declared.load.Loaded.{Loaded}
 use Rattle.occ_top.specs.declared.load.Loaded.TheVariants.{Bytes, TooLong}
-use Rattle.occ_top.specs.Answers.{IsAcceptedText, IsUnusableText, node_of}
+use Rattle.occ_top.specs.Accepts.{IsAcceptedText, IsUnusableText, node_of}
 use Rattle.occ_top.specs.Texts.{FaultIsNamed}
-use Rattle.occ_parse.specs.Known.{NamesAreKnown}
 
 -- The text is accepted, and all names of its program have texts.
 pub record IsAcceptedAs (text : List ℕ) (old new : List (List ℕ)) (program : Program) : Type 0 where
@@ -34,19 +33,17 @@ abbrev pub IsAcceptedFrom : Loaded → List (List ℕ) → List (List ℕ) → P
 IsAcceptedFrom (Bytes text) old new program = IsAcceptedAs text.items old new program
 IsAcceptedFrom TooLong old new program = ⊥
 
+-- the parameters can stand in a normal text
+pub record HasInterface (names : List (List ℕ)) (program : Program) : Type 0 where
+  pub interface : IsInterface names program.params
+  pub params : are_params names [] program.params ≡ true
+
 -- the fault is the first of the program, and the PAR stands on the line
 pub record IsFaultAt (program : Program) (numbers : List ℕ) (line : ℕ) (fault : UsageFault) : Type 0 where
   pub later : List UsageFault
   pub found : usage_faults program ≡ fault ∷ later
   pub line_is : line ≡ slice_index_or numbers (node_of fault) 1
   pub no_memory : fault ≢ shared.Memory
-
-abbrev pub IsUnusableAnswer : List (List ℕ) → Side → ℕ → UsageFault → Answer → Type 0
-IsUnusableAnswer names place line fault Usage = ⊥
-IsUnusableAnswer names place line fault (Refused other f) = ⊥
-IsUnusableAnswer names place line fault (Unusable table at number f) = (table ≡ names) × (at ≡ place) × (number ≡ line) × (f ≡ fault)
-IsUnusableAnswer names place line fault InterfacesDiffer = ⊥
-IsUnusableAnswer names place line fault (Compared table verdict) = ⊥
 
 -- why a text is refused
 abbrev pub IsRefusedFor : List ℕ → List (List ℕ) → List (List ℕ) → Refusal → Type 0
@@ -78,17 +75,16 @@ IsRefusalAt numbers f refusal.Memory = f ≡ shared.Memory
 -- the answer that tells a refusal
 abbrev pub IsRefusalAnswer : List (List ℕ) → Side → Refusal → Answer → Type 0
 IsRefusalAnswer names place (refusal.Text fault) answer = answer ≡ Refused place fault
-IsRefusalAnswer names place (refusal.Usage line fault) answer = IsUnusableAnswer names place line fault answer
+IsRefusalAnswer names place (refusal.Usage line fault) answer = answer ≡ Unusable names place line fault
 IsRefusalAnswer names place refusal.Memory answer = ⊥
 
-pub record IsVerdictOn (p q : Program) (verdict : Verdict) : Type 0 where
-  pub one_interface : p.params ≡ q.params
-  pub right : IsRight p.params (tree p.body) (tree q.body) verdict
-  pub first : IsVerdictOf p.params (tree p.body) (tree q.body) verdict
+-- the refusal can be said: it isn't want of memory, and what it names has a text
+abbrev pub IsSayable : List (List ℕ) → Refusal → Type 0
+IsSayable names (refusal.Text fault) = fault ≢ NoMemory
+IsSayable names (refusal.Usage line fault) = FaultIsNamed names fault
+IsSayable names refusal.Memory = Unit {0}
 
-abbrev pub IsComparison : List (List ℕ) → Program → Program → Answer → Type 0
-IsComparison names p q Usage = ⊥
-IsComparison names p q (Refused place fault) = ⊥
-IsComparison names p q (Unusable table place line fault) = ⊥
-IsComparison names p q InterfacesDiffer = p.params ≡ q.params → ⊥
-IsComparison names p q (Compared table verdict) = (table ≡ names) × IsVerdictOn p q verdict
+-- the answer that refuses a behaviour
+abbrev pub IsClaimRefusal : ClaimFault → Answer → Type 0
+IsClaimRefusal (claim.Form line) answer = answer ≡ RefusedClaim line
+IsClaimRefusal claim.Memory answer = ⊥

@@ -1,7 +1,6 @@
-pub mod Words
-pub mod CommandLine
 pub mod Files
 pub mod Texts
+pub mod Accepts
 pub mod Answers
 pub mod Ran
 pub mod Judged

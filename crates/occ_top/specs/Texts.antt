@@ -1,5 +1,5 @@
 -- The status and the text of each answer.
-use Rattle.std.specs.Prelude.{ℕ, ◌≢◌, ◌<◌, List, [], ◌++◌, codes, decimal, length, slice_index_or}
+use Rattle.std.specs.Prelude.{ℕ, ◌≢◌, ◌<◌, Bool, true, false, List, [], ◌++◌, codes, decimal, length, slice_index_or}
 use Rattle.occ_base.specs.declared.event.Dir.{Dir}
 use Rattle.occ_base.specs.declared.event.Dir.TheVariants.{Input, Output}
 use Rattle.occ_usage.specs.declared.fault.UsageFault.{UsageFault}
@@ -16,19 +16,35 @@ use Rattle.occ_behaviour.specs.declared.behaviour.Verdict.{Verdict}
 use Rattle.occ_behaviour.specs.declared.behaviour.Verdict.TheVariants.{Same, Differ}
 use Rattle.occ_behaviour.specs.Members.{VerdictIsNamed}
 use Rattle.occ_behaviour.specs.Texts.{text_of_verdict}
+use Rattle.occ_table.specs.declared.table.TableFault.{TableFault}
+use Rattle.occ_table.specs.declared.table.TableFault.TheVariants as table
+use Rattle.occ_gen.specs.declared.shape.Shape.{Shape}
+use Rattle.occ_gen.specs.declared.shape.Shape.TheVariants.{Buffers, Adders, Muxes}
+use Rattle.occ_nform.specs.declared.figures.Counts.{Counts}
 use Rattle.occ_top.specs.declared.answer.Answer.{Answer}
-use Rattle.occ_top.specs.declared.answer.Answer.TheVariants.{Usage, Refused, Unusable, InterfacesDiffer, Compared}
+use Rattle.occ_top.specs.declared.answer.Answer.TheVariants.{Usage, Refused, Unusable, TooLong, RefusedTable, RefusedClaim, InterfacesDiffer, Compared, Written, Counted, Member, Stressed}
 
 abbrev pub status_of_verdict : Verdict → ℕ
 status_of_verdict Same = 0
 status_of_verdict (Differ behaviour only) = 1
 
+abbrev pub status_of_member : Bool → ℕ
+status_of_member true = 0
+status_of_member false = 1
+
 abbrev pub status_of : Answer → ℕ
 status_of Usage = 2
 status_of (Refused place fault) = 3
 status_of (Unusable names place line fault) = 3
+status_of (TooLong place) = 3
+status_of (RefusedTable fault) = 3
+status_of (RefusedClaim line) = 3
 status_of InterfacesDiffer = 7
 status_of (Compared names verdict) = status_of_verdict verdict
+status_of (Written text) = 0
+status_of (Counted rows) = 0
+status_of (Member is) = status_of_member is
+status_of (Stressed shape stages counts) = 0
 
 abbrev pub place_text : Side → List ℕ
 place_text First = codes "FIRST"
@@ -103,6 +119,43 @@ FaultIsNamed names (shared.SharedVariable node name) = name.0 < length names
 FaultIsNamed names (shared.SharedEnd node name dir) = name.0 < length names
 FaultIsNamed names shared.Memory = ⊥
 
+-- ---- a text that isn't a normal one
+
+-- the row and the words for a fault of it
+abbrev pub row_refusal_text : ℕ → List ℕ → List ℕ
+row_refusal_text row words = codes "REFUSED FIRST ROW " ++ decimal row ++ codes " " ++ words ++ codes "\n"
+
+abbrev pub table_refusal_text : TableFault → List ℕ
+table_refusal_text (table.Form line) = refusal_text First line (codes "Form")
+table_refusal_text (table.Order line) = refusal_text First line (codes "Order")
+table_refusal_text (table.NotLeast line) = refusal_text First line (codes "NotLeast")
+table_refusal_text (table.Empty row) = row_refusal_text row (codes "Empty")
+table_refusal_text (table.Unreached row) = row_refusal_text row (codes "Unreached")
+table_refusal_text table.Memory = []
+
+-- ---- the answers that aren't refusals
+
+abbrev pub member_text : Bool → List ℕ
+member_text true = codes "YES\n"
+member_text false = codes "NO\n"
+
+abbrev pub shape_text : Shape → List ℕ
+shape_text Buffers = codes "buffers"
+shape_text Adders = codes "adders"
+shape_text Muxes = codes "muxes"
+
+-- a line with a figure
+abbrev pub figure_text : List ℕ → ℕ → List ℕ
+figure_text word figure = word ++ codes " " ++ decimal figure ++ codes "\n"
+
+-- the figures of a normal text, a line each
+abbrev pub counts_text : Counts → List ℕ
+counts_text counts = figure_text (codes "ROWS") counts.rows ++ figure_text (codes "OFFERS") counts.offers
+    ++ figure_text (codes "HEIGHT") counts.height ++ figure_text (codes "STATES") counts.states
+
+abbrev pub stress_text : Shape → ℕ → List ℕ
+stress_text shape stages = codes "STRESS " ++ figure_text (shape_text shape) stages
+
 abbrev pub usage_text : List ℕ
 usage_text = codes "USAGE same A B, normalise A, normal T, belongs A T, transform A T, expand A PATH, replay T, stress KIND N, refine A B, deadlock A, run A T, derive A\n"
 
@@ -110,13 +163,27 @@ abbrev pub text_of : Answer → List ℕ
 text_of Usage = usage_text
 text_of (Refused place fault) = refusal_text place (line_of fault) (fault_words fault)
 text_of (Unusable names place line fault) = refusal_text place line (words_of_usage names fault)
+text_of (TooLong place) = refusal_text place 1 (codes "Limit Bytes")
+text_of (RefusedTable fault) = table_refusal_text fault
+text_of (RefusedClaim line) = refusal_text Second line (codes "Form")
 text_of InterfacesDiffer = codes "INTERFACES DIFFER\n"
 text_of (Compared names verdict) = text_of_verdict names verdict
+text_of (Written text) = text.items
+text_of (Counted rows) = figure_text (codes "NORMAL") rows
+text_of (Member is) = member_text is
+text_of (Stressed shape stages counts) = stress_text shape stages ++ counts_text counts
 
 -- a refusal isn't want of memory, and the names that it or a verdict mentions have texts
 abbrev pub IsPrintable : Answer → Type 0
 IsPrintable Usage = Unit {0}
 IsPrintable (Refused place fault) = fault ≢ Memory
 IsPrintable (Unusable names place line fault) = FaultIsNamed names fault
+IsPrintable (TooLong place) = Unit {0}
+IsPrintable (RefusedTable fault) = fault ≢ table.Memory
+IsPrintable (RefusedClaim line) = Unit {0}
 IsPrintable InterfacesDiffer = Unit {0}
 IsPrintable (Compared names verdict) = VerdictIsNamed names verdict
+IsPrintable (Written text) = Unit {0}
+IsPrintable (Counted rows) = Unit {0}
+IsPrintable (Member is) = Unit {0}
+IsPrintable (Stressed shape stages counts) = Unit {0}

@@ -2,6 +2,8 @@ ghost use Rattle.std.specs.Prelude.{ℕ, ◌≡◌, List};
 ghost use Rattle.occ_top.specs.Files.{Files};
 ghost use Rattle.occ_top.specs.Answers.{Answers};
 
+use occ_nform::normal_texts_tell_programs_apart;
+use occ_params::parameters_have_names;
 use occ_reading::one_reading;
 use occ_verdict::one_verdict;
 
@@ -11,5 +13,7 @@ pub fn one_answer()
         → Answers files words s a → Answers files words t b → (s ≡ t) × (a ≡ b) }
 {
     one_reading();
+    parameters_have_names();
+    normal_texts_tell_programs_apart();
     one_verdict();
 }

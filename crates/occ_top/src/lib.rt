@@ -1,14 +1,19 @@
 //! The top call: the words of a command line, the files that they name, and the answer.
 #![tactic(auto)]
 
+mod accept;
 mod answer;
+mod files;
 mod judge;
 mod law;
 mod load;
+mod measure;
+mod member;
+mod normal;
+mod refusal;
 #[cfg(test)]
 mod tests;
 mod top;
-mod words;
 
 pub use law::one_answer;
 pub use top::run;

@@ -73,6 +73,19 @@ fn compare(
     Ok((status, desk))
 }
 
+// The status and the desk after a command over the files A and B.
+fn command(
+    alloc: Global,
+    words: &[&str],
+    first: &str,
+    second: &str,
+) -> Result<(u8, MemoryDesk), Memory> {
+    let mut desk = desk_with(alloc, &[], 1000, first.as_bytes(), second.as_bytes())?;
+    let words = strings(alloc, words)?;
+    let status = run(alloc, words.as_slice(), &mut desk);
+    Ok((status, desk))
+}
+
 #[test]
 fn programs_are_compared(rt: HostRuntime) -> Result<(), Fail> {
     for (first, second, status, text) in [
@@ -123,7 +136,7 @@ fn words_fit_or_are_answered_with_usage(rt: HostRuntime) -> Result<(), Fail> {
         (["occam", "same", "-A", "B"].as_slice(), 2, USAGE),
         (["occam", "--help"].as_slice(), 2, USAGE),
         (["occam", "help"].as_slice(), 2, USAGE),
-        (["occam", "normalise", "A"].as_slice(), 2, USAGE),
+        (["occam", "transform", "A", "B"].as_slice(), 2, USAGE),
         (["occam"].as_slice(), 2, USAGE),
         ([].as_slice(), 2, USAGE),
     ] {
@@ -291,5 +304,80 @@ fn single_lines_are_refused(rt: HostRuntime) -> Result<(), Fail> {
         answer.push(b'\n')?;
         assert_eq!(rt; desk.written(), answer.as_slice());
     }
+    Ok(())
+}
+
+const CHOICE: &str =
+    "PROC p (CHAN OF BOOL a!, b!)\n  ALT\n    TRUE & SKIP\n      ALT\n        a ! TRUE\n          SKIP\n    TRUE & SKIP\n      ALT\n        a ! TRUE\n          SKIP\n        b ! TRUE\n          SKIP\n:\n";
+
+const NORMAL: &str =
+    "occam-normal 1\nPARAM CHAN OF BOOL a!\nPARAM CHAN OF BOOL b!\nROW 0\nEND []\nROW 1\nACCEPT {a!1}\nOFFER a!1 0\nOFFER b!1 0\nSTATE [] 1\n";
+
+#[test]
+fn a_normal_text_is_written(rt: HostRuntime) -> Result<(), Fail> {
+    for (program, status, text) in [(CHOICE, 0, NORMAL), ("x", 3, "REFUSED FIRST 1 Form\n")] {
+        let words = ["occam", "normalise", "A"].as_slice();
+        let (answer, desk) = command(rt.alloc(), words, program, "")?;
+        assert_eq!(rt; answer, status);
+        assert_eq!(rt; desk.written(), text.as_bytes());
+    }
+    Ok(())
+}
+
+#[test]
+fn a_normal_text_is_told_from_others(rt: HostRuntime) -> Result<(), Fail> {
+    for (text, status, wanted) in [
+        (NORMAL, 0, "NORMAL 2\n"),
+        ("", 3, "REFUSED FIRST 1 Form\n"),
+        (
+            "occam-normal 1\nROW 0\nEND []\nROW 1\nEND []\nSTATE [] 0\n",
+            3,
+            "REFUSED FIRST 4 Order\n",
+        ),
+        (
+            "occam-normal 1\nROW 0\nSTATE [] 0\n",
+            3,
+            "REFUSED FIRST ROW 0 Empty\n",
+        ),
+    ] {
+        let words = ["occam", "normal", "A"].as_slice();
+        let (answer, desk) = command(rt.alloc(), words, text, "")?;
+        assert_eq!(rt; answer, status);
+        assert_eq!(rt; desk.written(), wanted.as_bytes());
+    }
+    Ok(())
+}
+
+#[test]
+fn a_behaviour_belongs_or_not(rt: HostRuntime) -> Result<(), Fail> {
+    for (program, text, status, wanted) in [
+        (CHOICE, "STATE []\nTRACE\nREFUSES {b!1}\n", 0, "YES\n"),
+        (CHOICE, "STATE []\nTRACE\nREFUSES {a!1}\n", 1, "NO\n"),
+        (CHOICE, "STATE []\nTRACE b!1\nENDS []\n", 0, "YES\n"),
+        (
+            CHOICE,
+            "STATE []\nTRACE c!1\nENDS []\n",
+            3,
+            "REFUSED SECOND 2 Form\n",
+        ),
+        ("x", "", 3, "REFUSED FIRST 1 Form\n"),
+    ] {
+        let words = ["occam", "belongs", "A", "B"].as_slice();
+        let (answer, desk) = command(rt.alloc(), words, program, text)?;
+        assert_eq!(rt; answer, status);
+        assert_eq!(rt; desk.written(), wanted.as_bytes());
+    }
+    Ok(())
+}
+
+#[test]
+fn a_generated_program_is_measured(rt: HostRuntime) -> Result<(), Fail> {
+    let words = ["occam", "stress", "buffers", "1"].as_slice();
+    let (answer, desk) = command(rt.alloc(), words, "", "")?;
+    assert_eq!(rt; answer, 0);
+    assert_eq!(rt;
+        desk.written(),
+        b"STRESS buffers 1\nROWS 31\nOFFERS 40\nHEIGHT 20\nSTATES 1\n".as_slice()
+    );
     Ok(())
 }

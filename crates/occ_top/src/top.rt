@@ -1,15 +1,16 @@
-ghost use Rattle.std.specs.Prelude.{◌≡◌, ◌≢◌, ◌∷◌, [], ◌≤◌, ◌<◌, ◌↔◌, ◌⊎◌, map, string_bytes, IfOk, IfSome, None, Err};
-ghost use Rattle.occ_top.specs.Words.{job_of, file_words};
+ghost use Rattle.std.specs.Prelude.{◌≡◌, ◌≢◌, ◌≤◌, ◌<◌, ◌↔◌, ◌⊎◌, map, string_bytes, IfOk, IfSome, None, Err};
+ghost use Rattle.occ_words.specs.Words.{job_of, file_words};
 ghost use Rattle.occ_top.specs.Files.{AsksFor, CountsStop};
 ghost use Rattle.occ_top.specs.Texts.{IsPrintable};
-ghost use Rattle.occ_top.specs.Answers.{IsAnswer, Answers, Settles};
+ghost use Rattle.occ_top.specs.Answers.{IsAnswer, Answers};
 ghost use Rattle.occ_top.specs.Ran.{Ran, Asked};
 
 use crate::answer::{Answer, status, text};
-use crate::judge::judge;
-use crate::load::{Stop, load_both};
-use crate::words::{Command, command_in};
+use crate::files::{belongs_file, check_file, compare_files, normalise_file};
+use crate::load::Stop;
+use crate::measure::stress;
 use occ_desk::{Desk, send};
+use occ_words::{Command, command_in};
 use std::alloc::Global;
 
 /// Runs a command: the words of a command line, the program's own name first, over a desk, to which the answer is written.
@@ -17,8 +18,8 @@ use std::alloc::Global;
 ///
 /// | status | comes exactly where | written |
 /// |---|---|---|
-/// | 0 | the programs mean the same | the answer |
-/// | 1 | they differ | the answer |
+/// | 0 | the programs mean the same; the normal text is written; the text is normal; the behaviour belongs to the program; the generated program is measured | the answer |
+/// | 1 | the programs differ; the behaviour doesn't belong to the program | the answer |
 /// | 2 | the words don't fit | the line of usage |
 /// | 3 | a text is refused | the refusal |
 /// | 4 | a read failed in this call | nothing |
@@ -80,7 +81,7 @@ fn make_reply<D: Desk>(alloc: Global, words: &[String], desk: &mut D) -> Result<
     let answer = find_answer(alloc, words, desk)?;
     Ok(Reply {
         status: status(&answer),
-        text: text(alloc, &answer)?,
+        text: text(alloc, answer)?,
     })
 }
 
@@ -103,28 +104,9 @@ fn find_answer<D: Desk>(alloc: Global, words: &[String], desk: &mut D) -> Result
     match command_in(alloc, words)? {
         Command::Usage => Ok(Answer::Usage),
         Command::Same { first, second } => compare_files(alloc, first, second, desk),
+        Command::Normalise { program } => normalise_file(alloc, program, desk),
+        Command::Normal { text } => check_file(alloc, text, desk),
+        Command::Belongs { program, text } => belongs_file(alloc, program, text, desk),
+        Command::Stress { shape, stages } => Ok(stress(alloc, shape, stages)?),
     }
-}
-
-/// The answer to two files whose programs are to be compared.
-fn compare_files<D: Desk>(
-    alloc: Global,
-    first: &str,
-    second: &str,
-    desk: &mut D,
-) -> Result<Answer, Stop>
-    requires reads_countable { D.read_faults desk.old < u64.MAX }
-    requires writes_countable { D.write_faults desk.old < u64.MAX }
-    ensures settles { IfOk result (λ answer. IfSome (D.files desk.old) (λ files.
-        Settles (files first.now) (files second.now) answer)) }
-    ensures printable { IfOk result IsPrintable }
-    ensures usage { IfOk result (λ answer. answer ≢ Answer.Usage) }
-    ensures asked { AsksFor (D.asked desk.old) (D.asked desk.new) (first.now ∷ second.now ∷ []) result }
-    ensures read_faults { CountsStop (D.read_faults desk.old) (D.read_faults desk.new) result }
-    ensures files { D.files desk.new ≡ D.files desk.old }
-    ensures written { D.written desk.new ≡ D.written desk.old }
-    ensures write_faults { D.write_faults desk.new ≡ D.write_faults desk.old }
-{
-    let (one, two) = load_both(alloc, desk, first, second)?;
-    Ok(judge(alloc, &one, &two)?)
 }

@@ -1,5 +1,7 @@
 use Rattle.occ_syntax.specs.View.{tree}
 use Rattle.occ_reading.specs.declared.bound.Bound.TheVariants as bound
+use Rattle.std.proofs.Common.{[]}
+use Rattle.occ_top.proofs.Judging.{no_name_twice}
 use Rattle.occ_top.proofs.OneAnswer.{one_answer}
 use Rattle.occ_top.proofs.law.one_answer.Goals as goal
 
@@ -10,4 +12,7 @@ returns c = one_answer (record {
       record { names = e.table; params = e.params; body = e.body; numbers = e.numbers };
   one_fault = λ text old f g r s. c.one_reading.ensures.fault bound.Program text old f g r s;
   not_both = λ text old m p ls f r s. c.one_reading.ensures.apart bound.Program text old m p.name p.params (tree p.body) ls f r s;
-}) (record { one = c.one_verdict.ensures })
+}) (record { one = c.one_verdict.ensures }) (record {
+  distinct = λ text new p ls r. (c.parameters_have_names.ensures text [] new p.name p.params (tree p.body) ls no_name_twice r).0;
+  one = c.normal_texts_tell_programs_apart.ensures;
+})
