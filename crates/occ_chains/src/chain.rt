@@ -1,11 +1,13 @@
-ghost use Rattle.std.specs.Prelude.{◌+◌, ◌^◌, ◌<◌, ◌≤◌, IfOk};
+ghost use Rattle.std.specs.Prelude.{◌≡◌, ◌+◌, ◌^◌, ◌<◌, ◌≤◌, [], ◌∷◌, IfOk};
+ghost use Rattle.occ_choice.specs.Union.{AreUnions};
 ghost use Rattle.occ_node.specs.World.{IsNode, Leads};
+ghost use Rattle.occ_weave.specs.Weaves.{KeepWoven};
 
 use crate::reach::reached;
 use occ_base::{Dir, Event, Memory, Name};
-use occ_choice::{alt, prefix_in, prefix_out};
+use occ_choice::{Unions, alt, prefix_in, prefix_out};
 use occ_node::{NodeId, World};
-use occ_weave::weave;
+use occ_weave::{Weaves, weave, weave_with};
 use std::alloc::Global;
 
 // How many messages pass.
@@ -20,63 +22,89 @@ pub struct Figures {
     pub rows: usize,
 }
 
-/// The figures of a chain of buffers, which is woven from its end.
-pub fn measure(alloc: Global, stages: usize) -> Result<Figures, Memory>
+/// The figures of a chain of buffers whose inner channels have two names in turn: a closed name is free again. It is woven
+/// from its end, by tables that serve all stages.
+pub fn measure_in_turn(alloc: Global, stages: usize) -> Result<Figures, Memory>
     requires { 1 ≤ stages }
     ensures { IfOk result (λ r. r.rows ≤ r.made) }
 {
     let mut world = World::new(alloc)?;
-    let mut chain = buffer(alloc, &mut world, stages - 1)?;
-    for place in (0..stages - 1).rev() {
-        chain = beside(alloc, &mut world, place, chain)?;
+    let mut unions = Unions::new(alloc);
+    let mut even = Weaves::new(alloc, 0, &[in_turn(0)])?;
+    let mut odd = Weaves::new(alloc, 0, &[in_turn(1)])?;
+    let mut chain = buffer(alloc, &mut world, in_turn(stages - 1), Name(0))?;
+    for place in (1..stages).rev() {
+        let node = buffer(alloc, &mut world, in_turn(place - 1), in_turn(place))?;
+        let weaves = if place % 2 == 0 { &mut even } else { &mut odd };
+        chain = weave_with(alloc, &mut world, &mut unions, weaves, node, chain)?;
     }
+    figures(alloc, &world, chain)
+}
+
+/// The figures of a chain of buffers whose channels have names of their own. It is woven from its end.
+pub fn measure_apart(alloc: Global, stages: usize) -> Result<Figures, Memory>
+    requires { 1 ≤ stages }
+    ensures { IfOk result (λ r. r.rows ≤ r.made) }
+{
+    let mut world = World::new(alloc)?;
+    let mut chain = buffer(alloc, &mut world, Name(stages - 1), Name(stages))?;
+    for place in (1..stages).rev() {
+        let node = buffer(alloc, &mut world, Name(place - 1), Name(place))?;
+        chain = weave(alloc, &mut world, node, chain, 0, &[Name(place)])?;
+    }
+    figures(alloc, &world, chain)
+}
+
+// The figures of a chain that was made.
+fn figures(alloc: Global, world: &World, chain: NodeId) -> Result<Figures, Memory>
+    requires { IsNode world.now chain }
+    ensures { IfOk result (λ r. r.rows ≤ r.made) }
+{
     Ok(Figures {
         made: world.nodes(),
-        rows: reached(alloc, &world, chain)?,
+        rows: reached(alloc, world, chain)?,
     })
 }
 
-// The buffer at a place beside the rest of the chain, where no one else reaches the channel between them.
-fn beside(alloc: Global, world: &mut World, place: usize, rest: NodeId) -> Result<NodeId, Memory>
-    requires place { place + 1 < 2 ^ 64 }
-    requires rest { IsNode world.old rest }
-    ensures leads { Leads world.old world.new }
-    ensures node { IfOk result (IsNode world.new) }
-{
-    let node = buffer(alloc, world, place)?;
-    weave(alloc, world, node, rest, 0, &[Name(place + 1)])
+// The name of the channel at a place, of two in turn.
+fn in_turn(place: usize) -> Name {
+    Name(1 + place % 2)
 }
 
-// A buffer of one place, from channel `place` to the next, for all messages.
-fn buffer(alloc: Global, world: &mut World, place: usize) -> Result<NodeId, Memory>
-    requires { place + 1 < 2 ^ 64 }
+// A buffer of one place, from a channel to another, for all messages.
+fn buffer(alloc: Global, world: &mut World, from: Name, to: Name) -> Result<NodeId, Memory>
     ensures leads { Leads world.old world.new }
     ensures node { IfOk result (IsNode world.new) }
 {
     let mut node = alt(alloc, world, &[])?;
     for _message in 0..MESSAGES {
-        node = pass(alloc, world, place, node)?;
+        node = pass(alloc, world, from, to, node)?;
     }
     Ok(node)
 }
 
-// The node that takes in a bit on channel `place`, puts it out on the next channel, and is then another node.
-fn pass(alloc: Global, world: &mut World, place: usize, next: NodeId) -> Result<NodeId, Memory>
-    requires place { place + 1 < 2 ^ 64 }
+// The node that takes in a bit on a channel, puts it out on another, and is then another node.
+fn pass(
+    alloc: Global,
+    world: &mut World,
+    from: Name,
+    to: Name,
+    next: NodeId,
+) -> Result<NodeId, Memory>
     requires next { IsNode world.old next }
     ensures leads { Leads world.old world.new }
     ensures node { IfOk result (IsNode world.new) }
 {
-    let zero = put(alloc, world, place + 1, 0, next)?;
-    let one = put(alloc, world, place + 1, 1, next)?;
-    prefix_in(alloc, world, Name(place), &[zero, one])
+    let zero = put(alloc, world, to, 0, next)?;
+    let one = put(alloc, world, to, 1, next)?;
+    prefix_in(alloc, world, from, &[zero, one])
 }
 
-// The node that puts out a value on channel `place` and is then another node.
+// The node that puts out a value on a channel and is then another node.
 fn put(
     alloc: Global,
     world: &mut World,
-    place: usize,
+    chan: Name,
     value: u8,
     next: NodeId,
 ) -> Result<NodeId, Memory>
@@ -85,7 +113,7 @@ fn put(
     ensures node { IfOk result (IsNode world.new) }
 {
     let event = Event {
-        chan: Name(place),
+        chan,
         dir: Dir::Output,
         value,
     };

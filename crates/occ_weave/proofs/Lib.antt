@@ -8,4 +8,6 @@ pub mod Public
 pub mod Merging
 pub mod Stepping
 pub mod States
+pub mod AtOnce
+pub mod Passing
 pub mod Keeping

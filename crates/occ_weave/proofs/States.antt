@@ -1,12 +1,10 @@
-use Rattle.std.proofs.Common.{◌≡◌, ◌⊎◌, ◌<◌, ◌≤◌, ◌^◌, ◌==◌, ℕ, Bool, true, false, cond, refl, sym, ap, ◌∙◌, min, ⊎_elim, arith}
+use Rattle.std.proofs.Common.{◌≡◌, ◌<◌, ◌≤◌, ◌^◌, ◌==◌, ℕ, cond, sym, ap, ◌∙◌, min, ⊎_elim, arith}
 use Rattle.std.specs.Int.{bit_at}
 use Rattle.std.specs.Int.Bits.{bit_and}
 use Rattle.std.proofs.lemmas.Bool.{cond_both, cases_lt, eqb-true, eq-eqb}
 use Rattle.std.proofs.lemmas.Nat.Bits.{bit_at_and, bit_at_above, same_from_bits}
 use Rattle.occ_diagram.proofs.Bits.{bit_cases, is_one, is_zero}
-use Rattle.occ_syntax.specs.Meaning.{join}
-use Rattle.occ_weave.specs.Weave.{IsJoined}
-use Rattle.occ_weave.specs.States.{values, AreParted, JoinsStates}
+use Rattle.occ_weave.specs.States.{JoinsStates}
 
 -- assignments that agree on the bits of a mask give one value
 same_value : (mask x y : ℕ) → mask < 2 ^ 64 → ((b : ℕ) → b < 64 → bit_at mask b ≡ 1 → bit_at x b ≡ bit_at y b) → bit_and x mask ≡ bit_and y mask

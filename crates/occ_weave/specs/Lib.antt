@@ -4,4 +4,5 @@ pub mod Joint
 pub mod Steps
 pub mod Memo
 pub mod Weaves
+pub mod Steady
 pub mod States

@@ -7,6 +7,7 @@ mod ends;
 mod law;
 mod merge;
 mod resting;
+mod steady;
 mod step;
 #[cfg(test)]
 mod tests;

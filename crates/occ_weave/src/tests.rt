@@ -61,6 +61,22 @@ fn events_come_in_any_order(rt: HostRuntime) -> Result<(), Memory> {
 }
 
 #[test]
+fn a_communication_that_nothing_hinders_passes_at_once(rt: HostRuntime) -> Result<(), Memory> {
+    let alloc = rt.alloc();
+    let mut world = World::new(alloc)?;
+    let stop = alt(alloc, &mut world, &[])?;
+    let next = prefix_out(alloc, &mut world, B, stop)?;
+    let sender = prefix_out(alloc, &mut world, A, stop)?;
+    let receiver = prefix_in(alloc, &mut world, Name(0), &[stop, stop])?;
+    let busy = weave(alloc, &mut world, receiver, next, 0, &[])?;
+    let made = world.nodes();
+    let both = weave(alloc, &mut world, sender, busy, 0, &[Name(0)])?;
+    assert_eq!(rt; both, next);
+    assert_eq!(rt; world.nodes(), made);
+    Ok(())
+}
+
+#[test]
 fn written_bits_are_of_the_first(rt: HostRuntime) -> Result<(), Memory> {
     let mut store = Store::new(rt.alloc())?;
     let ones = store.bit(0)?;
