@@ -35,10 +35,13 @@ pub fn measure_in_turn(alloc: Global, stages: usize) -> Result<Figures, Memory>
     let mut chain = buffer(alloc, &mut world, in_turn(stages - 1), Name(0))?;
     for place in (1..stages).rev() {
         let node = buffer(alloc, &mut world, in_turn(place - 1), in_turn(place))?;
-        let weaves = if place % 2 == 0 { &mut even } else { &mut odd };
-        chain = weave_with(alloc, &mut world, &mut unions, weaves, node, chain)?;
+        chain = if place % 2 == 0 {
+            weave_with(alloc, &mut world, &mut unions, &mut even, node, chain)?
+        } else {
+            weave_with(alloc, &mut world, &mut unions, &mut odd, node, chain)?
+        };
     }
-    figures(alloc, &world, chain)
+    measured(alloc, &world, chain)
 }
 
 /// The figures of a chain of buffers whose channels have names of their own. It is woven from its end.
@@ -52,11 +55,11 @@ pub fn measure_apart(alloc: Global, stages: usize) -> Result<Figures, Memory>
         let node = buffer(alloc, &mut world, Name(place - 1), Name(place))?;
         chain = weave(alloc, &mut world, node, chain, 0, &[Name(place)])?;
     }
-    figures(alloc, &world, chain)
+    measured(alloc, &world, chain)
 }
 
 // The figures of a chain that was made.
-fn figures(alloc: Global, world: &World, chain: NodeId) -> Result<Figures, Memory>
+fn measured(alloc: Global, world: &World, chain: NodeId) -> Result<Figures, Memory>
     requires { IsNode world.now chain }
     ensures { IfOk result (λ r. r.rows ≤ r.made) }
 {

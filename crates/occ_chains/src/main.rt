@@ -6,6 +6,8 @@
 //! and 48 stages.
 #![tactic(auto)]
 
+ghost use Rattle.std.specs.Prelude.{◌≤◌};
+
 mod chain;
 mod reach;
 

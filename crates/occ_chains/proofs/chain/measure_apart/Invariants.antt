@@ -1,5 +1,5 @@
 use Rattle.occ_node.specs.World.{IsNode}
-use Rattle.occ_chains.proofs.chain.measure.Given as goal
+use Rattle.occ_chains.proofs.chain.measure_apart.Given as goal
 
 -- the chain so far is a node
 abbrev pub invariant-loop-place : goal.invariant-loop-place
