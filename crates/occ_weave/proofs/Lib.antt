@@ -10,4 +10,5 @@ pub mod Stepping
 pub mod States
 pub mod AtOnce
 pub mod Passing
+pub mod Staying
 pub mod Keeping

@@ -5,4 +5,5 @@ pub mod Steps
 pub mod Memo
 pub mod Weaves
 pub mod Steady
+pub mod Over
 pub mod States
