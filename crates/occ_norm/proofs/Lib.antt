@@ -7,3 +7,4 @@ pub mod Steps
 pub mod Declaring
 pub mod Rooting
 pub mod Using
+pub mod Beside

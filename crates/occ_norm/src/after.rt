@@ -16,7 +16,7 @@ use occ_lift::{choose, stop};
 use occ_mdd::MapId;
 use occ_node::World;
 use occ_sequel::sequel;
-use occ_sides::{Sides, beside, side_frame};
+use occ_sides::{Sides, joined, side_frame};
 use occ_syntax::{Expr, Guard, Proc};
 use occ_writes::assigned;
 use std::alloc::Global;
@@ -190,14 +190,12 @@ fn at_once(
         return after(alloc, world, frame, &parts[0], rest);
     }
     let sides = Sides::of(alloc, world, frame, parts, rest)?;
-    let mut map = sides.ended;
-    let mut left = parts.len();
-    while left > 0 {
-        left -= 1;
-        let inner = side_frame(alloc, frame, &sides, left)?;
-        let first = after(alloc, world, &inner, &parts[left], sides.ended)?;
-        let both = beside(alloc, world, frame, &sides, left, parts, first, map)?;
-        map = both;
+    let mut maps = Vec::new(alloc);
+    for place in 0..parts.len() {
+        let inner = side_frame(alloc, frame, &sides, place)?;
+        let map = after(alloc, world, &inner, &parts[place], sides.ended)?;
+        maps.push(map)?;
     }
+    let map = joined(alloc, world, frame, &sides, parts, maps.as_slice())?;
     sequel(alloc, world, frame, sides.needed, sides.written, map, rest)
 }

@@ -1,6 +1,6 @@
 -- Closed channels that a part doesn't use.
-use Rattle.std.proofs.Common.{◌≡◌, ℕ, ◌==◌, ◌&&◌, ◌||◌, inl, inr, Bool, true, false, cond, not, List, [], ◌∷◌, ⊎_elim, refl, sym, ap, ◌∙◌, arith}
-use Rattle.std.proofs.lemmas.Bool.{and_from, and_parts, cases_Bool, le-leb, not-false, not-true, not_from_false, true≢false}
+use Rattle.std.proofs.Common.{◌≡◌, ◌<◌, ◌≤◌, ℕ, suc, ◌==◌, ◌&&◌, ◌||◌, inl, inr, Bool, true, false, cond, not, nat_le, nat_lt, List, [], ◌∷◌, length, get_or, ⊎_elim, refl, sym, ap, ◌∙◌, subst, arith}
+use Rattle.std.proofs.lemmas.Bool.{and_from, and_parts, cases_Bool, cases_lt, le-leb, lt-ltb, not-false, not-true, not_from_false, true≢false}
 use Rattle.occ_base.specs.declared.event.Dir.{Dir}
 use Rattle.occ_base.specs.declared.event.Event.{Event}
 use Rattle.occ_base.specs.declared.names.Name.{Name}
@@ -16,14 +16,16 @@ use Rattle.occ_lift.specs.Maps.{IsSkip}
 use Rattle.occ_syntax.specs.Meaning.{Outcome, ended, fails as part_fails, meaning, refusing}
 use Rattle.occ_syntax.specs.Names.{is_in, uses_end}
 use Rattle.occ_syntax.specs.Scopes.{Environment, EventSet, Trace, Values}
-use Rattle.occ_syntax.specs.Tree.{Tree, Trees, par}
+use Rattle.occ_syntax.specs.Tree.{Tree, par}
 use Rattle.occ_syntax.specs.Types.{all_types_kept, types_kept}
-use Rattle.occ_syntax.specs.View.{numbers}
+use Rattle.occ_syntax.specs.View.{numbers, trees}
+use Rattle.occ_syntax.specs.declared.proc.Proc.{Proc}
 use Rattle.occ_weave.specs.Weave.{is_open, is_silent_on, off_channels}
 use Rattle.occ_frame.specs.After.{IsAfter, QuietlyFails}
-use Rattle.occ_sides.specs.Sides.{AreUsers, chans_of, closed_from}
+use Rattle.occ_sides.specs.Sides.{AreUsers, IsUser, chans_of, closed_in}
 use Rattle.occ_sides.specs.declared.users.Users.{Users}
 use Rattle.occ_sides.proofs.Alone.{IsPart, Stops, alone_from, alone_to}
+use Rattle.occ_sides.proofs.Spanning.{uses_beyond}
 use Rattle.occ_sides.proofs.Using.{some_end}
 
 -- the part uses none of the channels that the second list has besides those of the first
@@ -87,31 +89,41 @@ open_is (c ∷ cs) e = ap (λ b. not (e.chan.0 == c.0) && b) (open_is cs e) ∙ 
     both_not true b = refl
     both_not false b = refl
 
-users_open : (us : List Users) (e : Event) → is_open (closed_from 0 us) e ≡ not (is_in (chans_of us) e.chan.0)
-users_open [] e = refl
-users_open (u ∷ us) e =
-    ap (λ b. is_open (cond b (u.chan ∷ closed_from 0 us) (closed_from 0 us)) e) (le-leb 0 u.first (omega arith))
-    ∙ ap (λ b. not (e.chan.0 == u.chan.0) && b) (users_open us e) ∙ both_not (e.chan.0 == u.chan.0) (is_in (chans_of us) e.chan.0)
+users_open : (us : List Users) (n : ℕ) (e : Event) → ((u : Users) (k : ℕ) → k < length us → get_or us k u ≡ u → u.last < n) → is_open (closed_in 0 n us) e ≡ not (is_in (chans_of us) e.chan.0)
+users_open [] n e low = refl
+users_open (u ∷ us) n e low =
+    let last : u.last < n = low u 0 (omega arith) refl in
+    let wanted : (nat_le 0 u.first && nat_lt u.last n) ≡ true = and_from (nat_le 0 u.first) (nat_lt u.last n) (le-leb 0 u.first (omega arith)) (lt-ltb u.last n last) in
+    ap (λ b. is_open (cond b (u.chan ∷ closed_in 0 n us) (closed_in 0 n us)) e) wanted
+    ∙ ap (λ b. not (e.chan.0 == u.chan.0) && b) (users_open us n e (λ v k l is. low v (suc k) (omega (arith, l)) is)) ∙ both_not (e.chan.0 == u.chan.0) (is_in (chans_of us) e.chan.0)
   where
     both_not : (a b : Bool) → (not a && not b) ≡ not (a || b)
     both_not true b = refl
     both_not false b = refl
 
 -- Closed channels that no part uses have no events, and may be refused.
-pub closed_all : (w : World) (layout : List (Name × Width × ℕ)) (keep : ℕ) (over m : MapId) (Γ : Environment) (ps : Trees) (closed : List Name) (users : List Users)
-    → AreUsers ps closed users → all_types_kept ps Γ ≡ true → IsSkip w keep over
-    → IsAfter w layout keep (closed_from 0 users) Γ (par ps) over m → IsAfter w layout keep closed Γ (par ps) over m
+pub closed_all : (w : World) (layout : List (Name × Width × ℕ)) (keep : ℕ) (over m : MapId) (Γ : Environment) (ps : List Proc) (closed : List Name) (users : List Users)
+    → AreUsers (trees ps) closed users → all_types_kept (trees ps) Γ ≡ true → IsSkip w keep over
+    → IsAfter w layout keep (closed_in 0 (length ps) users) Γ (par (trees ps)) over m → IsAfter w layout keep closed Γ (par (trees ps)) over m
 closed_all w layout keep over m Γ ps closed users are typed skip h =
-    alone_to w layout keep closed Γ (par ps) over m skip
-    (closed_more Γ (par ps) typed (closed_from 0 users) closed within unused w layout keep m (alone_from w layout keep (closed_from 0 users) Γ (par ps) over m skip h))
+    alone_to w layout keep closed Γ (par (trees ps)) over m skip
+    (closed_more Γ (par (trees ps)) typed (closed_in 0 (length ps) users) closed within unused w layout keep m (alone_from w layout keep (closed_in 0 (length ps) users) Γ (par (trees ps)) over m skip h))
   where
-    within : (e : Event) → is_open closed e ≡ true → is_open (closed_from 0 users) e ≡ true
-    within e o = users_open users e ∙ not_from_false (is_in (chans_of users) e.chan.0)
+    last_there : (u : Users) (k : ℕ) → k < length users → get_or users k u ≡ u → u.last < length ps
+    last_there u k l is =
+        let user : IsUser (trees ps) u = subst (IsUser (trees ps)) is (are.each k u l) in
+        ⊎_elim (λ (m : u.last < length ps). m) (λ (m : length ps ≤ u.last). absurd (true≢false (sym user.last_uses ∙ uses_beyond ps u.last u.chan.0 m))) (cases_lt u.last (length ps))
+
+    open_users : (e : Event) → is_open (closed_in 0 (length ps) users) e ≡ not (is_in (chans_of users) e.chan.0)
+    open_users e = users_open users (length ps) e last_there
+
+    within : (e : Event) → is_open closed e ≡ true → is_open (closed_in 0 (length ps) users) e ≡ true
+    within e o = open_users e ∙ not_from_false (is_in (chans_of users) e.chan.0)
         (⊎_elim
         (λ (t : is_in (chans_of users) e.chan.0 ≡ true). absurd (true≢false (sym (are.among e.chan.0 t) ∙ not-true (is_in (numbers closed) e.chan.0) (sym (open_is closed e) ∙ o))))
         (λ (f : is_in (chans_of users) e.chan.0 ≡ false). f)
         (cases_Bool (is_in (chans_of users) e.chan.0)))
 
-    unused : (e : Event) → is_open (closed_from 0 users) e ≡ true → is_open closed e ≡ false → (d : Dir) → uses_end (par ps) e.chan.0 d ≡ false
-    unused e o n d = some_end ps e.chan.0
-        (are.others e.chan.0 (not-false (is_in (numbers closed) e.chan.0) (sym (open_is closed e) ∙ n)) (not-true (is_in (chans_of users) e.chan.0) (sym (users_open users e) ∙ o))) d
+    unused : (e : Event) → is_open (closed_in 0 (length ps) users) e ≡ true → is_open closed e ≡ false → (d : Dir) → uses_end (par (trees ps)) e.chan.0 d ≡ false
+    unused e o n d = some_end (trees ps) e.chan.0
+        (are.others e.chan.0 (not-false (is_in (numbers closed) e.chan.0) (sym (open_is closed e) ∙ n)) (not-true (is_in (chans_of users) e.chan.0) (sym (open_users e) ∙ o))) d

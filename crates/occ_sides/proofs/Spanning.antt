@@ -1,5 +1,5 @@
 -- The first and the last part that uses a channel, part by part.
-use Rattle.std.proofs.Common.{◌≡◌, ℕ, zero, suc, ◌+◌, ◌<◌, ◌≤◌, ◌==◌, ◌&&◌, ◌||◌, ◌++◌, ◌⊎◌, inl, inr, Bool, true, false, cond, List, [], ◌∷◌, Option, Some, None, length, get_or, take, drop, not, append-nil, append_assoc, add-one, ⊎_elim, refl, sym, ap, ◌∙◌, subst, arith}
+use Rattle.std.proofs.Common.{◌≡◌, ℕ, zero, suc, ◌+◌, ◌<◌, ◌≤◌, ◌==◌, ◌&&◌, ◌||◌, ◌++◌, ◌⊎◌, inl, inr, Bool, true, false, cond, List, [], ◌∷◌, Option, Some, None, length, get_or, take, drop, not, nat_le, nat_lt, append-nil, append_assoc, add-one, ⊎_elim, refl, sym, ap, ◌∙◌, subst, arith}
 use Rattle.std.specs.List.{All}
 use Rattle.std.proofs.Math.Seq.{drop-cons}
 use Rattle.std.proofs.lemmas.Bool.{cases_Bool, cases_eq, cases_lt, eqb-true, eq-eqb, or_left, or_parts, or_right, false≢true, true≢false}
@@ -16,7 +16,7 @@ use Rattle.occ_weave.proofs.Stepping.{all_taken, take_push}
 use Rattle.occ_syntax.specs.Tree.{Trees}
 use Rattle.occ_syntax.specs.View.{numbers, tree, trees}
 use Rattle.occ_syntax.specs.declared.proc.Proc.{Proc}
-use Rattle.occ_sides.specs.Sides.{AreUsers, IsUser, chans_of, shared_of, sole_of, uses, uses_at}
+use Rattle.occ_sides.specs.Sides.{AreUsers, IsUser, chans_of, closed_in, crossing, uses, uses_at}
 use Rattle.occ_sides.specs.Spans.{IsSpan, first_of, has_end_on, listed, noted, same_name, user_of}
 use Rattle.occ_sides.specs.declared.users.Users.{Users}
 
@@ -157,25 +157,25 @@ one_if : (b : Bool) (c : Name) (xs : List Name) → cond b (c ∷ []) [] ++ xs �
 one_if true c xs = refl
 one_if false c xs = refl
 
-pub sole_more : (us : List Users) (i : ℕ) (d : Users) (place : ℕ) (old new : List Name) (b : Bool) → i < length us → old ++ sole_of place (drop i us) ≡ sole_of place us
-    → b ≡ ((get_or us i d).first == place && (get_or us i d).last == place) → new ≡ old ++ cond b ((get_or us i d).chan ∷ []) [] → new ++ sole_of place (drop (i + 1) us) ≡ sole_of place us
-sole_more us i d place old new b h e is k =
-    ap (λ xs. xs ++ sole_of place (drop (i + 1) us)) k ∙ append_assoc old (cond b ((get_or us i d).chan ∷ []) []) (sole_of place (drop (i + 1) us))
-    ∙ ap (λ xs. old ++ xs) (one_if b (get_or us i d).chan (sole_of place (drop (i + 1) us)) ∙ ap (λ a. cond a ((get_or us i d).chan ∷ sole_of place (drop (i + 1) us)) (sole_of place (drop (i + 1) us))) is)
-    ∙ ap (λ qs. old ++ sole_of place qs) (sym (drop-cons us i d h ∙ ap (λ n. get_or us i d ∷ drop n us) (sym (add-one i)))) ∙ e
+pub closed_in_more : (us : List Users) (i : ℕ) (d : Users) (low high : ℕ) (old new : List Name) (b : Bool) → i < length us → old ++ closed_in low high (drop i us) ≡ closed_in low high us
+    → b ≡ (nat_le low (get_or us i d).first && nat_lt (get_or us i d).last high) → new ≡ old ++ cond b ((get_or us i d).chan ∷ []) [] → new ++ closed_in low high (drop (i + 1) us) ≡ closed_in low high us
+closed_in_more us i d low high old new b h e is k =
+    ap (λ xs. xs ++ closed_in low high (drop (i + 1) us)) k ∙ append_assoc old (cond b ((get_or us i d).chan ∷ []) []) (closed_in low high (drop (i + 1) us))
+    ∙ ap (λ xs. old ++ xs) (one_if b (get_or us i d).chan (closed_in low high (drop (i + 1) us)) ∙ ap (λ a. cond a ((get_or us i d).chan ∷ closed_in low high (drop (i + 1) us)) (closed_in low high (drop (i + 1) us))) is)
+    ∙ ap (λ qs. old ++ closed_in low high qs) (sym (drop-cons us i d h ∙ ap (λ n. get_or us i d ∷ drop n us) (sym (add-one i)))) ∙ e
 
-pub sole_end : (us : List Users) (i place : ℕ) (made : List Name) → length us ≤ i → made ++ sole_of place (drop i us) ≡ sole_of place us → made ≡ sole_of place us
-sole_end us i place made h e = sym (append-nil made) ∙ ap (λ qs. made ++ sole_of place qs) (sym (drop_all i us h)) ∙ e
+pub closed_in_end : (us : List Users) (i : ℕ) (low high : ℕ) (made : List Name) → length us ≤ i → made ++ closed_in low high (drop i us) ≡ closed_in low high us → made ≡ closed_in low high us
+closed_in_end us i low high made h e = sym (append-nil made) ∙ ap (λ qs. made ++ closed_in low high qs) (sym (drop_all i us h)) ∙ e
 
-pub shared_more : (us : List Users) (i : ℕ) (d : Users) (place : ℕ) (old new : List Name) (b : Bool) → i < length us → old ++ shared_of place (drop i us) ≡ shared_of place us
-    → b ≡ ((get_or us i d).first == place && not ((get_or us i d).last == place)) → new ≡ old ++ cond b ((get_or us i d).chan ∷ []) [] → new ++ shared_of place (drop (i + 1) us) ≡ shared_of place us
-shared_more us i d place old new b h e is k =
-    ap (λ xs. xs ++ shared_of place (drop (i + 1) us)) k ∙ append_assoc old (cond b ((get_or us i d).chan ∷ []) []) (shared_of place (drop (i + 1) us))
-    ∙ ap (λ xs. old ++ xs) (one_if b (get_or us i d).chan (shared_of place (drop (i + 1) us)) ∙ ap (λ a. cond a ((get_or us i d).chan ∷ shared_of place (drop (i + 1) us)) (shared_of place (drop (i + 1) us))) is)
-    ∙ ap (λ qs. old ++ shared_of place qs) (sym (drop-cons us i d h ∙ ap (λ n. get_or us i d ∷ drop n us) (sym (add-one i)))) ∙ e
+pub crossing_more : (us : List Users) (i : ℕ) (d : Users) (low mid high : ℕ) (old new : List Name) (b : Bool) → i < length us → old ++ crossing low mid high (drop i us) ≡ crossing low mid high us
+    → b ≡ ((nat_le low (get_or us i d).first && nat_lt (get_or us i d).last high) && (not (nat_le mid (get_or us i d).first) && not (nat_lt (get_or us i d).last mid))) → new ≡ old ++ cond b ((get_or us i d).chan ∷ []) [] → new ++ crossing low mid high (drop (i + 1) us) ≡ crossing low mid high us
+crossing_more us i d low mid high old new b h e is k =
+    ap (λ xs. xs ++ crossing low mid high (drop (i + 1) us)) k ∙ append_assoc old (cond b ((get_or us i d).chan ∷ []) []) (crossing low mid high (drop (i + 1) us))
+    ∙ ap (λ xs. old ++ xs) (one_if b (get_or us i d).chan (crossing low mid high (drop (i + 1) us)) ∙ ap (λ a. cond a ((get_or us i d).chan ∷ crossing low mid high (drop (i + 1) us)) (crossing low mid high (drop (i + 1) us))) is)
+    ∙ ap (λ qs. old ++ crossing low mid high qs) (sym (drop-cons us i d h ∙ ap (λ n. get_or us i d ∷ drop n us) (sym (add-one i)))) ∙ e
 
-pub shared_end : (us : List Users) (i place : ℕ) (made : List Name) → length us ≤ i → made ++ shared_of place (drop i us) ≡ shared_of place us → made ≡ shared_of place us
-shared_end us i place made h e = sym (append-nil made) ∙ ap (λ qs. made ++ shared_of place qs) (sym (drop_all i us h)) ∙ e
+pub crossing_end : (us : List Users) (i : ℕ) (low mid high : ℕ) (made : List Name) → length us ≤ i → made ++ crossing low mid high (drop i us) ≡ crossing low mid high us → made ≡ crossing low mid high us
+crossing_end us i low mid high made h e = sym (append-nil made) ∙ ap (λ qs. made ++ crossing low mid high qs) (sym (drop_all i us h)) ∙ e
 
 -- ---- at the end of the loops
 pub noted_end : (ends : List (Name × Dir)) (i : ℕ) (c : Name) (before now : Option (ℕ × ℕ)) (place : ℕ) → length ends ≤ i → now ≡ noted (has_end_on (take i ends) c) before place → now ≡ noted (has_end_on ends c) before place

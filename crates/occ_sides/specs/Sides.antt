@@ -1,5 +1,5 @@
 -- Which part of a PAR closes which channel, and which bits a part writes.
-use Rattle.std.specs.Prelude.{ℕ, zero, suc, ◌==◌, ◌≡◌, ◌<◌, ◌≤◌, ◌+◌, ◌&&◌, ◌||◌, nat_le, not, Bool, true, false, List, [], ◌∷◌, map, Some, if◌then◌else◌}
+use Rattle.std.specs.Prelude.{ℕ, zero, suc, ◌≡◌, ◌<◌, ◌≤◌, ◌+◌, ◌&&◌, ◌||◌, nat_le, nat_lt, not, Bool, true, false, List, [], ◌∷◌, map, Some, if◌then◌else◌}
 use Rattle.std.specs.Int.{bit_at}
 use Rattle.std.specs.List.{All}
 use Rattle.occ_base.specs.declared.event.Dir.TheVariants.{Input, Output}
@@ -12,20 +12,15 @@ use Rattle.occ_syntax.specs.Tree.{Tree, Trees, no_tree, and_tree}
 use Rattle.occ_syntax.specs.View.{numbers}
 use Rattle.occ_sides.specs.declared.users.Users.{Users}
 
--- the channels that the part in that place alone uses
-abbrev pub sole_of : ℕ → List Users → List Name
-sole_of i [] = []
-sole_of i (u ∷ us) = if u.first == i && u.last == i then u.chan ∷ sole_of i us else sole_of i us
+-- the channels that only parts from place `low` on and in front of place `high` use
+abbrev pub closed_in : ℕ → ℕ → List Users → List Name
+closed_in low high [] = []
+closed_in low high (u ∷ us) = if nat_le low u.first && nat_lt u.last high then u.chan ∷ closed_in low high us else closed_in low high us
 
--- the channels that the part in that place and one behind it use, and none in front of it
-abbrev pub shared_of : ℕ → List Users → List Name
-shared_of i [] = []
-shared_of i (u ∷ us) = if u.first == i && not (u.last == i) then u.chan ∷ shared_of i us else shared_of i us
-
--- the channels that the parts from that place on use, and none in front of it
-abbrev pub closed_from : ℕ → List Users → List Name
-closed_from i [] = []
-closed_from i (u ∷ us) = if nat_le i u.first then u.chan ∷ closed_from i us else closed_from i us
+-- those of them that parts on both sides of place `mid` use
+abbrev pub crossing : ℕ → ℕ → ℕ → List Users → List Name
+crossing low mid high [] = []
+crossing low mid high (u ∷ us) = if (nat_le low u.first && nat_lt u.last high) && (not (nat_le mid u.first) && not (nat_lt u.last mid)) then u.chan ∷ crossing low mid high us else crossing low mid high us
 
 -- whether a part uses the channel, in either direction
 abbrev pub uses : Tree → ℕ → Bool

@@ -4,5 +4,5 @@
 mod parallel;
 mod users;
 
-pub use parallel::{Sides, beside, side_frame};
+pub use parallel::{Sides, joined, side_frame};
 pub use users::Users;

@@ -11,12 +11,13 @@ ghost use Rattle.occ_syntax.specs.View.{numbers, tree, trees};
 ghost use Rattle.occ_frame.specs.After.{IsAfter, IsOver, WritesWithin};
 ghost use Rattle.occ_frame.specs.Changes.{IsSupport};
 ghost use Rattle.occ_frame.specs.Placed.{IsAround};
-ghost use Rattle.occ_sides.specs.Sides.{AreUsers, AreWritten, closed_from, sole_of};
+ghost use Rattle.occ_sides.specs.Sides.{AreUsers, AreWritten, closed_in};
+ghost use Rattle.occ_sides.specs.Joined.{AreBoth, HaveNodes, IsJoined};
 ghost use Rattle.occ_sides.specs.Spans.{covers, is_of};
 ghost use Rattle.occ_base.specs.Width.{bits_of};
 ghost use Rattle.occ_syntax.specs.Names.{is_in};
 
-use crate::users::{Users, shared, sole, users_of};
+use crate::users::{Users, crossing, row_start, users_of, within};
 use occ_base::{Memory, Name, Width};
 use occ_frame::{Frame, bits_from, support};
 use occ_lift::{skip, woven};
@@ -78,12 +79,13 @@ pub fn side_frame(
     sides: &Sides,
     place: usize,
 ) -> Result<Frame, Memory>
-    requires { sides.now.keep < 2 ^ frame.now.bits }
+    requires keep { sides.now.keep < 2 ^ frame.now.bits }
+    requires place { place + 1 < 2 ^ 64 }
     ensures vars { IfOk result (λ r. r.vars ≡ frame.now.vars) }
     ensures keep { IfOk result (λ r. r.keep ≡ sides.now.keep) }
-    ensures closed { IfOk result (λ r. r.closed.items ≡ sole_of place sides.now.users.items) }
+    ensures closed { IfOk result (λ r. r.closed.items ≡ closed_in place (place + 1) sides.now.users.items) }
 {
-    let closed = sole(alloc, sides.users.as_slice(), place)?;
+    let closed = within(alloc, sides.users.as_slice(), place, place + 1)?;
     frame.with(alloc, sides.keep, closed)
 }
 
@@ -119,8 +121,8 @@ fn bits_of_names(entries: &[(Name, Width, u32)], names: &[Name]) -> u64
     bits
 }
 
-/// The bits of the variables that a part writes.
-pub fn written_bits(alloc: Global, frame: &Frame, part: &Proc) -> Result<u64, Memory>
+// The bits of the variables that a part writes.
+fn written_bits(alloc: Global, frame: &Frame, part: &Proc) -> Result<u64, Memory>
     ensures small { IfOk result (λ r. r < 2 ^ 64) }
     ensures written { IfOk result (AreWritten frame.now.layout (tree part.now)) }
 {
@@ -140,34 +142,139 @@ fn all_written(alloc: Global, frame: &Frame, parts: &[Proc]) -> Result<u64, Memo
     Ok(written)
 }
 
-/// The map of a part of a PAR beside those behind it, if there are any.
-pub fn beside(
+// Two neighbours among parts of a PAR, of which the first stands in place `low` and the second begins in place `mid`.
+fn both(
+    alloc: Global,
+    world: &mut World,
+    frame: &Frame,
+    sides: &Sides,
+    low: usize,
+    parts: &[Proc],
+    first: MapId,
+    others: MapId,
+    high: usize,
+) -> Result<MapId, Memory>
+    requires first { HasNodes world.old first }
+    requires others { HasNodes world.old others }
+    requires places { low + length parts.now < 2 ^ 64 }
+    ensures extends { Extends world.old world.new }
+    ensures nodes { IfOk result (HasNodes world.new) }
+    ensures both { IfOk result (AreBoth frame.now.layout sides.now.users.items low (low + length parts.now) high (trees parts.now) first others world.new) }
+{
+    let bits = all_written(alloc, frame, parts)?;
+    let closed = crossing(alloc, sides.users.as_slice(), low, low + parts.len(), high)?;
+    let both = woven(alloc, world, bits, closed.as_slice(), first, others)?;
+    Ok(both)
+}
+
+// The map of parts of a PAR side by side, by the map of each, where the first of them stands in that place. The two halves
+// are put side by side, and so are theirs.
+#[cycle(halves)]
+fn halves(
     alloc: Global,
     world: &mut World,
     frame: &Frame,
     sides: &Sides,
     place: usize,
     parts: &[Proc],
-    first: MapId,
-    others: MapId,
+    maps: &[MapId],
 ) -> Result<MapId, Memory>
-    requires place { place < length parts.now }
-    requires first { HasNodes world.old first }
-    requires others { HasNodes world.old others }
+    requires some { 1 ≤ length parts.now }
+    requires places { place + length parts.now < 2 ^ 64 }
+    requires maps { length maps.now ≡ length parts.now }
+    requires nodes { HaveNodes world.old maps.now }
     ensures extends { Extends world.old world.new }
     ensures nodes { IfOk result (HasNodes world.new) }
-    ensures beside { IfOk result (λ r. (Γ : Environment) → IsAround Γ frame.now.vars → all_types_kept (trees parts.now) Γ ≡ true → AreSeparate (trees parts.now)
-        → AreUsers (trees parts.now) frame.now.closed.items sides.now.users.items → IsSkip world.old sides.now.keep sides.now.ended
-        → ((p : Proc) → Some p ≡ slice_get parts.now place → IsAfter world.old frame.now.layout sides.now.keep (sole_of place sides.now.users.items) Γ (tree p) sides.now.ended first)
-        → (place + 1 < length parts.now → IsAfter world.old frame.now.layout sides.now.keep (closed_from (place + 1) sides.now.users.items) Γ (par (trees (drop (place + 1) parts.now))) sides.now.ended others)
-        → IsAfter world.new frame.now.layout sides.now.keep (closed_from place sides.now.users.items) Γ (par (trees (drop place parts.now))) sides.now.ended r) }
+    ensures joined { IfOk result (IsJoined frame.now.vars frame.now.layout sides.now.keep sides.now.users.items sides.now.ended place parts.now maps.now world.old world.new) }
 {
-    let left = parts.len() - place;
-    if left == 1 {
-        return Ok(first);
+    if parts.len() == 1 {
+        return Ok(maps[0]);
     }
-    let bits = written_bits(alloc, frame, &parts[place])?;
-    let closed = shared(alloc, sides.users.as_slice(), place)?;
-    let both = woven(alloc, world, bits, closed.as_slice(), first, others)?;
-    Ok(both)
+    let half = parts.len() / 2;
+    let first = halves(
+        alloc,
+        world,
+        frame,
+        sides,
+        place,
+        &parts[..half],
+        &maps[..half],
+    )?;
+    let others = halves(
+        alloc,
+        world,
+        frame,
+        sides,
+        place + half,
+        &parts[half..],
+        &maps[half..],
+    )?;
+    let high = place + parts.len();
+    both(
+        alloc,
+        world,
+        frame,
+        sides,
+        place,
+        &parts[..half],
+        first,
+        others,
+        high,
+    )
+}
+
+/// The map of the parts of a PAR side by side, by the map of each. Parts that stand in a row and share a channel each with
+/// the next are put side by side half by half, and what comes of that is put beside what stands behind it: so that channels
+/// are closed soon, and the parts of a chain meet each other while they are small.
+pub fn joined(
+    alloc: Global,
+    world: &mut World,
+    frame: &Frame,
+    sides: &Sides,
+    parts: &[Proc],
+    maps: &[MapId],
+) -> Result<MapId, Memory>
+    requires some { 1 ≤ length parts.now }
+    requires maps { length maps.now ≡ length parts.now }
+    requires nodes { HaveNodes world.old maps.now }
+    ensures extends { Extends world.old world.new }
+    ensures nodes { IfOk result (HasNodes world.new) }
+    ensures joined { IfOk result (IsJoined frame.now.vars frame.now.layout sides.now.keep sides.now.users.items sides.now.ended 0 parts.now maps.now world.old world.new) }
+{
+    let count = parts.len();
+    let mut start = row_start(sides.users.as_slice(), count);
+    let mut map = halves(
+        alloc,
+        world,
+        frame,
+        sides,
+        start,
+        &parts[start..],
+        &maps[start..],
+    )?;
+    while start > 0 {
+        let end = start;
+        start = row_start(sides.users.as_slice(), end);
+        let first = halves(
+            alloc,
+            world,
+            frame,
+            sides,
+            start,
+            &parts[start..end],
+            &maps[start..end],
+        )?;
+        map = both(
+            alloc,
+            world,
+            frame,
+            sides,
+            start,
+            &parts[start..end],
+            first,
+            map,
+            count,
+        )?;
+    }
+    Ok(map)
 }

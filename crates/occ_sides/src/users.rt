@@ -1,8 +1,8 @@
-ghost use Rattle.std.specs.Prelude.{◌≡◌, ◌==◌, ◌&&◌, ◌++◌, ◌∷◌, [], List, length, not, if◌then◌else◌, OnOk, IfOk};
+ghost use Rattle.std.specs.Prelude.{◌≡◌, ◌≤◌, ◌<◌, ◌&&◌, ◌++◌, ◌∷◌, [], List, length, nat_le, nat_lt, not, if◌then◌else◌, OnOk, IfOk};
 ghost use Rattle.occ_base.specs.declared.names.Name.{Name};
 ghost use Rattle.occ_syntax.specs.View.{tree, trees};
 ghost use Rattle.indexmap.specs.IndexMap.{get};
-ghost use Rattle.occ_sides.specs.Sides.{AreUsers, shared_of, sole_of, uses};
+ghost use Rattle.occ_sides.specs.Sides.{AreUsers, closed_in, crossing, uses};
 ghost use Rattle.occ_sides.specs.Spans.{IsSpan, first_of, has_end_on, listed, noted, same_name, user_of};
 
 use indexmap::IndexMap;
@@ -132,38 +132,68 @@ fn push_if(chans: &mut Vec<Name>, chan: Name, wanted: bool) -> Result<(), Memory
     Ok(())
 }
 
-fn is_sole(user: &Users, place: usize) -> bool
-    ensures { result ≡ (user.now.first == place && user.now.last == place) }
+fn is_within(user: &Users, low: usize, high: usize) -> bool
+    ensures { result ≡ (nat_le low user.now.first && nat_lt user.now.last high) }
 {
-    user.first == place && user.last == place
+    low <= user.first && user.last < high
 }
 
-fn is_shared(user: &Users, place: usize) -> bool
-    ensures { result ≡ (user.now.first == place && not (user.now.last == place)) }
+fn is_crossing(user: &Users, mid: usize) -> bool
+    ensures { result ≡ (not (nat_le mid user.now.first) && not (nat_lt user.now.last mid)) }
 {
-    user.first == place && user.last != place
+    user.first < mid && user.last >= mid
 }
 
-/// The channels that one part alone uses.
-pub fn sole(alloc: Global, users: &[Users], place: usize) -> Result<Vec<Name>, Memory>
-    ensures { IfOk result (λ r. r.items ≡ sole_of place users.now) }
+fn is_across(user: &Users, low: usize, mid: usize, high: usize) -> bool
+    ensures { result ≡ ((nat_le low user.now.first && nat_lt user.now.last high) && (not (nat_le mid user.now.first) && not (nat_lt user.now.last mid))) }
+{
+    is_within(user, low, high) && is_crossing(user, mid)
+}
+
+/// The channels that only parts from place `low` on and in front of place `high` use.
+pub fn within(alloc: Global, users: &[Users], low: usize, high: usize) -> Result<Vec<Name>, Memory>
+    ensures { IfOk result (λ r. r.items ≡ closed_in low high users.now) }
 {
     let mut chans = Vec::new(alloc);
     for user in users {
-        let wanted = is_sole(user, place);
+        let wanted = is_within(user, low, high);
         push_if(&mut chans, user.chan, wanted)?;
     }
     Ok(chans)
 }
 
-/// The channels that a part and one behind it use, and none in front of it.
-pub fn shared(alloc: Global, users: &[Users], place: usize) -> Result<Vec<Name>, Memory>
-    ensures { IfOk result (λ r. r.items ≡ shared_of place users.now) }
+/// Those of them that parts on both sides of place `mid` use.
+pub fn crossing(
+    alloc: Global,
+    users: &[Users],
+    low: usize,
+    mid: usize,
+    high: usize,
+) -> Result<Vec<Name>, Memory>
+    ensures { IfOk result (λ r. r.items ≡ crossing low mid high users.now) }
 {
     let mut chans = Vec::new(alloc);
     for user in users {
-        let wanted = is_shared(user, place);
+        let wanted = is_across(user, low, mid, high);
         push_if(&mut chans, user.chan, wanted)?;
     }
     Ok(chans)
+}
+
+// Whether a channel is that of a part and of the next one.
+fn is_linked(users: &[Users], place: usize) -> bool {
+    users.iter().any(|user| user.first == place && user.last > place && user.last - place == 1)
+}
+
+/// Where the longest row of parts begins that ends in front of a place and in which each part shares a channel with the
+/// next one.
+pub fn row_start(users: &[Users], end: usize) -> usize
+    requires { 1 ≤ end }
+    ensures { result < end }
+{
+    let mut start = end - 1;
+    while start > 0 && is_linked(users, start - 1) {
+        start -= 1;
+    }
+    start
 }

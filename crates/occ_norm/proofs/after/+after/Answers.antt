@@ -22,7 +22,9 @@ use Rattle.std.proofs.Common.{bit_or}
 use Rattle.std.proofs.lemmas.Option.{get_or_from_slice_get}
 use Rattle.occ_bits.specs.Layout.{laid_out}
 use Rattle.occ_lift.specs.Maps.{IsSkip}
-use Rattle.occ_sides.specs.Sides.{closed_from, sole_of}
+use Rattle.occ_sides.specs.Sides.{closed_in}
+use Rattle.occ_sides.specs.Joined.{HaveNodes}
+use Rattle.occ_norm.proofs.Beside.{AreMade, all_made, made_more, nodes_more}
 use Rattle.occ_sides.proofs.Closing.{closed_all}
 use Rattle.occ_norm.proofs.Steps.{as_is, case_in, empty_in, if_ok, in-extends, no_case_in, keep_below, none_in, one_in, over_in, over_skip, seq_in, skip-extends, skip_in, stop_in, truth_here}
 use Rattle.occ_norm.proofs.Using.{no_parts, some_parts, branch_usage_at, branches_left, case_usage_at, cases_left, dropped_all, one_tree, trees_left, types_at, usage_at, usage_inside}
@@ -356,83 +358,60 @@ at_once-returns-then-parts-eq1-clause-after t c =
     (one_in c.after.new.world frame.vars frame.layout frame.bits frame.keep frame.closed.items frame.kept frame.inside (tree c.index-parts-0.result) c.args.rest r is))
     c.after.ensures.after
 
-pub at_once-side_frame-requires : goal.at_once-side_frame-requires
-at_once-side_frame-requires t c = keep_below c.args.frame.now.keep c.in_ok-sides.sides.needed c.in_ok-sides.sides.keep c.args.frame.now.bits c.args.frame.now.inside c.in_ok-sides.ensures.needed.within c.in_ok-sides.ensures.keep
+pub at_once-side_frame-requires-clause-keep : goal.at_once-side_frame-requires-clause-keep
+at_once-side_frame-requires-clause-keep t c = keep_below c.args.frame.now.keep c.in_ok-sides.sides.needed c.in_ok-sides.sides.keep c.args.frame.now.bits c.args.frame.now.inside c.in_ok-sides.ensures.needed.within c.in_ok-sides.ensures.keep
 
-pub at_once-after-requires-in-loop-left : goal.at_once-after-requires-in-loop-left
-at_once-after-requires-in-loop-left t c =
-    let lt : c.loop-left.left - 1 < length c.args.parts.now = omega (arith, c.loop-left.invariant.below, c.loop-left-test.true) in (
-      omega (arith, weight_in_all c.args.parts.now (c.loop-left.left - 1) c.index-parts-left.result lt c.index-parts-left.is, c.decreases),
+pub at_once-loop-place-init : goal.at_once-loop-place-init
+at_once-loop-place-init t c = ?
+
+pub at_once-after-requires-in-loop-place : goal.at_once-after-requires-in-loop-place
+at_once-after-requires-in-loop-place t c =
+    let lt : c.loop-place.place < length c.args.parts.now = omega arith in (
+      omega (arith, weight_in_all c.args.parts.now c.loop-place.place c.index-parts-place.result lt c.index-parts-place.is, c.decreases),
       (
-        subst (λ vs. Fits vs (tree c.index-parts-left.result)) (sym c.in_ok-inner.ensures.vars) (fit_at c.args.frame.now.vars c.args.parts.now (c.loop-left.left - 1) c.index-parts-left.result c.requires.parts lt c.index-parts-left.is),
+        subst (λ vs. Fits vs (tree c.index-parts-place.result)) (sym c.in_ok-inner.ensures.vars) (fit_at c.args.frame.now.vars c.args.parts.now c.loop-place.place c.index-parts-place.result c.requires.parts lt c.index-parts-place.is),
         (
-          usage_at c.args.parts.now (c.loop-left.left - 1) c.index-parts-left.result c.requires.usage lt c.index-parts-left.is,
-          over_skip c.loop-left.world c.in_ok-inner.inner.bits c.in_ok-sides.sides.keep c.in_ok-sides.sides.ended c.loop-left.invariant.ended c.loop-left.invariant.skips,
+          usage_at c.args.parts.now c.loop-place.place c.index-parts-place.result c.requires.usage lt c.index-parts-place.is,
+          over_skip c.loop-place.world c.in_ok-inner.inner.bits c.in_ok-sides.sides.keep c.in_ok-sides.sides.ended c.loop-place.invariant.ended c.loop-place.invariant.skips,
         ),
       ),
     )
 
-pub at_once-beside-requires-clause-others : goal.at_once-beside-requires-clause-others
-at_once-beside-requires-clause-others t c = has_nodes-extends c.loop-left.world c.after-in-loop-left.new.world c.after-in-loop-left.ensures.extends c.loop-left.map c.loop-left.invariant.nodes
-
-pub at_once-loop-left-preserved : goal.at_once-loop-left-preserved
-at_once-loop-left-preserved t c =
+pub at_once-loop-place-preserved : goal.at_once-loop-place-preserved
+at_once-loop-place-preserved t c =
     let frame = c.args.frame.now in
     let inner = c.in_ok-inner.inner in
     let sides = c.in_ok-sides.sides in
-    let v = c.loop-left.world in
-    let u = c.after-in-loop-left.new.world in
-    let w = c.beside.new.world in
-    let place = c.loop-left.left - 1 in
-    let lt : place < length c.args.parts.now = omega (arith, c.loop-left.invariant.below, c.loop-left-test.true) in
-    let back : place + 1 ≡ c.loop-left.left = omega (arith, c.loop-left-test.true) in
-    let vw = extends_trans v u w c.after-in-loop-left.ensures.extends c.beside.ensures.extends in
-    let ended = has_nodes-extends v u c.after-in-loop-left.ensures.extends sides.ended c.loop-left.invariant.ended in
-    let skips = skip-extends v u c.after-in-loop-left.ensures.extends sides.keep sides.ended c.loop-left.invariant.skips in
+    let v = c.loop-place.world in
+    let u = c.after-in-loop-place.new.world in
+    let place = c.loop-place.place in
+    let old = c.loop-place.maps.items in
+    let lt : place < length c.args.parts.now = omega arith in
+    let grow = c.after-in-loop-place.ensures.extends in
     let laid : inner.layout ≡ frame.layout = inner.kept.layout_is ∙ ap (laid_out 0) c.in_ok-inner.ensures.vars ∙ sym frame.kept.layout_is in
+    let one : c.index-parts-place.result ≡ get_or c.args.parts.now place Skip = ? in
+    let whole = c.in_ok-push.ensures.ok in
     record {
-      extends = extends_trans c.args.world.now v w c.loop-left.invariant.extends vw;
-      nodes = c.in_ok-both.ensures.nodes;
-      ended = has_nodes-extends u w c.beside.ensures.extends sides.ended ended;
-      below = omega (arith, c.loop-left.invariant.below);
-      skips = skip-extends u w c.beside.ensures.extends sides.keep sides.ended skips;
-      after = λ h Γ around types. c.in_ok-both.ensures.beside Γ around types c.requires.separate c.in_ok-sides.ensures.users skips
-          (λ p e.
-          let one : p ≡ c.index-parts-left.result = sym (get_or_from_slice_get c.args.parts.now place p c.index-parts-left.result (sym e)) ∙ sym c.index-parts-left.is in
-          subst (λ q. IsAfter u frame.layout sides.keep (sole_of place sides.users.items) Γ (tree q) sides.ended c.in_ok-first.first) (sym one)
-          (subst (λ cs. IsAfter u frame.layout sides.keep cs Γ (tree c.index-parts-left.result) sides.ended c.in_ok-first.first) c.in_ok-inner.ensures.closed
-          (subst (λ k. IsAfter u frame.layout k inner.closed.items Γ (tree c.index-parts-left.result) sides.ended c.in_ok-first.first) c.in_ok-inner.ensures.keep
-          (subst (λ l. IsAfter u l inner.keep inner.closed.items Γ (tree c.index-parts-left.result) sides.ended c.in_ok-first.first) laid
-          (c.in_ok-first.ensures.after Γ (subst (IsAround Γ) (sym c.in_ok-inner.ensures.vars) around) (types_at c.args.parts.now place c.index-parts-left.result Γ types lt c.index-parts-left.is))))))
-          (λ more. subst (λ k. IsAfter u frame.layout sides.keep (closed_from k sides.users.items) Γ (par (trees (drop k c.args.parts.now))) sides.ended c.loop-left.map) (sym back)
-          (after-extends v u c.after-in-loop-left.ensures.extends frame.layout sides.keep (closed_from c.loop-left.left sides.users.items) Γ (par (trees (drop c.loop-left.left c.args.parts.now))) sides.ended c.loop-left.map c.loop-left.invariant.ended c.loop-left.invariant.nodes
-          (c.loop-left.invariant.after (omega (arith, more, back)) Γ around types)));
+      extends = extends_trans c.args.world.now v u c.loop-place.invariant.extends grow;
+      ended = has_nodes-extends v u grow sides.ended c.loop-place.invariant.ended;
+      skips = skip-extends v u grow sides.keep sides.ended c.loop-place.invariant.skips;
+      count = ?;
+      nodes = subst (HaveNodes u) (sym whole) (nodes_more v u grow old c.in_ok-map.map place c.loop-place.invariant.count c.loop-place.invariant.nodes c.in_ok-map.ensures.nodes);
+      made = subst (AreMade u frame.vars frame.layout sides.keep sides.users.items sides.ended (place + 1) c.args.parts.now) (sym whole)
+          (made_more v u grow old c.in_ok-map.map place c.loop-place.invariant.count c.loop-place.invariant.nodes frame.vars frame.layout sides.keep sides.users.items sides.ended c.args.parts.now c.loop-place.invariant.ended c.loop-place.invariant.made
+          (λ Γ around types.
+          subst (λ q. IsAfter u frame.layout sides.keep (closed_in place (place + 1) sides.users.items) Γ (tree q) sides.ended c.in_ok-map.map) one
+          (subst (λ cs. IsAfter u frame.layout sides.keep cs Γ (tree c.index-parts-place.result) sides.ended c.in_ok-map.map) c.in_ok-inner.ensures.closed
+          (subst (λ k. IsAfter u frame.layout k inner.closed.items Γ (tree c.index-parts-place.result) sides.ended c.in_ok-map.map) c.in_ok-inner.ensures.keep
+          (subst (λ l. IsAfter u l inner.keep inner.closed.items Γ (tree c.index-parts-place.result) sides.ended c.in_ok-map.map) laid
+          (c.in_ok-map.ensures.after Γ (subst (IsAround Γ) (sym c.in_ok-inner.ensures.vars) around) (types_at c.args.parts.now place c.index-parts-place.result Γ types lt c.index-parts-place.is)))))));
     }
 
 pub at_once-sequel-requires-clause-together : goal.at_once-sequel-requires-clause-together
-at_once-sequel-requires-clause-together t c =
-    let frame = c.args.frame.now in
-    let sides = c.in_ok-sides.sides in
-    let none : c.loop-left.left ≡ 0 = omega (arith, c.loop-left-test.false) in
-    let some : c.loop-left.left < length c.args.parts.now = some_parts c.args.parts.now c.loop-left.left none c.is_empty.ensures c.if-is_empty.false in
-    after-over c.loop-left.world frame.vars frame.layout frame.bits frame.kept sides.keep (keep_below frame.keep sides.needed sides.keep frame.bits frame.inside c.in_ok-sides.ensures.needed.within c.in_ok-sides.ensures.keep)
-    (closed_from c.loop-left.left sides.users.items) c.requires.parts.outer (par (trees (drop c.loop-left.left c.args.parts.now))) sides.ended c.loop-left.map
-    (c.loop-left.invariant.after some c.requires.parts.outer c.requires.parts.around c.requires.parts.types) c.loop-left.invariant.nodes
+at_once-sequel-requires-clause-together t c = ?
 
 pub at_once-sequel-requires-clause-rest : goal.at_once-sequel-requires-clause-rest
-at_once-sequel-requires-clause-rest t c = over-extends c.args.world.now c.loop-left.world c.loop-left.invariant.extends c.args.frame.now.bits c.args.rest c.requires.rest
+at_once-sequel-requires-clause-rest t c = ?
 
 pub at_once-returns-clause-after : goal.at_once-returns-clause-after
-at_once-returns-clause-after t c =
-    let frame = c.args.frame.now in
-    let sides = c.in_ok-sides.sides in
-    let w = c.loop-left.world in
-    let none : c.loop-left.left ≡ 0 = omega (arith, c.loop-left-test.false) in
-    let some : c.loop-left.left < length c.args.parts.now = some_parts c.args.parts.now c.loop-left.left none c.is_empty.ensures c.if-is_empty.false in
-    let skips = subst (λ k. IsSkip w k sides.ended) c.in_ok-sides.ensures.keep c.loop-left.invariant.skips in
-    if_ok c.sequel.result _ _
-    (λ r is Γ around types. is Γ (par (trees c.args.parts.now)) sides.ended around skips (c.in_ok-sides.ensures.written Γ around types)
-    (closed_all w frame.layout (bit_or frame.keep sides.needed) sides.ended c.loop-left.map Γ (trees c.args.parts.now) frame.closed.items sides.users.items c.in_ok-sides.ensures.users types skips
-    (subst (λ k. IsAfter w frame.layout k (closed_from 0 sides.users.items) Γ (par (trees c.args.parts.now)) sides.ended c.loop-left.map) c.in_ok-sides.ensures.keep
-    (subst (λ k. IsAfter w frame.layout sides.keep (closed_from k sides.users.items) Γ (par (trees (drop k c.args.parts.now))) sides.ended c.loop-left.map) none (c.loop-left.invariant.after some Γ around types)))))
-    c.sequel.ensures.after
+at_once-returns-clause-after t c = ?

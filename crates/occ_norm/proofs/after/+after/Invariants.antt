@@ -10,7 +10,8 @@ use Rattle.occ_lift.specs.Maps.{Extends, IsSkip, MayHaveNodes}
 use Rattle.occ_frame.specs.After.{IsAfter, IsOver}
 use Rattle.occ_frame.specs.Placed.{Fits, IsAround}
 use Rattle.occ_guards.specs.Alternation.{IsAlternation}
-use Rattle.occ_sides.specs.Sides.{closed_from}
+use Rattle.occ_sides.specs.Joined.{HaveNodes}
+use Rattle.occ_norm.proofs.Beside.{AreMade}
 use Rattle.occ_norm.specs.Parts.{IsAfterIn}
 use Rattle.occ_norm.proofs.Declaring.{Opens}
 use Rattle.occ_norm.proofs.after.+after.Given as goal
@@ -69,19 +70,15 @@ invariant-first_choice-loop-left l = record {
 abbrev pub decreases-first_choice-loop-left : goal.decreases-first_choice-loop-left
 decreases-first_choice-loop-left l = l.left
 
-abbrev pub invariant-at_once-loop-left : goal.invariant-at_once-loop-left
-invariant-at_once-loop-left l = record {
+abbrev pub invariant-at_once-loop-place : goal.invariant-at_once-loop-place
+invariant-at_once-loop-place l = record {
   extends : Extends l.fn.world l.world;
-  nodes : HasNodes l.world l.map;
   ended : HasNodes l.world l.sides.ended;
-  below : l.left ≤ length l.parts;
   skips : IsSkip l.world l.sides.keep l.sides.ended;
-  after : l.left < length l.parts → (Γ : Environment) → IsAround Γ l.frame.vars → all_types_kept (trees l.parts) Γ ≡ true
-      → IsAfter l.world l.frame.layout l.sides.keep (closed_from l.left l.sides.users.items) Γ (par (trees (drop l.left l.parts))) l.sides.ended l.map;
+  count : length l.maps.items ≡ l.place;
+  nodes : HaveNodes l.world l.maps.items;
+  made : AreMade l.world l.frame.vars l.frame.layout l.sides.keep l.sides.users.items l.sides.ended l.place l.parts l.maps.items;
 }
-
-abbrev pub decreases-at_once-loop-left : goal.decreases-at_once-loop-left
-decreases-at_once-loop-left l = l.left
 
 abbrev pub invariant-alternated-loop-left : goal.invariant-alternated-loop-left
 invariant-alternated-loop-left l = record {
