@@ -7,18 +7,21 @@ use Rattle.occ_base.specs.declared.width.Width.{Width}
 use Rattle.occ_mdd.specs.declared.map.MapId.{MapId}
 use Rattle.occ_node.specs.declared.world.World.{World}
 use Rattle.occ_follow.specs.Sequence.{HasNodes}
-use Rattle.occ_lift.specs.Maps.{Extends}
+use Rattle.occ_lift.specs.Maps.{Extends, IsSkip}
 use Rattle.occ_lift.proofs.Worlds.{has_nodes-extends}
 use Rattle.occ_syntax.specs.Scopes.{Environment}
+use Rattle.occ_syntax.specs.Tree.{par}
 use Rattle.occ_syntax.specs.Types.{all_types_kept}
+use Rattle.occ_syntax.specs.Usage.{AreSeparate}
 use Rattle.occ_syntax.specs.View.{tree, trees}
 use Rattle.occ_syntax.specs.declared.proc.Proc.{Proc, Skip}
 use Rattle.occ_syntax.specs.declared.scope.Kind.{Kind}
 use Rattle.occ_frame.specs.After.{IsAfter}
 use Rattle.occ_frame.specs.Placed.{IsAround}
 use Rattle.occ_frame.proofs.After.{after-extends}
-use Rattle.occ_sides.specs.Sides.{closed_in}
-use Rattle.occ_sides.specs.Joined.{AreOfParts, HaveNodes, no_map}
+use Rattle.occ_sides.specs.Sides.{AreUsers, closed_in}
+use Rattle.occ_sides.specs.Joined.{AreOfParts, HaveNodes, IsJoined, no_map}
+use Rattle.occ_sides.proofs.Using.{users_spread}
 use Rattle.occ_sides.specs.declared.users.Users.{Users}
 
 -- the first n maps are those of the first n parts
@@ -61,3 +64,12 @@ all_made w vars layout keep users ended n ps maps given same all made Γ around 
     subst (λ (ms : List MapId). IsAfter w layout keep (closed_in (0 + i) (0 + i + 1) users) Γ (tree (get_or ps i Skip)) ended (get_or ms i no_map)) (sym same)
     (subst (λ (k : ℕ). IsAfter w layout keep (closed_in (0 + i) k users) Γ (tree (get_or ps i Skip)) ended (get_or maps i no_map)) high
     (subst (λ (k : ℕ). IsAfter w layout keep (closed_in k (i + 1) users) Γ (tree (get_or ps i Skip)) ended (get_or maps i no_map)) low (made Γ around types i (omega (arith, l, all)))))
+
+-- and so they are joined
+pub parts_after : (w x : World) (vars : List (Name × Kind)) (layout : List (Name × Width × ℕ)) (keep : ℕ) (users : List Users) (ended : MapId) (n : ℕ) (ps : List Proc) (maps given : List MapId) (closed : List Name) (r : MapId) → given ≡ maps → n ≡ length ps
+    → AreSeparate (trees ps) → AreUsers (trees ps) closed users → IsSkip w keep ended → AreMade w vars layout keep users ended n ps maps → IsJoined vars layout keep users ended 0 ps given w x r
+    → (Γ : Environment) → IsAround Γ vars → all_types_kept (trees ps) Γ ≡ true → IsAfter x layout keep (closed_in 0 (length ps) users) Γ (par (trees ps)) ended r
+parts_after w x vars layout keep users ended n ps maps given closed r same all separate are skip made joins Γ around types =
+    let high : 0 + length ps ≡ length ps = omega arith in
+    subst (λ (k : ℕ). IsAfter x layout keep (closed_in 0 k users) Γ (par (trees ps)) ended r) high
+    (joins.joined Γ around types separate (users_spread (trees ps) users are.each) skip (all_made w vars layout keep users ended n ps maps given same all made Γ around types))

@@ -13,21 +13,23 @@ use Rattle.occ_frame.specs.After.{IsAfter}
 use Rattle.occ_frame.specs.Placed.{Fits, IsAround}
 use Rattle.occ_frame.proofs.After.{after-extends, after-over, over-extends}
 use Rattle.occ_frame.proofs.Placing.{branch_at, branch_condition, branch_wait, case_at, case_condition, fit_at, fits_alt, fits_assign, fits_can, fits_next, fits_par, fits_receive, fits_select, fits_send, fits_seq}
-use Rattle.std.proofs.Common.{true, ◌-◌, ◌≡◌, ◌≤◌, ◌<◌, ◌+◌, cond, drop, length, sym, ap, ◌∙◌, subst, arith}
+use Rattle.std.proofs.Common.{true, ◌-◌, ◌≡◌, ◌≤◌, ◌<◌, ◌+◌, [], ◌∷◌, cond, drop, length, get_or, sym, ap, ◌∙◌, subst, arith}
 use Rattle.occ_lift.proofs.Worlds.{extends_refl, extends_trans, has_nodes-extends}
 use Rattle.occ_norm.specs.Parts.{IsAfterIn}
 use Rattle.occ_norm.proofs.Declaring.{bits_grow, opens_next}
 use Rattle.occ_norm.proofs.Opening.{after_from, freed_after}
 use Rattle.std.proofs.Common.{bit_or}
-use Rattle.std.proofs.lemmas.Option.{get_or_from_slice_get}
+use Rattle.std.proofs.lemmas.Option.{same_Some, slice_get-get_or}
+use Rattle.std.proofs.lemmas.List.{length-append}
+use Rattle.occ_syntax.specs.declared.proc.Proc.{Skip}
 use Rattle.occ_bits.specs.Layout.{laid_out}
 use Rattle.occ_lift.specs.Maps.{IsSkip}
 use Rattle.occ_sides.specs.Sides.{closed_in}
 use Rattle.occ_sides.specs.Joined.{HaveNodes}
-use Rattle.occ_norm.proofs.Beside.{AreMade, all_made, made_more, nodes_more}
+use Rattle.occ_norm.proofs.Beside.{AreMade, made_more, nodes_more, parts_after}
 use Rattle.occ_sides.proofs.Closing.{closed_all}
 use Rattle.occ_norm.proofs.Steps.{as_is, case_in, empty_in, if_ok, in-extends, no_case_in, keep_below, none_in, one_in, over_in, over_skip, seq_in, skip-extends, skip_in, stop_in, truth_here}
-use Rattle.occ_norm.proofs.Using.{no_parts, some_parts, branch_usage_at, branches_left, case_usage_at, cases_left, dropped_all, one_tree, trees_left, types_at, usage_at, usage_inside}
+use Rattle.occ_norm.proofs.Using.{no_parts, branch_usage_at, branches_left, case_usage_at, cases_left, dropped_all, one_tree, trees_left, types_at, usage_at, usage_inside}
 use Rattle.occ_norm.proofs.after.+after.Goals as goal
 
 -- ---- declarations
@@ -362,7 +364,20 @@ pub at_once-side_frame-requires-clause-keep : goal.at_once-side_frame-requires-c
 at_once-side_frame-requires-clause-keep t c = keep_below c.args.frame.now.keep c.in_ok-sides.sides.needed c.in_ok-sides.sides.keep c.args.frame.now.bits c.args.frame.now.inside c.in_ok-sides.ensures.needed.within c.in_ok-sides.ensures.keep
 
 pub at_once-loop-place-init : goal.at_once-loop-place-init
-at_once-loop-place-init t c = ?
+at_once-loop-place-init t c = record {
+  extends = c.of.ensures.extends;
+  ended = c.in_ok-sides.ensures.ended;
+  skips = c.in_ok-sides.ensures.skip;
+  count = ap length c.new-maps.ensures.items;
+  nodes = λ i l. let none : length c.new-maps.result.items ≡ 0 = ap length c.new-maps.ensures.items in absurd (omega (arith, none, l));
+  made = λ Γ around types i l. absurd (omega (arith, l));
+}
+
+pub at_once-returns-in_err-map-clause-extends : goal.at_once-returns-in_err-map-clause-extends
+at_once-returns-in_err-map-clause-extends t c = extends_trans c.args.world.now c.loop-place.world c.after-in-loop-place.new.world c.loop-place.invariant.extends c.after-in-loop-place.ensures.extends
+
+pub at_once-returns-in_err-push-clause-extends : goal.at_once-returns-in_err-push-clause-extends
+at_once-returns-in_err-push-clause-extends t c = extends_trans c.args.world.now c.loop-place.world c.after-in-loop-place.new.world c.loop-place.invariant.extends c.after-in-loop-place.ensures.extends
 
 pub at_once-after-requires-in-loop-place : goal.at_once-after-requires-in-loop-place
 at_once-after-requires-in-loop-place t c =
@@ -389,13 +404,13 @@ at_once-loop-place-preserved t c =
     let lt : place < length c.args.parts.now = omega arith in
     let grow = c.after-in-loop-place.ensures.extends in
     let laid : inner.layout ≡ frame.layout = inner.kept.layout_is ∙ ap (laid_out 0) c.in_ok-inner.ensures.vars ∙ sym frame.kept.layout_is in
-    let one : c.index-parts-place.result ≡ get_or c.args.parts.now place Skip = ? in
-    let whole = c.in_ok-push.ensures.ok in
+    let one : c.index-parts-place.result ≡ get_or c.args.parts.now place Skip = c.index-parts-place.is ∙ same_Some _ _ (sym (slice_get-get_or c.args.parts.now place _ lt) ∙ slice_get-get_or c.args.parts.now place Skip lt) in
+    let whole = c.in_ok-push.ensures.items in
     record {
       extends = extends_trans c.args.world.now v u c.loop-place.invariant.extends grow;
       ended = has_nodes-extends v u grow sides.ended c.loop-place.invariant.ended;
       skips = skip-extends v u grow sides.keep sides.ended c.loop-place.invariant.skips;
-      count = ?;
+      count = ap length whole ∙ length-append old (c.in_ok-map.map ∷ []) ∙ ap (λ n. n + 1) c.loop-place.invariant.count;
       nodes = subst (HaveNodes u) (sym whole) (nodes_more v u grow old c.in_ok-map.map place c.loop-place.invariant.count c.loop-place.invariant.nodes c.in_ok-map.ensures.nodes);
       made = subst (AreMade u frame.vars frame.layout sides.keep sides.users.items sides.ended (place + 1) c.args.parts.now) (sym whole)
           (made_more v u grow old c.in_ok-map.map place c.loop-place.invariant.count c.loop-place.invariant.nodes frame.vars frame.layout sides.keep sides.users.items sides.ended c.args.parts.now c.loop-place.invariant.ended c.loop-place.invariant.made
@@ -408,10 +423,32 @@ at_once-loop-place-preserved t c =
     }
 
 pub at_once-sequel-requires-clause-together : goal.at_once-sequel-requires-clause-together
-at_once-sequel-requires-clause-together t c = ?
+at_once-sequel-requires-clause-together t c =
+    let frame = c.args.frame.now in
+    let sides = c.in_ok-sides.sides in
+    let w = c.loop-place.world in
+    let x = c.joined.new.world in
+    after-over x frame.vars frame.layout frame.bits frame.kept sides.keep (keep_below frame.keep sides.needed sides.keep frame.bits frame.inside c.in_ok-sides.ensures.needed.within c.in_ok-sides.ensures.keep)
+    (closed_in 0 (length c.args.parts.now) sides.users.items) c.requires.parts.outer (par (trees c.args.parts.now)) sides.ended c.in_ok-map-2.map
+    (parts_after w x frame.vars frame.layout sides.keep sides.users.items sides.ended c.loop-place.place c.args.parts.now c.loop-place.maps.items c.as_slice.result.now frame.closed.items c.in_ok-map-2.map c.as_slice.ensures.value (omega arith) c.requires.separate c.in_ok-sides.ensures.users
+    c.loop-place.invariant.skips c.loop-place.invariant.made c.in_ok-map-2.ensures.joined c.requires.parts.outer c.requires.parts.around c.requires.parts.types) c.in_ok-map-2.ensures.nodes
 
 pub at_once-sequel-requires-clause-rest : goal.at_once-sequel-requires-clause-rest
-at_once-sequel-requires-clause-rest t c = ?
+at_once-sequel-requires-clause-rest t c = over-extends c.args.world.now c.joined.new.world (extends_trans c.args.world.now c.loop-place.world c.joined.new.world c.loop-place.invariant.extends c.joined.ensures.extends) c.args.frame.now.bits c.args.rest c.requires.rest
 
 pub at_once-returns-clause-after : goal.at_once-returns-clause-after
-at_once-returns-clause-after t c = ?
+at_once-returns-clause-after t c =
+    let frame = c.args.frame.now in
+    let sides = c.in_ok-sides.sides in
+    let w = c.loop-place.world in
+    let x = c.joined.new.world in
+    let parts = c.args.parts.now in
+    let m = c.in_ok-map-2.map in
+    let skips = subst (λ k. IsSkip x k sides.ended) c.in_ok-sides.ensures.keep (skip-extends w x c.joined.ensures.extends sides.keep sides.ended c.loop-place.invariant.skips) in
+    if_ok c.sequel.result _ _
+    (λ r is Γ around types. is Γ (par (trees parts)) sides.ended around skips (c.in_ok-sides.ensures.written Γ around types)
+    (closed_all x frame.layout (bit_or frame.keep sides.needed) sides.ended m Γ parts frame.closed.items sides.users.items c.in_ok-sides.ensures.users types skips
+    (subst (λ k. IsAfter x frame.layout k (closed_in 0 (length parts) sides.users.items) Γ (par (trees parts)) sides.ended m) c.in_ok-sides.ensures.keep
+    (parts_after w x frame.vars frame.layout sides.keep sides.users.items sides.ended c.loop-place.place parts c.loop-place.maps.items c.as_slice.result.now frame.closed.items m c.as_slice.ensures.value (omega arith) c.requires.separate c.in_ok-sides.ensures.users
+    c.loop-place.invariant.skips c.loop-place.invariant.made c.in_ok-map-2.ensures.joined Γ around types))))
+    c.sequel.ensures.after

@@ -1,13 +1,13 @@
-use Rattle.std.proofs.Common.{◌+◌, ◌*◌, ◌≤◌, ◌<◌, ◌≡◌, true, drop, length}
+use Rattle.std.proofs.Common.{◌+◌, ◌*◌, ◌≤◌, ◌≡◌, true, drop, length}
 use Rattle.occ_syntax.specs.Scopes.{Environment}
-use Rattle.occ_syntax.specs.Tree.{par, select, seq}
-use Rattle.occ_syntax.specs.Types.{all_types_kept, branches_kept}
+use Rattle.occ_syntax.specs.Tree.{select, seq}
+use Rattle.occ_syntax.specs.Types.{branches_kept}
 use Rattle.occ_syntax.specs.Usage.{KeepsUsage}
 use Rattle.occ_syntax.specs.View.{tree, trees, cases, branches}
 use Rattle.occ_syntax.proofs.Weights.{weight, weight_of_all, weight_of_cases, weight_of_branches}
 use Rattle.occ_follow.specs.Sequence.{HasNodes}
 use Rattle.occ_lift.specs.Maps.{Extends, IsSkip, MayHaveNodes}
-use Rattle.occ_frame.specs.After.{IsAfter, IsOver}
+use Rattle.occ_frame.specs.After.{IsOver}
 use Rattle.occ_frame.specs.Placed.{Fits, IsAround}
 use Rattle.occ_guards.specs.Alternation.{IsAlternation}
 use Rattle.occ_sides.specs.Joined.{HaveNodes}
