@@ -1,0 +1,8 @@
+//! PARs that stand in the last parts of PARs, with the channels that are declared round them, as one PAR.
+#![tactic(auto)]
+
+mod flat;
+#[cfg(test)]
+mod tests;
+
+pub use flat::flattened;
