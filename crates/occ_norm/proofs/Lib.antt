@@ -8,3 +8,4 @@ pub mod Declaring
 pub mod Rooting
 pub mod Using
 pub mod Beside
+pub mod Flattened

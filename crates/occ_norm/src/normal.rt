@@ -1,21 +1,70 @@
-ghost use Rattle.std.specs.Prelude.{◌≡◌, IfOk};
+ghost use Rattle.std.specs.Prelude.{◌≡◌, ◌≤◌, true, IfOk, IfSome};
 ghost use Rattle.occ_mdd.specs.Maps.{Keeps};
 ghost use Rattle.occ_node.specs.World.{Grows};
+ghost use Rattle.occ_syntax.specs.Counts.{bits_of_scope, most_bits};
+ghost use Rattle.occ_syntax.specs.Scopes.{environment};
+ghost use Rattle.occ_syntax.specs.Types.{scope_kept, types_kept};
+ghost use Rattle.occ_syntax.specs.Usage.{KeepsUsage};
 ghost use Rattle.occ_syntax.specs.View.{tree};
+ghost use Rattle.occ_usage.specs.Accepted.{KeepsRules};
+ghost use Rattle.occ_flat.specs.Flat.{IsFlat};
 ghost use Rattle.occ_norm.specs.Root.{IsRoot};
 
 use crate::after::after;
 use occ_base::Memory;
+use occ_flat::flattened;
 use occ_frame::{Frame, rebased};
 use occ_lift::skip;
+use occ_mdd::MapId;
 use occ_node::{Root, World};
-use occ_usage::Accepted;
+use occ_syntax::Program;
+use occ_usage::{Accepted, keeps};
 use std::alloc::Global;
+
+// The map of a program whose rules and limits are kept.
+fn states_of(alloc: Global, program: &Program, world: &mut World) -> Result<MapId, Memory>
+    requires scope { scope_kept program.now.params ≡ true }
+    requires types { types_kept (tree program.now.body) (environment program.now.params) ≡ true }
+    requires usage { KeepsUsage (tree program.now.body) }
+    requires interface { bits_of_scope program.now.params ≤ 16 }
+    requires state { most_bits (tree program.now.body) (bits_of_scope program.now.params) ≤ 24 }
+    ensures grows { Grows world.old world.new }
+    ensures maps { Keeps world.old.maps world.new.maps }
+    ensures root { IfOk result (IsRoot world.new program.now.params (tree program.now.body)) }
+{
+    let frame = Frame::of(alloc, program)?;
+    let ended = skip(alloc, world, frame.keep)?;
+    let changes = after(alloc, world, &frame, &program.body, ended)?;
+    let states = rebased(alloc, world, frame.keep, changes)?;
+    Ok(states)
+}
+
+// The program with flat PARs, if it has others and keeps the rules with them too. A name that is declared again may break
+// them.
+fn flat_program(alloc: Global, program: &Program) -> Result<Option<Program>, Memory>
+    ensures params { IfOk result (λ found. IfSome found (λ flat. flat.params ≡ program.now.params)) }
+    ensures body { IfOk result (λ found. IfSome found (λ flat. IsFlat (tree program.now.body) (tree flat.body))) }
+    ensures rules { IfOk result (λ found. IfSome found (λ flat. KeepsRules flat)) }
+{
+    let Some(body) = flattened(alloc, &program.body)? else {
+        return Ok(None);
+    };
+    let flat = Program {
+        name: program.name,
+        params: program.params.copy(alloc)?,
+        body,
+    };
+    if !keeps(alloc, &flat)? {
+        return Ok(None);
+    }
+    Ok(Some(flat))
+}
 
 /// The behaviours of a program from each of its initial states: a map that has a node at every assignment of the bits of its
 /// parameters' variables, laid out from bit 0 in the order of the parameters, the low bit of each first. The node has exactly the
 /// failures and the ends of the program's body from that state; its ends are assignments of the same bits. After want of memory
 /// too, each node, set and map of the world keeps what it stands for.
+// PARs inside one another are made one first, so that a chain of parts is put side by side half by half.
 pub fn normalise(alloc: Global, accepted: &Accepted, world: &mut World) -> Result<Root, Memory>
     ensures grows { Grows world.old world.new }
     ensures maps { Keeps world.old.maps world.new.maps }
@@ -23,10 +72,11 @@ pub fn normalise(alloc: Global, accepted: &Accepted, world: &mut World) -> Resul
     ensures root { IfOk result (λ r. IsRoot world.new accepted.now.program.params (tree accepted.now.program.body) r.states) }
 {
     let program = accepted.program();
-    let frame = Frame::of(alloc, program)?;
-    let ended = skip(alloc, world, frame.keep)?;
-    let changes = after(alloc, world, &frame, &program.body, ended)?;
-    let states = rebased(alloc, world, frame.keep, changes)?;
+    let flat = flat_program(alloc, program)?;
+    let states = match &flat {
+        Some(flat) => states_of(alloc, flat, world)?,
+        None => states_of(alloc, program, world)?,
+    };
     Ok(Root {
         params: program.params.copy(alloc)?,
         states,

@@ -1,21 +1,23 @@
-use Rattle.std.proofs.Common.{subst}
+use Rattle.std.proofs.Common.{subst, sym}
 use Rattle.occ_syntax.specs.View.{tree}
-use Rattle.occ_lift.proofs.Worlds.{extends_trans, has_nodes-extends}
+use Rattle.occ_mdd.specs.declared.map.MapId.{MapId}
+use Rattle.occ_node.specs.declared.world.World.{World}
 use Rattle.occ_norm.specs.Root.{IsRoot}
-use Rattle.occ_norm.proofs.Rooting.{root_of}
-use Rattle.occ_norm.proofs.Steps.{in-extends, skip-extends}
+use Rattle.occ_norm.proofs.Flattened.{found_is, root_as}
+use Rattle.occ_norm.proofs.normal.normalise.Goals.{in-Some+in_ok-states-in-Some, in-None+in_ok-states-in-None}
 use Rattle.occ_norm.proofs.normal.normalise.Goals as goal
 
 pub returns-clause-root : goal.returns-clause-root
 returns-clause-root c =
     let program = c.program-program.result.now in
-    let frame = c.in_ok-frame.frame in
-    let ended = has_nodes-extends c.skip.new.world c.after.new.world c.after.ensures.extends c.in_ok-ended.ended c.in_ok-ended.ensures.nodes in
-    subst (λ prog. IsRoot c.rebased.new.world prog.params (tree prog.body) c.in_ok-states.states) c.program-program.ensures.same
-    (root_of c.rebased.new.world program.params frame.vars frame.layout frame.bits frame.keep frame.closed.items (tree program.body) c.in_ok-ended.ended c.in_ok-changes.changes c.in_ok-states.states
-    c.in_ok-frame.ensures.vars c.in_ok-frame.ensures.closed frame.kept frame.inside c.in_ok-frame.ensures.keep c.program-program.ensures.accepted.typed.types
-    (skip-extends c.skip.new.world c.rebased.new.world (extends_trans c.skip.new.world c.after.new.world c.rebased.new.world c.after.ensures.extends c.rebased.ensures.extends) frame.keep c.in_ok-ended.ended c.in_ok-ended.ensures.skip)
-    (has_nodes-extends c.after.new.world c.rebased.new.world c.rebased.ensures.extends c.in_ok-changes.changes c.in_ok-changes.ensures.nodes)
-    c.in_ok-states.ensures.nodes
-    (in-extends c.after.new.world c.rebased.new.world c.rebased.ensures.extends frame.vars frame.layout frame.keep frame.closed.items (tree program.body) c.in_ok-ended.ended c.in_ok-changes.changes ended c.in_ok-changes.ensures.nodes c.in_ok-changes.ensures.after)
-    c.in_ok-states.ensures.changed)
+    let made : World → MapId → Type 0 = λ v m. IsRoot v program.params (tree program.body) m in
+    subst (λ prog. IsRoot c.match-flat.world prog.params (tree prog.body) c.match-flat.states) c.program-program.ensures.same
+    (elim c.match-flat.branch [
+      | in-Some+in_ok-states-in-Some w ↦ subst (λ v. made v c.match-flat.states) (sym w.world-is)
+          (subst (λ m. made w.states_of.new.world m) (sym w.states-is)
+          (root_as w.states_of.new.world program.params w.in-Some.flat.params (tree program.body) (tree w.in-Some.flat.body) w.in_ok-states-in-Some.states
+          (found_is _ _ _ w.in-Some.is c.in_ok-flat.ensures.params) (found_is _ _ _ w.in-Some.is c.in_ok-flat.ensures.body) c.program-program.ensures.accepted.typed.types
+          (found_is _ _ _ w.in-Some.is c.in_ok-flat.ensures.rules).keeps.types w.in_ok-states-in-Some.ensures.root))
+      | in-None+in_ok-states-in-None w ↦ subst (λ v. made v c.match-flat.states) (sym w.world-is)
+          (subst (λ m. made w.states_of-in-None.new.world m) (sym w.states-is) w.in_ok-states-in-None.ensures.root)
+    ])
