@@ -1,5 +1,5 @@
 -- Facts on plain numbers that the circuits need.
-use Rattle.std.proofs.Common.{◌≡◌, ◌≢◌, ℕ, suc, ◌+◌, ◌-◌, ◌*◌, ◌/◌, ◌%◌, ◌^◌, ◌<◌, ◌≤◌, ◌==◌, Bool, true, false, not, ◌&&◌, nat_lt, nat_le, if◌then◌else◌, refl, sym, ap, ◌∙◌, arith, ⊎_elim}
+use Rattle.std.proofs.Common.{◌≡◌, ◌≢◌, ℕ, suc, ◌+◌, ◌-◌, ◌*◌, ◌/◌, ◌%◌, ◌^◌, ◌<◌, ◌≤◌, ◌==◌, Bool, true, false, nat_lt, if◌then◌else◌, sym, ap, ◌∙◌, arith, ⊎_elim}
 use Rattle.std.proofs.Math.Nat.{pow-succ', mod-eq_of_lt, add-mul-mod_self_left, div-div-eq-div-mul}
 use Rattle.std.proofs.lemmas.Bool.{cases_Bool, eqb-true, eqb-false, eq-eqb, ne_eqb, lt-ltb, le-ltb}
 use Rattle.std.proofs.lemmas.Bool.Decides.{eqb_tells}
@@ -59,46 +59,11 @@ less_of false n p a b h e =
     let le : b ≤ a = omega (arith, h, e) in
     sym (le-ltb a b le)
 
-pub not_less_is : (a b : ℕ) → not (nat_lt b a) ≡ nat_le a b
-not_less_is a b = grind arith
-
 same_test : (a b c d : ℕ) → (a ≡ b → c ≡ d) → (c ≡ d → a ≡ b) → (a == b) ≡ (c == d)
 same_test a b c d f g = ⊎_elim
     (λ (e : ((a == b) ≡ true) × (a ≡ b)). e.0 ∙ sym (eq-eqb c d (f e.1)))
     (λ (e : ((a == b) ≡ false) × (a ≢ b)). e.0 ∙ sym (ne_eqb c d (λ h. e.1 (g h))))
     (eqb_tells a b)
-
-both_even : (a b : ℕ) → (0 + 2 * a == 0 + 2 * b) ≡ (a == b)
-both_even a b = same_test (0 + 2 * a) (0 + 2 * b) a b (λ e. omega (arith, e)) (λ e. omega (arith, e))
-
-both_odd : (a b : ℕ) → (1 + 2 * a == 1 + 2 * b) ≡ (a == b)
-both_odd a b = same_test (1 + 2 * a) (1 + 2 * b) a b (λ e. omega (arith, e)) (λ e. omega (arith, e))
-
-even_odd : (a b : ℕ) → (0 + 2 * a == 1 + 2 * b) ≡ false
-even_odd a b = ne_eqb (0 + 2 * a) (1 + 2 * b) (λ e. omega (arith, e))
-
-odd_even : (a b : ℕ) → (1 + 2 * a == 0 + 2 * b) ≡ false
-odd_even a b = ne_eqb (1 + 2 * a) (0 + 2 * b) (λ e. omega (arith, e))
-
--- whether two digits differ, or lower ones did
-abbrev pub tells_apart : Bool → Bool → Bool → Bool
-tells_apart false false apart = apart
-tells_apart true true apart = apart
-tells_apart false true apart = true
-tells_apart true false apart = true
-
-pub apart_step : (l r apart : Bool) (left right : ℕ) → (not apart && (if l then 1 else 0) + 2 * left == (if r then 1 else 0) + 2 * right) ≡ (not (tells_apart l r apart) && left == right)
-apart_step l r true left right = each l r
-  where
-    each : (l r : Bool) → false ≡ (not (tells_apart l r true) && left == right)
-    each true true = refl
-    each true false = refl
-    each false true = refl
-    each false false = refl
-apart_step true true false left right = both_odd left right
-apart_step true false false left right = odd_even left right
-apart_step false true false left right = even_odd left right
-apart_step false false false left right = both_even left right
 
 -- ---- bits in a row
 pub low_bit : (y n i : ℕ) → i < n → bit_at (y % 2 ^ n) i ≡ bit_at y i

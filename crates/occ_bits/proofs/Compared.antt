@@ -6,8 +6,8 @@ use Rattle.occ_base.specs.declared.width.Width.{Width}
 use Rattle.occ_dd.specs.Store.{IsSet, IsSubsetAnswer}
 use Rattle.occ_dd.specs.declared.set.SetId.{SetId}
 use Rattle.occ_dd.specs.declared.store.Store.{Store}
-use Rattle.occ_laws.proofs.Facts.{agreed}
-use Rattle.occ_laws.proofs.Typing.{bits_of_type}
+use Rattle.occ_meaning.proofs.Facts.{agreed}
+use Rattle.occ_meaning.proofs.Typing.{bits_of_type}
 use Rattle.occ_syntax.specs.declared.scope.Kind.{Kind}
 use Rattle.occ_syntax.specs.Eval.{bits_of_exp, eval}
 use Rattle.occ_syntax.specs.Names.{names, some_names}

@@ -1,14 +1,14 @@
 -- The circuits at the end of their loops.
-use Rattle.std.proofs.Common.{◌≡◌, ℕ, suc, ◌+◌, ◌-◌, ◌*◌, ◌%◌, ◌^◌, ◌<◌, ◌==◌, Bool, true, false, not, ◌&&◌, bit_and, bit_or, bit_xor, min, max, if◌then◌else◌, List, [], ◌∷◌, length, get_or, drop, refl, sym, ap, ◌∙◌, subst, arith}
+use Rattle.std.proofs.Common.{◌≡◌, ℕ, suc, ◌+◌, ◌-◌, ◌*◌, ◌%◌, ◌^◌, ◌<◌, Bool, true, false, not, bit_and, bit_or, bit_xor, min, max, if◌then◌else◌, List, [], ◌∷◌, length, get_or, drop, refl, sym, ap, ◌∙◌, subst, arith}
 use Rattle.std.specs.Int.{bit_at}
 use Rattle.std.proofs.Math.Seq.{drop-length}
 use Rattle.std.proofs.lemmas.Nat.{and_le_l, or_lt, xor_lt}
 use Rattle.std.proofs.lemmas.Nat.Bits.{bit_at_and, bit_at_or, bit_at_xor}
-use Rattle.occ_dd.specs.Store.{has, IsSet}
+use Rattle.occ_dd.specs.Store.{has}
 use Rattle.occ_dd.specs.declared.set.SetId.{SetId}
 use Rattle.occ_dd.specs.declared.store.Store.{Store}
 use Rattle.occ_bits.specs.Words.{digit, number_at, IsWord}
-use Rattle.occ_bits.specs.Circuits.{IsSumSoFar, IsDifferenceSoFar, IsDifference, DifferSoFar, HasBits, no_set, row_at}
+use Rattle.occ_bits.specs.Circuits.{IsSumSoFar, IsDifferenceSoFar, IsDifference, HasBits, no_set, row_at}
 use Rattle.occ_bits.proofs.Arithmetic.{sum_of, difference_of, less_of}
 use Rattle.occ_bits.proofs.Numbers.{digit_small, double, number_below, number_bit, word_from_bits}
 
@@ -53,17 +53,6 @@ difference_word old new left right difference less same is = record {
   number = λ x. difference_of (number_at new difference x) (2 ^ length left) (digit new less x) (number_at old left x) (number_at old right x)
       (below new difference (length left) x is.digits) (below old right (length left) x (sym same)) (digit_small new less x) (is.number x);
 }
-
-pub differ_end : (first now : Store) (left right : List SetId) (k : ℕ) (apart : SetId) → k ≡ length left → length left ≡ length right → DifferSoFar first now left right k apart → IsSet now apart (λ x. not (number_at first left x == number_at first right x))
-differ_end first now left right k apart at_end same so_far = record {
-  known = so_far.known;
-  members = λ x. turned (has now apart x) (number_at first left x == number_at first right x)
-      (so_far.tells x ∙ ap (λ n. not (has now apart x) && n == number_at first (drop k right) x) (nothing_left first left k x (sym at_end)) ∙ ap (λ n. not (has now apart x) && 0 == n) (nothing_left first right k x (sym same ∙ sym at_end)));
-}
-  where
-    turned : (b e : Bool) → e ≡ (not b && true) → b ≡ not e
-    turned true e h = ap (λ (t : Bool). not t) (sym h)
-    turned false e h = ap (λ (t : Bool). not t) (sym h)
 
 -- ---- gates
 and_rows : (l r : Bool) → (if get_or (false ∷ false ∷ false ∷ true ∷ []) ((if l then 1 else 0) + 2 * ((if r then 1 else 0) + 2 * 0)) false then 1 else 0) ≡ min (if l then 1 else 0) (if r then 1 else 0)

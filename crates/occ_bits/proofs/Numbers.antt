@@ -1,14 +1,11 @@
 -- Numbers whose digits are sets.
-use Rattle.std.proofs.Common.{◌≡◌, ℕ, zero, suc, ◌+◌, ◌*◌, ◌/◌, ◌%◌, ◌^◌, ◌<◌, ◌==◌, Bool, true, false, if◌then◌else◌, List, [], ◌∷◌, ◌++◌, length, get_or, refl, sym, ap, ◌∙◌, subst, arith, ⊎_elim, length-append}
+use Rattle.std.proofs.Common.{◌≡◌, ℕ, zero, suc, ◌+◌, ◌*◌, ◌/◌, ◌%◌, ◌^◌, ◌<◌, Bool, true, false, if◌then◌else◌, List, [], ◌∷◌, ◌++◌, length, get_or, refl, sym, ap, ◌∙◌, subst, arith}
 use Rattle.std.specs.Int.{bit_at}
 use Rattle.std.specs.List.{All}
 use Rattle.std.proofs.Math.Nat.{pow-succ'}
-use Rattle.std.proofs.Math.ListN.{get_or-append}
-use Rattle.std.proofs.Math.Seq.{get_or-append_seam}
-use Rattle.std.proofs.lemmas.Bool.{cases_Bool, eqb-true, eqb-false}
-use Rattle.std.proofs.lemmas.List.Elements.{All-head, All-tail, All-push, All-nil}
+use Rattle.std.proofs.lemmas.List.Elements.{All-head, All-tail}
 use Rattle.std.proofs.lemmas.Nat.Bits.{bit_at_lowest, bit_at-suc, same_from_bits_below}
-use Rattle.occ_dd.specs.Store.{has, IsKnown, IsSet, Keeps}
+use Rattle.occ_dd.specs.Store.{has, IsKnown, Keeps}
 use Rattle.occ_dd.specs.declared.set.SetId.{SetId}
 use Rattle.occ_dd.specs.declared.store.Store.{Store}
 use Rattle.occ_dd.proofs.Callers.{all_known-keeps}
@@ -61,35 +58,6 @@ number_bit s (a ∷ sets) x (suc i) d h =
     rest : (d n : ℕ) → d < 2 → (d + 2 * n) / 2 ≡ n
     rest d n h = omega arith
 
-pub has_bits_none : (s : Store) (test : ℕ → ℕ → Bool) → HasBits s 0 [] test
-has_bits_none s test = record { digits = refl; known = All-nil (IsKnown s); each = λ i x d h. absurd (omega (arith, h)) }
-
-pub has_bits_more : (s t : Store) (k : ℕ) (sets : List SetId) (test : ℕ → ℕ → Bool) (r : SetId) (at : ℕ → Bool) → HasBits s k sets test → Keeps s t → IsSet t r at → ((x : ℕ) → at x ≡ test k x) → HasBits t (k + 1) (sets ++ r ∷ []) test
-has_bits_more s t k sets test r at before keeps is same = record {
-  digits = length-append sets (r ∷ []) ∙ ap (λ n. n + 1) before.digits;
-  known = All-push (IsKnown t) sets r (all_known-keeps s t keeps sets before.known) is.known;
-  each = λ i x d h. ⊎_elim
-      (λ (e : (i == k) ≡ true). at_end i x d (eqb_is i k e))
-      (λ (e : (i == k) ≡ false). earlier i x d (not_k i k h e))
-      (cases_Bool (i == k));
-}
-  where
-    eqb_is : (i k : ℕ) → (i == k) ≡ true → i ≡ k
-    eqb_is i k e = eqb-true i k e
-
-    not_k : (i k : ℕ) → i < k + 1 → (i == k) ≡ false → i < k
-    not_k i k h e = let ne : i ≡ k → ⊥ = eqb-false i k e in omega arith
-
-    at_end : (i x : ℕ) (d : SetId) → i ≡ k → has t (get_or (sets ++ r ∷ []) i d) x ≡ test i x
-    at_end i x d e =
-        let here : i ≡ length sets = e ∙ sym before.digits in
-        ap (λ j. has t (get_or (sets ++ r ∷ []) j d) x) here ∙ ap (λ a. has t a x) (get_or-append_seam sets r [] d) ∙ is.members x ∙ same x ∙ ap (λ j. test j x) (sym e)
-
-    earlier : (i x : ℕ) (d : SetId) → i < k → has t (get_or (sets ++ r ∷ []) i d) x ≡ test i x
-    earlier i x d h =
-        let lt : i < length sets = subst (λ n. i < n) (sym before.digits) h in
-        ap (λ a. has t a x) (get_or-append sets (r ∷ []) d i lt) ∙ keeps.same (get_or sets i d) x (before.known i d lt) ∙ before.each i x d h
-
 -- sets that give the digits of a value make it
 pub word_from_bits : (s : Store) (n : ℕ) (sets : List SetId) (test : ℕ → ℕ → Bool) (value : ℕ → ℕ) → HasBits s n sets test → ((x : ℕ) → value x < 2 ^ n) → ((i x : ℕ) → i < n → (if test i x then 1 else 0) ≡ bit_at (value x) i) → IsWord s n sets value
 word_from_bits s n sets test value bits below each = record {
@@ -107,6 +75,3 @@ word-keeps s t k n sets value is = record {
   known = all_known-keeps s t k sets is.known;
   number = λ x. number-keeps s t k sets x is.known ∙ is.number x;
 }
-
-pub word_same : (s : Store) (n m : ℕ) (sets : List SetId) (v w : ℕ → ℕ) → IsWord s n sets v → n ≡ m → ((x : ℕ) → v x ≡ w x) → IsWord s m sets w
-word_same s n m sets v w is e same = record { digits = is.digits ∙ e; known = is.known; number = λ x. is.number x ∙ same x }

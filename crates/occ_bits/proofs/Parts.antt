@@ -5,8 +5,8 @@ use Rattle.std.proofs.lemmas.Bool.{and_from, and_parts, cases_Bool, eqb-true, eq
 use Rattle.occ_base.specs.declared.names.Name.{Name}
 use Rattle.occ_base.specs.declared.width.Width.{Width}
 use Rattle.occ_base.specs.declared.width.Width.TheVariants.{Bool as TruthValue}
-use Rattle.occ_laws.proofs.Facts.{agreed, clash, none_not_some}
-use Rattle.occ_laws.proofs.Typing.{condition_in_scope, names_in_scope}
+use Rattle.occ_meaning.proofs.Facts.{agreed, clash, none_not_some}
+use Rattle.occ_meaning.proofs.Typing.{condition_in_scope, names_in_scope}
 use Rattle.occ_syntax.specs.declared.scope.Kind.{Kind}
 use Rattle.occ_syntax.specs.Eval.{applied, bits_in, bits_of_exp, eval, keeps_width}
 use Rattle.occ_syntax.specs.Names.{names, some_names}

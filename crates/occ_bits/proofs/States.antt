@@ -6,7 +6,7 @@ use Rattle.std.proofs.lemmas.Nat.{div-add-mod', mod-mul-add, pow_pos, pow-add}
 use Rattle.occ_base.specs.declared.names.Name.{Name}
 use Rattle.occ_base.specs.declared.width.Width.{Width}
 use Rattle.occ_base.specs.Width.{bits_of}
-use Rattle.occ_laws.proofs.Facts.{none_not_some, some_is}
+use Rattle.occ_meaning.proofs.Facts.{none_not_some, some_is}
 use Rattle.occ_syntax.specs.declared.scope.Kind.{Kind}
 use Rattle.occ_syntax.specs.declared.scope.Kind.TheVariants.{Var, Chan}
 use Rattle.occ_syntax.specs.Counts.{bits_of_scope}

@@ -1,15 +1,15 @@
 -- The loops of the circuits: how they begin, and what a step keeps.
-use Rattle.std.proofs.Common.{◌≡◌, ℕ, ◌+◌, ◌*◌, ◌^◌, ◌<◌, ◌==◌, Bool, true, false, not, ◌&&◌, if◌then◌else◌, List, [], ◌∷◌, ◌++◌, length, get_or, drop, refl, sym, ap, ◌∙◌, subst, arith, length-append, add-one}
+use Rattle.std.proofs.Common.{◌≡◌, ℕ, ◌+◌, ◌*◌, ◌^◌, ◌<◌, Bool, false, if◌then◌else◌, List, [], ◌∷◌, ◌++◌, length, get_or, drop, refl, sym, ap, ◌∙◌, subst, arith, length-append, add-one}
 use Rattle.std.specs.List.{All}
 use Rattle.std.proofs.Math.Seq.{drop-cons}
 use Rattle.std.proofs.lemmas.List.Elements.{All-nil, All-push}
-use Rattle.occ_dd.specs.Store.{has, row_of, IsKnown, IsSet, Keeps}
+use Rattle.occ_dd.specs.Store.{has, IsKnown, IsSet, Keeps}
 use Rattle.occ_dd.specs.declared.set.SetId.{SetId}
 use Rattle.occ_dd.specs.declared.store.Store.{Store}
 use Rattle.occ_dd.proofs.Callers.{all_known-keeps, keeps_refl, keeps_trans}
 use Rattle.occ_bits.specs.Words.{digit, number_at}
-use Rattle.occ_bits.specs.Circuits.{IsAdded, IsTaken, IsSumSoFar, IsDifferenceSoFar, DifferSoFar, no_set}
-use Rattle.occ_bits.proofs.Arithmetic.{double_more, sum_step, difference_step, apart_step, tells_apart}
+use Rattle.occ_bits.specs.Circuits.{IsAdded, IsTaken, IsSumSoFar, IsDifferenceSoFar, no_set}
+use Rattle.occ_bits.proofs.Arithmetic.{double_more, sum_step, difference_step}
 use Rattle.occ_bits.proofs.Numbers.{number-push, number-keeps, digit-keeps}
 
 -- the next digit of what is left of a word
@@ -73,40 +73,3 @@ difference_more first s t left right k difference borrow e next left_known right
 }
 
 -- ---- where words differ
-pub differ_start : (s : Store) (left right : List SetId) (apart : SetId) → IsSet s apart (λ x. false) → DifferSoFar s s left right 0 apart
-differ_start s left right apart is = record {
-  keeps = keeps_refl s;
-  known = is.known;
-  tells = λ x. sym (ap (λ (b : Bool). not b && number_at s left x == number_at s right x) (is.members x));
-}
-
-apart_rows : (rows : List Bool) → rows ≡ false ∷ true ∷ true ∷ false ∷ true ∷ true ∷ true ∷ true ∷ [] → (l r a : Bool) → get_or rows ((if l then 1 else 0) + 2 * ((if r then 1 else 0) + 2 * ((if a then 1 else 0) + 2 * 0))) false ≡ tells_apart l r a
-apart_rows rows e l r a = ap (λ (t : List Bool). get_or t ((if l then 1 else 0) + 2 * ((if r then 1 else 0) + 2 * ((if a then 1 else 0) + 2 * 0))) false) e ∙ each l r a
-  where
-    each : (l r a : Bool) → get_or (false ∷ true ∷ true ∷ false ∷ true ∷ true ∷ true ∷ true ∷ []) ((if l then 1 else 0) + 2 * ((if r then 1 else 0) + 2 * ((if a then 1 else 0) + 2 * 0))) false ≡ tells_apart l r a
-    each true true true = refl
-    each true true false = refl
-    each true false true = refl
-    each true false false = refl
-    each false true true = refl
-    each false true false = refl
-    each false false true = refl
-    each false false false = refl
-
-pub differ_more : (first s t : Store) (left right : List SetId) (k : ℕ) (apart next : SetId) (rows : List Bool) → All (IsKnown first) left → All (IsKnown first) right → length left ≡ length right → k < length left → DifferSoFar first s left right k apart → Keeps s t → rows ≡ false ∷ true ∷ true ∷ false ∷ true ∷ true ∷ true ∷ true ∷ []
-    → IsSet t next (λ x. get_or rows (row_of s (get_or left k no_set ∷ get_or right k no_set ∷ apart ∷ []) x) false) → DifferSoFar first t left right (k + 1) next
-differ_more first s t left right k apart next rows left_known right_known same h before keeps table is = record {
-  keeps = keeps_trans first s t before.keeps keeps;
-  known = is.known;
-  tells = λ x.
-      let l : Bool = has s (get_or left k no_set) x in
-      let r : Bool = has s (get_or right k no_set) x in
-      let a : Bool = has s apart x in
-      let more_left : ℕ = number_at first (drop (k + 1) left) x in
-      let more_right : ℕ = number_at first (drop (k + 1) right) x in
-      before.tells x
-      ∙ ap (λ n. not a && n == number_at first (drop k right) x) (next_digit first s before.keeps left k x no_set h left_known)
-      ∙ ap (λ n. not a && (if l then 1 else 0) + 2 * more_left == n) (next_digit first s before.keeps right k x no_set (subst (λ n. k < n) same h) right_known)
-      ∙ apart_step l r a more_left more_right
-      ∙ ap (λ (b : Bool). not b && more_left == more_right) (sym (is.members x ∙ apart_rows rows table l r a));
-}

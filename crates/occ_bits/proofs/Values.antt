@@ -12,8 +12,8 @@ use Rattle.occ_dd.specs.Store.{has, IsKnown, IsSet}
 use Rattle.occ_dd.specs.declared.set.SetId.{SetId}
 use Rattle.occ_dd.specs.declared.store.Store.{Store}
 use Rattle.occ_eval.proofs.Widths.{variable_is_wide, variable_within, width_within}
-use Rattle.occ_laws.proofs.Facts.{some_is, none_not_some}
-use Rattle.occ_laws.proofs.Typing.{bits_of_type, condition_type, truth_type, two_types, word_type}
+use Rattle.occ_meaning.proofs.Facts.{some_is, none_not_some}
+use Rattle.occ_meaning.proofs.Typing.{bits_of_type, condition_type, truth_type, two_types, word_type}
 use Rattle.occ_syntax.specs.declared.expr.Op.{Op}
 use Rattle.occ_syntax.specs.declared.expr.Op.TheVariants.{Plus, Minus, And, Or, BitAnd, BitOr, BitXor, Equal, Differ, Less, Greater, AtMost, AtLeast}
 use Rattle.occ_syntax.specs.declared.scope.Kind.{Kind}

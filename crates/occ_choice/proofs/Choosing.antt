@@ -4,7 +4,6 @@ use Rattle.std.proofs.lemmas.List.{take_more, length-take-le}
 use Rattle.std.proofs.lemmas.List.Folds.{list_any_at, list_any_more, Any-from_list_any}
 use Rattle.std.proofs.lemmas.List.Sums.{AllPass-from_list_all, list_all-from_AllPass}
 use Rattle.std.specs.List.{list_all, list_any, All}
-use Rattle.std.specs.Option.{IfSome}
 use Rattle.std.specs.Ordering.{eq_by_cmp}
 use Rattle.occ_base.specs.declared.event.Dir.TheVariants.{Input}
 use Rattle.occ_base.specs.declared.event.Event.{Event}
@@ -19,7 +18,7 @@ use Rattle.occ_node.specs.Offers.{offer_cmp, next_in, are_below, are_offered}
 use Rattle.occ_node.specs.World.{IsNode, nodes_of, fails, ends, row_fails, row_ends, Leads, IsMade}
 use Rattle.occ_node.specs.declared.node.NodeId.{NodeId}
 use Rattle.occ_node.specs.declared.world.World.{World}
-use Rattle.occ_node.proofs.Behaviours.{fails_made, ends_made, node-leads, within_offers}
+use Rattle.occ_node.proofs.Behaviours.{fails_made, ends_made, within_offers}
 use Rattle.occ_choice.specs.Union.{IsAdded}
 use Rattle.occ_choice.specs.Joined.{IsSound, maybe_fails, maybe_ends, Reaches, IsEither, AreReached}
 use Rattle.occ_choice.specs.Branches.{node_of, is_unready, waits, branch_fails, branch_ends, is_at, AreUnited, IsAlt, event_fails, event_ends, offers_fails, offers_ends, IsBeside, stays, IsWaiting, AreBranches, inputs_from}
@@ -57,8 +56,6 @@ or_nothing true = refl
 or_nothing false = refl
 
 -- ---- branches in later worlds
-pub branches-lead : (v w : World) → Leads v w → (branches : List Branch) → AreBranches v branches → AreBranches w branches
-branches-lead v w k branches known i d h = node-leads v w k (node_of (get_or branches i d)) (known i d h)
 
 module _ (u v : World) (k : Leads u v) (branches : List Branch) (known : AreBranches u branches) where
   at_fails : (at : Option Event) (t : List Event) (X : Event → Bool) → list_any (λ b. is_at at b && fails v (node_of b) t X) branches ≡ list_any (λ b. is_at at b && fails u (node_of b) t X) branches
@@ -73,12 +70,6 @@ module _ (u v : World) (k : Leads u v) (branches : List Branch) (known : AreBran
   united_earlier w at r is = record { there = is.there; all = reaches_same w r _ _ _ _ (at_fails at) (at_ends at) is.all }
 
 -- ---- the union of branches, one by one
-pub chosen_known : (w : World) (at : Option Event) (b : Branch) → IsNode w (node_of b) → IfSome (cond (is_at at b) (Some (node_of b)) None) (IsNode w)
-chosen_known w at b h = by (is_at at b)
-  where
-    by : (c : Bool) → IfSome (cond c (Some (node_of b)) None) (IsNode w)
-    by true = h
-    by false = tt
 
 chosen_some : (c : Bool) (n : NodeId) → is_some (cond c (Some n) None) ≡ c
 chosen_some true n = refl
@@ -91,9 +82,6 @@ chosen_fails w false n t X = refl
 chosen_ends : (w : World) (c : Bool) (n : NodeId) (t : List Event) (x : ℕ) → maybe_ends w (cond c (Some n) None) t x ≡ (c && ends w n t x)
 chosen_ends w true n t x = refl
 chosen_ends w false n t x = refl
-
-pub united_none : (w : World) (branches : List Branch) (at : Option Event) → AreUnited w w (take 0 branches) at None
-united_none w branches at = record { there = refl; all = record { known = tt; failures = λ t X. refl; endings = λ t x. refl } }
 
 pub united_more : (u v w : World) (k : Leads u v) (branches : List Branch) (i : ℕ) (b d : Branch) (at : Option Event) (found next r : Option NodeId) → i < length branches → b ≡ get_or branches i d → AreBranches u branches
     → next ≡ cond (is_at at b) (Some (node_of b)) None → AreUnited u v (take i branches) at found → IsEither v w found next r → AreUnited u w (take (i + 1) branches) at r
@@ -123,14 +111,8 @@ offered_more u v w k l branches known e d n r offers new events i united some h 
     subst (λ os. AreReached w os (take (i + 1) events) (λ t X. list_any (event_fails u t X) branches) (λ t x. list_any (event_ends u t x) branches)) (sym is)
     (reached_push w offers events i e d n _ _ h here (reached-leads v w l offers (take i events) _ _ reached) (offered_next u v w k branches known e n r united some))
 
-pub united_some : (v w : World) (branches : List Branch) (e : Event) (r : Option NodeId) → AreUnited v w branches (Some e) r → list_any (is_at (Some e)) branches ≡ true → r ≡ None → ⊥
-united_some v w branches e r is h none = both_ways (is_some r) (ap is_some none) (is.there ∙ h)
-
 -- ---- the ALT
 module _ (u : World) (branches : List Branch) where
-  skip_fails : List Event → (Event → Bool) → Bool
-  skip_fails t X = list_any (λ b. is_at None b && fails u (node_of b) t X) branches
-
   branch_parts : (t : List Event) (X : Event → Bool) (b : Branch) → (event_fails u t X b || (is_at None b && fails u (node_of b) t X)) ≡ branch_fails u t X b
   branch_parts [] X (Skip n) = refl
   branch_parts (e ∷ t) X (Skip n) = refl
@@ -273,10 +255,6 @@ inputs_known w chan v (n ∷ nexts) all zero d h = all zero n (omega arith)
 inputs_known w chan v (n ∷ nexts) all (suc i) d h = inputs_known w chan (v + 1) nexts (λ k e l. all (suc k) e (omega arith)) i d (omega arith)
 
 -- ---- two branches
-pub two_branches : (w : World) (a b : Branch) → IsNode w (node_of a) → IsNode w (node_of b) → AreBranches w (a ∷ b ∷ [])
-two_branches w a b ha hb zero d h = ha
-two_branches w a b ha hb (suc zero) d h = hb
-two_branches w a b ha hb (suc (suc i)) d h = absurd (omega arith)
 
 pub two_nodes : (w : World) (a b : NodeId) → IsNode w a → IsNode w b → All (IsNode w) (a ∷ b ∷ [])
 two_nodes w a b ha hb zero d h = ha

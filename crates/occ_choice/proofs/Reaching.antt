@@ -52,9 +52,6 @@ reached-leads v w k offers events F G are = record {
   lead_on = λ i d h. reaches-leads v w k (Some (get_or offers i d).1) _ _ (are.lead_on i d h);
 }
 
-pub reached_none : (w : World) (events : List Event) (F : List Event → (Event → Bool) → Bool) (G : List Event → ℕ → Bool) → AreReached w [] (take 0 events) F G
-reached_none w events F G = record { events_are = refl; lead_on = λ i d h. absurd (omega arith) }
-
 pub reached_push : (w : World) (offers : List (Event × NodeId)) (events : List Event) (i : ℕ) (e d : Event) (n : NodeId) (F : List Event → (Event → Bool) → Bool) (G : List Event → ℕ → Bool)
     → i < length events → e ≡ get_or events i d → AreReached w offers (take i events) F G → Reaches w (Some n) (λ t X. F (e ∷ t) X) (λ t x. G (e ∷ t) x) → AreReached w (offers ++ (e, n) ∷ []) (take (i + 1) events) F G
 reached_push w offers events i e d n F G h at are reaches = record {

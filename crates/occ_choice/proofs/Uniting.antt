@@ -35,15 +35,6 @@ union-leads v w k a b r is = record {
 pub unions-lead : (v w : World) (u : Unions) → Leads v w → AreUnions v u → AreUnions w u
 unions-lead v w u k are = record { each = λ call r e. union-leads v w k (node_id call.first) (node_id call.second) (node_id r) (are.each call r e) }
 
-pub union_same : (w : World) (a b : NodeId) → IsNode w a → IsNode w b → a ≡ b → IsUnion w a b a
-union_same w a b ha hb e = record {
-  first = ha;
-  second = hb;
-  known = ha;
-  both_fail = λ t X. or_same (fails w a t X) ∙ ap (λ n. fails w a t X || fails w n t X) e;
-  both_end = λ t x. or_same (ends w a t x) ∙ ap (λ n. ends w a t x || ends w n t x) e;
-}
-
 -- the row of a node, and a node
 pub union_added : (v w : World) → Leads v w → (a b r : NodeId) (row : Row) → IsNode v a → IsNode v b → row ≡ row_of v a → IsAdded v w row b r → IsUnion w a b r
 union_added v w k a b r row ha hb is added = record {
@@ -65,15 +56,6 @@ sound_row w a row h is = subst (IsSound w) (sym is) (
     })
 
 -- ---- one of two nodes, or both
-pub either_both : (v w : World) → Leads v w → (a b r : NodeId) → IsNode v a → IsNode v b → IsUnion w a b r → IsEither v w (Some a) (Some b) (Some r)
-either_both v w k a b r ha hb is = record {
-  there = refl;
-  both = record {
-    known = is.known;
-    failures = λ t X. is.both_fail t X ∙ (λ i. k.same_fails a t X ha i || k.same_fails b t X hb i);
-    endings = λ t x. is.both_end t x ∙ (λ i. k.same_ends a t x ha i || k.same_ends b t x hb i);
-  };
-}
 
 or_false : (b : Bool) → b ≡ (b || false)
 or_false true = refl
@@ -118,12 +100,6 @@ module _ (u v w : World) (row : Row) (b : NodeId) (k : Leads u v) (sound : IsSou
   added_more l e d p q r n offers new events i is at both some h here reached more =
       subst (λ os. AreReached w os (take (i + 1) events) (λ t X. row_fails u row t X || fails u b t X) (λ t x. row_ends u row t x || ends u b t x)) (sym more)
       (reached_push w offers events i e d n _ _ h here (reached-leads v w l offers (take i events) _ _ reached) (reached_next e p q r n is at both some))
-
-  -- an event of one of the two leads somewhere
-  pub never_none : (e : Event) (p q r : Option NodeId) → p ≡ next_in row.offers e → q ≡ next_in (row_of v b).offers e → IsEither v w p q r → (is_offered row.offers e || is_offered (row_of u b).offers e) ≡ true → r ≡ None → ⊥
-  never_none e p q r is at both some none =
-      let yes : is_some r ≡ true = both.there ∙ (λ i. is_some (is i) || is_some (same_next e q at i)) ∙ some in
-      both_ways (is_some r) (ap is_some none) yes
 
 -- ---- the row of both
 nothing_missed : (set : List Event) → misses (λ e. false) set ≡ true
@@ -208,9 +184,6 @@ module _ (u v : World) (k : Leads u v) (row : Row) (b : NodeId) (sound : IsSound
         (λ t x j. sym (row_ends-leads u v k row sound (o.0 ∷ t) x) j || sym (k.same_ends b (o.0 ∷ t) x known) j)
         (are.lead_on i d h);
   }
-
-  pub events_now : (events : List Event) → ((e : Event) → in_set events e ≡ (is_offered row.offers e || is_offered (row_of u b).offers e)) → (e : Event) → in_set events e ≡ (is_offered row.offers e || is_offered (row_of v b).offers e)
-  events_now events all e = all e ∙ ap (λ (r : Row). is_offered row.offers e || is_offered r.offers e) (sym (k.kept b known))
 
   pub added_earlier : (w : World) (r : NodeId) → IsAdded v w row b r → IsAdded u w row b r
   added_earlier w r is = record {

@@ -1,9 +1,7 @@
 -- What is found at two nodes says what the verdict on two roots says.
-use Rattle.std.proofs.Common.{◌≡◌, ◌↔◌, ◌<◌, ◌≤◌, ◌%◌, ◌^◌, ℕ, Bool, true, List, [], Option, Some, None, IsSomeAnd, length, refl, sym, ap, ◌∙◌, subst, arith}
+use Rattle.std.proofs.Common.{◌≡◌, ◌<◌, ◌≤◌, ◌%◌, ◌^◌, ℕ, List, Option, Some, None, IsSomeAnd, refl, sym, ap, ◌∙◌, subst, arith}
 use Rattle.std.proofs.Math.Nat.{mod-lt, pow-le-pow_right}
 use Rattle.std.proofs.lemmas.Nat.{pow_pos}
-use Rattle.std.specs.List.{All}
-use Rattle.occ_base.specs.declared.event.Event.{Event}
 use Rattle.occ_base.specs.declared.names.Name.{Name}
 use Rattle.occ_syntax.specs.declared.scope.Kind.{Kind}
 use Rattle.occ_syntax.specs.Counts.{bits_of_scope}
@@ -11,7 +9,6 @@ use Rattle.occ_behaviour.specs.declared.behaviour.Behaviour.{Behaviour}
 use Rattle.occ_behaviour.specs.declared.behaviour.Side.{Side}
 use Rattle.occ_behaviour.specs.declared.behaviour.Verdict.{Verdict}
 use Rattle.occ_behaviour.specs.declared.behaviour.Verdict.TheVariants.{Same, Differ}
-use Rattle.occ_behaviour.specs.Members.{VerdictIsNamed}
 use Rattle.occ_mdd.specs.Maps.{value}
 use Rattle.occ_mdd.specs.declared.map.MapId.{MapId}
 use Rattle.occ_mdd.proofs.Values.{canonical_maps}
@@ -23,9 +20,9 @@ use Rattle.occ_node.proofs.Recovery.{canonical}
 use Rattle.std.proofs.lemmas.Option.{same_Some}
 use Rattle.occ_compare.specs.Places.{state_at, byte_state}
 use Rattle.occ_compare.specs.Interface.{HasNodes, AreComparable, IsWithin, IsOfInterface}
-use Rattle.occ_compare.specs.Walk.{picked, opposite, is_before, IsFirstDifference}
+use Rattle.occ_compare.specs.Walk.{IsFirstDifference}
 use Rattle.occ_compare.specs.Steps.{SameStarts, IsLeastStart, IsFound, IsWalked}
-use Rattle.occ_compare.specs.Verdicts.{MeansTheSame, MeanTheSame, Begins, IsFirstOf, BelongsToOne, IsFirst, IsMember, IsPrintable}
+use Rattle.occ_compare.specs.Verdicts.{MeanTheSame, IsFirstOf, BelongsToOne, IsFirst, IsMember, IsPrintable}
 use Rattle.occ_compare.proofs.Numbers.{bytes}
 use Rattle.occ_compare.proofs.Walking.{only_of}
 use Rattle.occ_compare.proofs.Naming.{behaviour_named}
@@ -38,9 +35,6 @@ node_at w map x m has h e = node_there w (value w.maps map x) m e (has.nodes x h
 
 none_there : (w : World) (o : Option NodeId) → o ≡ None → IsSomeAnd o (IsNode w) → ⊥
 none_there w o e h = subst (λ (p : Option NodeId). IsSomeAnd p (IsNode w)) e h
-
-pub no_none : (w : World) (map : MapId) (x : ℕ) → HasNodes w map → x < 2 ^ 64 → value w.maps map x ≡ None → ⊥
-no_none w map x has h e = none_there w (value w.maps map x) e (has.nodes x h)
 
 some_there : (w : World) (o : Option NodeId) → IsSomeAnd o (IsNode w) → (m : NodeId) × (o ≡ Some m) × IsNode w m
 some_there w (Some m) h = (m, refl, h)

@@ -1,13 +1,13 @@
 -- Steps of the loops.
-use Rattle.std.proofs.Common.{◌≡◌, ◌⊎◌, ◌<◌, ◌≤◌, ◌+◌, ◌%◌, ◌^◌, ◌==◌, ◌||◌, ◌&&◌, ◌++◌, ℕ, zero, suc, Bool, true, false, not, cond, List, [], ◌∷◌, Option, Some, None, MatchOption, length, get_or, take, drop, is_some, refl, sym, ap, ◌∙◌, subst, inl, inr, ⊎_elim, arith}
+use Rattle.std.proofs.Common.{◌≡◌, ◌⊎◌, ◌<◌, ◌≤◌, ◌+◌, ◌^◌, ◌==◌, ◌||◌, ◌&&◌, ◌++◌, ℕ, zero, suc, Bool, true, false, not, cond, List, [], ◌∷◌, Option, Some, None, MatchOption, length, get_or, take, drop, is_some, refl, sym, ap, ◌∙◌, subst, inl, inr, ⊎_elim, arith}
 use Rattle.std.proofs.Math.Nat.{mod-eq_of_lt}
-use Rattle.std.proofs.lemmas.Bool.{and_parts, and_from, or_cases, or_left, or_right, cases_Bool, both_ways, eqb-true, eq-eqb, false≢true, true≢false}
+use Rattle.std.proofs.lemmas.Bool.{and_parts, or_cases, or_left, cases_Bool, both_ways, eqb-true, eq-eqb, false≢true}
 use Rattle.std.proofs.lemmas.List.Folds.{list_any_more}
 use Rattle.std.proofs.lemmas.List.MinMax.{ranks_by}
 use Rattle.std.specs.List.{list_all, list_any}
 use Rattle.std.specs.Cmp.{nat_cmp_is, ranked}
 use Rattle.std.specs.Cmp.Lexicographic.{slice_cmp, pointwise, lists_ties}
-use Rattle.std.specs.Ordering.{is_lt, is_eq, eq_by_cmp, nat_cmp, ordering_then, MatchOrdering}
+use Rattle.std.specs.Ordering.{is_lt, eq_by_cmp, nat_cmp, ordering_then, MatchOrdering}
 use Rattle.std.specs.declared.cmp.Ordering.{Ordering}
 use Rattle.std.specs.declared.cmp.Ordering.TheVariants.{Less, Equal, Greater}
 use Rattle.occ_base.specs.declared.event.Event.{Event}
@@ -22,9 +22,9 @@ use Rattle.occ_dd.specs.declared.set.SetId.{SetId}
 use Rattle.occ_dd.specs.declared.store.Store.{Store}
 use Rattle.occ_mdd.specs.Maps.{value}
 use Rattle.occ_mdd.specs.declared.map.MapId.{MapId}
-use Rattle.occ_accept.specs.Order.{event_cmp, strict, is_in}
+use Rattle.occ_accept.specs.Order.{event_cmp, strict}
 use Rattle.occ_accept.specs.Accept.{in_set}
-use Rattle.occ_accept.proofs.Strict.{tied, tied_same, less-not_equal, all_at, same_tests}
+use Rattle.occ_accept.proofs.Strict.{tied, tied_same, less-not_equal, all_at}
 use Rattle.occ_accept.proofs.Sets.{in_either}
 use Rattle.occ_accept.proofs.Events.{cmp_total, event_exact, eq_is}
 use Rattle.occ_node.specs.Offers.{next_in, is_offered}
@@ -33,7 +33,6 @@ use Rattle.occ_node.specs.declared.world.World.{World}
 use Rattle.occ_compare.specs.Places.{assignment_at, number_in}
 use Rattle.occ_compare.specs.Orders.{print_cmp, set_cmp, IsListOf, has_set}
 use Rattle.occ_compare.specs.Walk.{picked, opposite, is_before, SameEnds, IsLeastEnd, IsLeastSet}
-use Rattle.occ_compare.specs.declared.ends.End.{End}
 use Rattle.occ_compare.specs.declared.offers.Level.{Level}
 use Rattle.occ_compare.specs.declared.offers.Level.TheVariants.{Events, Nodes}
 use Rattle.occ_compare.specs.Steps.{IsSide, Tells, IsLeastStart, same_node, same_test, differ, DifferNowhere, IsLeastDiffering, AllIn, IsLeastOnly}
@@ -45,10 +44,6 @@ pub sets_same : (xs ys : List Event) → pointwise event_eq.eq xs ys ≡ eq_by_c
 sets_same xs ys = lists_ties event_cmp eq_is xs ys
 
 -- ---- lists of events by their first difference
-pub first_apart : (r s : Ordering) → (r ≡ Equal → ⊥) → ordering_then r s ≡ r
-first_apart Less s h = refl
-first_apart Equal s h = absurd (h refl)
-first_apart Greater s h = refl
 
 pub first_same : (r s : Ordering) → r ≡ Equal → ordering_then r s ≡ s
 first_same r s h = ap (λ o. ordering_then o s) h

@@ -14,9 +14,6 @@ between_is low high byte h =
     let parts = and_parts (leb low byte) (leb byte high) h in
     (leb-true low byte parts.0, leb-true byte high parts.1)
 
-below_between : (low high byte : ℕ) → byte < low → is_between low high byte ≡ false
-below_between low high byte h = and_left (leb low byte) (leb byte high) (lt-leb low byte h)
-
 above_between : (low high byte : ℕ) → high < byte → is_between low high byte ≡ false
 above_between low high byte h = and_right (leb low byte) (leb byte high) (lt-leb byte high h)
 

@@ -142,9 +142,6 @@ unfolding longest longest_within
 longest_nil [] h = refl
 longest_nil (byte ∷ bytes) h = absurd (omega (arith, h))
 
-pub sign_len-le-length : (bytes : List ℕ) → sign_len bytes ≤ length bytes
-sign_len-le-length bytes = (sign_len_is bytes).fits
-
 pub longest_sign : (bytes : List ℕ) → 0 < length bytes → is_letter (get_or bytes 0 0) ≡ false → is_digit (get_or bytes 0 0) ≡ false → sign_len bytes ≡ longest bytes
 longest_sign [] some l d = absurd (omega (arith, some))
 longest_sign (byte ∷ bytes) some l d = sym (longest_is (byte ∷ bytes) (sign_len (byte ∷ bytes)) (sign_is_longest byte bytes (sign_len (byte ∷ bytes)) l d (sign_len_is (byte ∷ bytes))))

@@ -115,13 +115,6 @@ high_side s set top low high bit is e = subst (λ n. IsSetPart s high set n 1) e
   members = λ x z. is.high_set.members x ∙ ap (has s set) (with_bit_same x top 1 z);
 })
 
-pub same_side : (s : Store) (set : SetId) (top : ℕ) (low high : SetId) (bit v : ℕ) → IsKnown s set → Splits s set top low high → top ≤ bit → (top ≡ bit → ⊥) → IsSetPart s set set bit v
-same_side s set top low high bit v known is le ne = record {
-  known = known;
-  shallow = let deep : depth s set ≡ top + 1 = is.deep in omega arith;
-  members = λ x z. refl;
-}
-
 -- ---- the step
 three_below : (p q r m : ℕ) → p < m → q < m → r < m → max p (max q r) < m
 three_below p q r m e f h = omega arith

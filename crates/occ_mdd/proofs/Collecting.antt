@@ -1,4 +1,4 @@
-use Rattle.std.proofs.Common.{◌≡◌, ◌⊎◌, ℕ, ◌+◌, ◌<◌, ◌≤◌, ◌%◌, ◌^◌, ◌==◌, Bool, true, false, List, [], length, max, Option, Some, None, is_some, refl, sym, ap, ◌∙◌, subst, inl, inr, ⊎_elim, arith}
+use Rattle.std.proofs.Common.{◌≡◌, ◌⊎◌, ℕ, ◌<◌, ◌≤◌, ◌%◌, ◌^◌, ◌==◌, Bool, true, false, List, [], length, Option, Some, refl, sym, ap, ◌∙◌, subst, inl, inr, ⊎_elim, arith}
 use Rattle.std.specs.Int.{bit_at}
 use Rattle.std.specs.Cmp.{IsTotalOrder, IsEquivalence}
 use Rattle.std.specs.List.{Contains, dedup}
@@ -46,22 +46,8 @@ constant_part s set bit v h w = record {
   members = λ x e. refl;
 }
 
--- the halves are less deep, also in a store that grew
-pub half_smaller : {T : Type 0} (ns : List (Node T)) (s t u : Store) → Keeps s t → Keeps t u → (set p : SetId) (a q bit v : ℕ) → IsKnown s set → bit + 1 ≤ max (depth t set) (depth_of ns a) → IsSetPart t p set bit v → IsPart ns q a bit v
-    → max (depth u p) (depth_of ns q) < max (depth s set) (depth_of ns a)
-half_smaller ns s t u k l set p a q bit v h top x y =
-    let before : depth t set ≡ depth s set = k.depths set h in
-    let after : depth u p ≡ depth t p = l.depths p x.known in
-    let first : depth t p ≤ bit = x.shallow in
-    let second : depth_of ns q ≤ bit = y.depth in
-    omega (arith, before, after, first, second, top)
-
 has-with_bit_free : (s : Store) (p : SetId) (b v x : ℕ) → depth s p ≤ b → has s p (with_bit x b v) ≡ has s p x
 has-with_bit_free s p b v x h = cond_both (bit_at x b == v) x (turned x b) (λ y. has s p y ≡ has s p x) (λ _. refl) (λ _. has-free s p b x h)
-
-pub some_result : (o : Option ℕ) → is_some o ≡ true → (r : ℕ) × (o ≡ Some r)
-some_result None e = cc
-some_result (Some r) e = (r, refl)
 
 module _ {L : Type 0} (ns : List (Node (Option L))) where
   -- what is met in a store that grew was met before, and the other way round
@@ -94,25 +80,6 @@ module _ {L : Type 0} (ns : List (Node (Option L))) where
     only = v.only;
     right = seen_learnt t found old new (record { first = set; second = a; third = 0 }) 0 learns v.right is;
   }
-
-  -- nothing new is found
-  pub visits_none : (s t : Store) → Keeps s t → (found : List L) (seen : Memo) (set a : ℕ) → AreSeen ns s found seen → Visits ns s t found found seen set a
-  visits_none s t k found seen set a are = record {
-    sets = k;
-    kept = λ l h. h;
-    only = λ l h. inl h;
-    right = seen_later s t k found found (λ l h. h) seen are;
-  }
-
-  pub seen_empty : (s : Store) (found : List L) (set : SetId) (a : ℕ) → IsKnown s set → a < length ns → IsEmpty s set → IsSeen ns s found set.0 a
-  seen_empty s found set a hs ha empty = record {
-    set_known = hs;
-    known = ha;
-    all = λ l m. let both : false ≡ true = sym (empty m.0) ∙ m.1 in cc;
-  }
-
-  pub seen_before : (s : Store) (found : List L) (seen : Memo) (set a : ℕ) → AreSeen ns s found seen → is_some (recalled seen (record { first = set; second = a; third = 0 })) ≡ true → IsSeen ns s found set a
-  seen_before s found seen set a are e = let w = some_result (recalled seen (record { first = set; second = a; third = 0 })) e in are (record { first = set; second = a; third = 0 }) w.0 w.1
 
   visits_trans : (s t u : Store) (f₀ f₁ f₂ : List L) (m n : Memo) (set a : ℕ) → IsKnown t (id_of set) → Visits ns s t f₀ f₁ m set a → Visits ns t u f₁ f₂ n set a → Visits ns s u f₀ f₂ n set a
   visits_trans s t u f₀ f₁ f₂ m n set a h v w = record {
@@ -188,9 +155,6 @@ module _ {L : Type 0} (ns : List (Node (Option L))) (g : IsDiagram ns) where
           all = λ l i. ⊎_elim (λ (j : IsMet ns w h.set_low.0 h.low l). below.all l j) (λ (j : IsMet ns w h.set_high.0 h.high l). high.all l j)
               (whole_met w h.set_low h.set_high set h.low h.high a h.bit l (set_part-keeps t w tw h.set_low set h.bit 0 ht are.low_set) (set_part-keeps t w tw h.set_high set h.bit 1 ht are.high_set) are.low_part are.high_part i);
         }
-
-pub no_seen : {L : Type 0} (ns : List (Node (Option L))) (s : Store) (found : List L) (memo : Memo) → ((k : Call) → recalled memo k ≡ None) → AreSeen ns s found memo
-no_seen ns s found memo none call r e = let both : None ≡ Some r = sym (none call) ∙ e in cc
 
 -- ---- the labels in order
 pub labels_are : {L : Type 0} {e : _} {h : _} (m : Maps L e h) (a : MapId) (s t : Store) → Keeps s t → (set : SetId) → IsKnown s set → (start found sorted labels : List L) (seen : Memo) → start ≡ []

@@ -15,10 +15,6 @@ use Rattle.occ_mdd.specs.Value.{value_at}
 use Rattle.occ_mdd.specs.Combined.{PassAt, IsCombined, AreCombined}
 use Rattle.occ_mdd.proofs.Values.{value-keeps, value-ends, value-flat, value-label, value-leaf, pass-keeps}
 
--- a relation of three labels
-abbrev pub Relation : Type 0 → Type 1
-Relation L = Option L → Option L → Option L → Type 0
-
 -- ---- later tables and later relations
 pub part-keeps : {T : Type 0} (ms ns : List (Node T)) → Keeps ms ns → IsDiagram ms → (p i bit v : ℕ) → i < length ms → IsPart ms p i bit v → IsPart ns p i bit v
 part-keeps ms ns k g p i bit v within is = record {

@@ -51,9 +51,6 @@ all_found b fs all rest e h = sym (append-nil fs) ∙ ap (λ zs. fs ++ outside b
 
 -- ---- one declared name more
 
-or_there : (a b : Bool) → b ≡ true → (a ≡ true → b ≡ true) → b ≡ (b || a)
-or_there a b e f = e ∙ ap (λ c. c || a) (sym e)
-
 has-with_one_at : (b : Bool) (xs : List ℕ) (x y : ℕ) → has same_number xs x ≡ b → has same_number (cond b xs (xs ++ x ∷ [])) y ≡ (has same_number xs y || (x == y))
 has-with_one_at true xs x y e = both_there (x == y) (has same_number xs y) (λ f. subst (λ z. has same_number xs z ≡ true) (eqb-true x y f) e)
   where

@@ -33,12 +33,6 @@ ends_tested = record {
   itself = λ x. ap (λ b. b && same_dir x.1 x.1) (eq-eqb x.0 x.0 refl) ∙ same_dir-itself x.1;
 }
 
-or_comm : (a b : Bool) → (a || b) ≡ (b || a)
-or_comm true true = refl
-or_comm true false = refl
-or_comm false true = refl
-or_comm false false = refl
-
 pub or_nothing : (a : Bool) → (a || false) ≡ a
 or_nothing true = refl
 or_nothing false = refl
@@ -131,9 +125,6 @@ module _ {T : Type 0} (same : T → T → Bool) (test : IsTest same) where
   pub with_all-firsts : (xs : List T) → with_all same [] xs ≡ firsts same xs
   with_all-firsts xs = with_all_is [] xs ∙ filter_all (λ y. not (has same [] y)) (λ y. refl) (firsts same xs)
 
-  has_filter_at : (p b h : Bool) (x y : T) (zs : List T) → p ≡ not (same y x) → has same zs x ≡ (h && p) → has same (cond (not b) (y ∷ zs) zs) x ≡ has same (cond (not b) (y ∷ zs) zs) x
-  has_filter_at p b h x y zs e f = refl
-
   -- taking out the items that are the same us one
   out_at : (a b c : Bool) (h : Bool) (z x : T) (rest : List T) → a ≡ same x z → has same rest x ≡ (not c && h) → (a ≡ true → b ≡ c)
       → has same (cond (not b) (z ∷ rest) rest) x ≡ (not c && (a || h))
@@ -182,9 +173,6 @@ module _ {T : Type 0} (same : T → T → Bool) (test : IsTest same) where
       distinct_at (not (same y z)) z (without same y zs)
       (has_without y zs z ∙ none_of_none (same y z) (has same zs z) (not-true _ both.0))
       (distinct_without y zs both.1)
-
-  taken_out : (b c : Bool) → (not true && c) ≡ false
-  taken_out b c = refl
 
   pub firsts_distinct : (xs : List T) → is_distinct same (firsts same xs) ≡ true
   firsts_distinct [] = refl

@@ -10,7 +10,7 @@ use Rattle.occ_syntax.specs.Declarations.{declaring}
 use Rattle.occ_syntax.specs.Tree.{Exp, Waiting, Tree, and_tree, and_case, and_branch}
 use Rattle.occ_syntax.specs.View.{numbers, exp, exps, waiting, tree, trees, cases, branches}
 use Rattle.occ_syntax.proofs.Rows.{choice, alternative}
-use Rattle.occ_laws.specs.Rename.{renamed, renamed_exp, renamed_names, renamed_exps, renamed_waiting, all_renamed, cases_renamed, branches_renamed}
+use Rattle.occ_meaning.specs.Rename.{renamed, renamed_exp, renamed_names, renamed_exps, renamed_waiting, all_renamed, cases_renamed, branches_renamed}
 
 pub renamed_numbers : (r : ℕ → ℕ) (ks : List Name) → renamed_names r (numbers ks) ≡ map (λ (k : Name). r k.0) ks
 renamed_numbers r [] = refl
@@ -65,6 +65,3 @@ branches_made r (d ∷ ds) (b ∷ bs) e =
     ∙ ap (λ w. and_branch (renamed_exp r (exp b.0.condition)) w (tree d.1) (branches ds)) second
     ∙ ap (λ t. and_branch (renamed_exp r (exp b.0.condition)) (renamed_waiting r (waiting b.0.wait)) t (branches ds)) third
     ∙ ap (and_branch (renamed_exp r (exp b.0.condition)) (renamed_waiting r (waiting b.0.wait)) (renamed (tree b.1) r)) (branches_made r ds bs rest)
-
-pub same_made : (r : ℕ → ℕ) (d c : Expr × Proc) → exp d.0 ≡ renamed_exp r (exp c.0) → tree d.1 ≡ renamed (tree c.1) r → choice d ≡ made_choice r c
-same_made r d c e f = ap (λ x. (x, tree d.1)) e ∙ ap (λ p. (renamed_exp r (exp c.0), p)) f

@@ -5,7 +5,7 @@ use Rattle.std.proofs.lemmas.Bool.{ltb-true, ltb-false}
 use Rattle.occ_syntax.specs.declared.expr.Expr.{Expr}
 use Rattle.occ_syntax.specs.Tree.{Exp, variable}
 use Rattle.occ_syntax.specs.View.{exp, exps}
-use Rattle.occ_laws.specs.Substitution.{value_for}
+use Rattle.occ_meaning.specs.Substitution.{value_for}
 
 at_step : (b : Bool) (w v : Expr) (vs : List Expr) (m : ℕ) (rest : Exp) → (b ≡ false → exp (get_or vs m v) ≡ rest) → exp (get_or (w ∷ vs) (cond (not b) (1 + m) 0) v) ≡ cond b (exp w) rest
 at_step true w v vs m rest f = refl

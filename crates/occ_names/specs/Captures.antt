@@ -4,7 +4,7 @@ use Rattle.occ_syntax.specs.declared.proc.Proc.{Proc}
 use Rattle.occ_syntax.specs.Names.{is_in}
 use Rattle.occ_syntax.specs.Tree.{Tree}
 use Rattle.occ_syntax.specs.View.{tree}
-use Rattle.occ_laws.specs.Rename.{renamed, replacing, stands}
+use Rattle.occ_meaning.specs.Rename.{renamed, replacing, stands}
 use Rattle.occ_names.specs.declared.renaming.RenameFault.{RenameFault}
 use Rattle.occ_names.specs.declared.renaming.RenameFault.TheVariants.{Capture, Memory}
 use Rattle.occ_names.specs.declared.mention.Mention.{Mention}

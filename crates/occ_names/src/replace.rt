@@ -1,7 +1,7 @@
 ghost use Rattle.std.specs.Prelude.{◌≡◌, IfOk, false};
 ghost use Rattle.occ_syntax.specs.Declarations.{is_declaration};
 ghost use Rattle.occ_syntax.specs.View.{numbers, exp, exps, waiting, tree, trees, cases, branches, in_procs, in_choices, in_alternatives};
-ghost use Rattle.occ_laws.specs.Rename.{replacing, renamed, renamed_exp, renamed_names, renamed_exps, renamed_waiting, all_renamed, cases_renamed, branches_renamed};
+ghost use Rattle.occ_meaning.specs.Rename.{replacing, renamed, renamed_exp, renamed_names, renamed_exps, renamed_waiting, all_renamed, cases_renamed, branches_renamed};
 
 use occ_base::{Memory, Name};
 use occ_syntax::{Alternatives, Choices, Expr, Exprs, Guard, NameList, Proc, Procs, Scope, Wait};

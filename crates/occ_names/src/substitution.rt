@@ -1,6 +1,6 @@
 ghost use Rattle.std.specs.Prelude.{◌≡◌, IfOk, length, true};
 ghost use Rattle.occ_syntax.specs.View.{exp, exps, numbers};
-ghost use Rattle.occ_laws.specs.Substitution.{substituted};
+ghost use Rattle.occ_meaning.specs.Substitution.{substituted};
 ghost use Rattle.occ_names.specs.Once.{is_distinct, same_number};
 
 use crate::NameSet;

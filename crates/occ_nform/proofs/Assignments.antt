@@ -13,8 +13,8 @@ use Rattle.occ_behaviour.specs.States.{is_state}
 use Rattle.occ_bits.specs.Layout.{laid_out, state_of}
 use Rattle.occ_compare.specs.Places.{assignment_at, rest_state, state_at, values_at}
 use Rattle.occ_compare.proofs.Numbers.{state_is}
-use Rattle.occ_table.specs.Lines.{state_place}
-use Rattle.occ_unique.proofs.States.{place_below}
+use Rattle.occ_nform_table.specs.Lines.{state_place}
+use Rattle.occ_nform_unique.proofs.States.{place_below}
 
 -- ---- two digits
 high_of : (v r m : ℕ) → m < r → (v * r + m) / r ≡ v

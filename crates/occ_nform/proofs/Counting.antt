@@ -3,8 +3,8 @@ use Rattle.std.proofs.Common.{◌≡◌, ◌<◌, ◌≤◌, ◌^◌, ◌+◌, �
 use Rattle.std.proofs.lemmas.List.{drop_all}
 use Rattle.occ_base.specs.declared.event.Event.{Event}
 use Rattle.occ_syntax.specs.Counts.{capped}
-use Rattle.occ_table.specs.Judging.{height_over}
-use Rattle.occ_table.specs.declared.table.TableRow.{TableRow}
+use Rattle.occ_nform_table.specs.Judging.{height_over}
+use Rattle.occ_nform_table.specs.declared.table.TableRow.{TableRow}
 use Rattle.occ_nform.specs.Counts.{greatest, heights_of, offers_in}
 
 -- ---- offers

@@ -1,4 +1,3 @@
-mod Overlay
 mod Assignments
 mod Programs
 mod Apart

@@ -14,14 +14,14 @@ use Rattle.occ_syntax.specs.Meaning.{ended, refusing, fails, ends}
 use Rattle.occ_syntax.specs.Scopes.{Environment, EventSet, IsState, Trace, Values, environment, in_interface, values, variable_kind, variable_width}
 use Rattle.occ_syntax.specs.Tree.{Tree}
 use Rattle.occ_syntax.specs.Types.{can_declare, is_width, scope_kept, types_kept}
-use Rattle.occ_laws.specs.Foundation.{AreWithin}
-use Rattle.occ_laws.proofs.Frame.{part_value, written_in_scope}
-use Rattle.occ_laws.proofs.Interface.{part_in_interface}
-use Rattle.occ_laws.proofs.States.{part_states}
+use Rattle.occ_meaning.specs.Foundation.{AreWithin}
+use Rattle.occ_meaning.proofs.Frame.{part_value, written_in_scope}
+use Rattle.occ_meaning.proofs.Interface.{part_in_interface}
+use Rattle.occ_meaning.proofs.States.{part_states}
 use Rattle.occ_behaviour.specs.States.{is_state}
-use Rattle.occ_table.specs.declared.table.TableRow.{TableRow}
-use Rattle.occ_table.specs.Behaviours.{IsOfInterface, Stands}
-use Rattle.occ_nform.proofs.Overlay.{does_over, over}
+use Rattle.occ_nform_table.specs.declared.table.TableRow.{TableRow}
+use Rattle.occ_nform_table.specs.Behaviours.{IsOfInterface, Stands}
+use Rattle.occ_meaning.proofs.Overlay.{does_over, over}
 
 none_is : (o : Option Kind) → is_none o ≡ true → o ≡ None
 none_is None h = refl

@@ -20,17 +20,17 @@ use Rattle.occ_compare.specs.Interface.{HasNodes}
 use Rattle.occ_compare.specs.Places.{assignment_at}
 use Rattle.occ_compare.proofs.Found.{small_start}
 use Rattle.occ_compare.proofs.Numbers.{small}
-use Rattle.occ_table.specs.declared.table.TableRow.{TableRow}
-use Rattle.occ_table.specs.Behaviours.{Stands, row_ends, row_fails}
-use Rattle.occ_table.specs.Lines.{AreNamed, state_place}
+use Rattle.occ_nform_table.specs.declared.table.TableRow.{TableRow}
+use Rattle.occ_nform_table.specs.Behaviours.{Stands, row_ends, row_fails}
+use Rattle.occ_nform_table.specs.Lines.{AreNamed, state_place}
 use Rattle.occ_base.specs.Names.{IsDistinct}
-use Rattle.occ_table.specs.Normal.{text_read}
-use Rattle.occ_table.specs.Tables.{AreRowsOf, IsNormal}
-use Rattle.occ_table.specs.Texts.{table_text}
-use Rattle.occ_tabulate.specs.Lines.{RowIsNamed}
-use Rattle.occ_tabulate.specs.Tabulated.{IsTabulated}
-use Rattle.occ_tabulate.proofs.Named.{row_named}
-use Rattle.occ_unique.proofs.States.{place_below}
+use Rattle.occ_nform_table.specs.Normal.{text_read}
+use Rattle.occ_nform_table.specs.Tables.{AreRowsOf, IsNormal}
+use Rattle.occ_nform_table.specs.Texts.{table_text}
+use Rattle.occ_nform_number.specs.Lines.{RowIsNamed}
+use Rattle.occ_nform_number.specs.Tabulated.{IsTabulated}
+use Rattle.occ_nform_number.proofs.Named.{row_named}
+use Rattle.occ_nform_unique.proofs.States.{place_below}
 use Rattle.occ_nform.specs.Written.{IsNormalText, IsRootOf}
 use Rattle.occ_nform.specs.Lines.{RowsAreNamed}
 use Rattle.occ_nform.proofs.Assignments.{values_there}

@@ -11,8 +11,8 @@ use Rattle.occ_mdd.specs.declared.map.MapId.{MapId}
 use Rattle.occ_node.specs.World.{fails, ends}
 use Rattle.occ_node.specs.declared.node.NodeId.{NodeId}
 use Rattle.occ_node.specs.declared.world.World.{World}
-use Rattle.occ_table.specs.Behaviours.{Stands}
-use Rattle.occ_table.specs.Normal.{Parts, text_read}
+use Rattle.occ_nform_table.specs.Behaviours.{Stands}
+use Rattle.occ_nform_table.specs.Normal.{Parts, text_read}
 
 -- The root has the behaviours of a program's body: at each assignment the node of the map has exactly its failures and ends
 -- from the state for which the assignment stands.

@@ -1,10 +1,10 @@
 ghost use Rattle.std.specs.Prelude.{◌≡◌, ◌≤◌, ◌+◌, [], get_or, length, IfOk};
 ghost use Rattle.occ_syntax.specs.Counts.{capped};
-ghost use Rattle.occ_table.specs.Judging.{height_over};
+ghost use Rattle.occ_nform_table.specs.Judging.{height_over};
 ghost use Rattle.occ_nform.specs.Counts.{greatest, heights_of, offers_in};
 
 use occ_base::{Event, Memory};
-use occ_table::{Table, TableRow};
+use occ_nform_table::{Table, TableRow};
 use std::alloc::Global;
 
 /// How large a table is.

@@ -14,14 +14,6 @@ pub node_row : (w : World) (a : NodeId) → IsNode w a → a.0 < length w.rows.k
 unfolding nodes_of
 node_row w a h = h
 
-pub row_node : (w : World) (a : NodeId) → a.0 < length w.rows.keys → IsNode w a
-unfolding nodes_of
-row_node w a h = h
-
-pub nodes_are : (w : World) → nodes_of w ≡ length w.rows.keys
-unfolding nodes_of
-nodes_are w = refl
-
 pub row_of_is : (w : World) (a : NodeId) → row_of w a ≡ row_at w.rows.keys a
 unfolding row_of
 row_of_is w a = refl

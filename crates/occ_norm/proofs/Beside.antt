@@ -7,8 +7,8 @@ use Rattle.occ_base.specs.declared.width.Width.{Width}
 use Rattle.occ_mdd.specs.declared.map.MapId.{MapId}
 use Rattle.occ_node.specs.declared.world.World.{World}
 use Rattle.occ_follow.specs.Sequence.{HasNodes}
-use Rattle.occ_lift.specs.Maps.{Extends, IsSkip}
-use Rattle.occ_lift.proofs.Worlds.{has_nodes-extends}
+use Rattle.occ_norm_maps.specs.Maps.{Extends, IsSkip}
+use Rattle.occ_norm_maps.proofs.Worlds.{has_nodes-extends}
 use Rattle.occ_syntax.specs.Scopes.{Environment}
 use Rattle.occ_syntax.specs.Tree.{par}
 use Rattle.occ_syntax.specs.Types.{all_types_kept}
@@ -16,13 +16,13 @@ use Rattle.occ_syntax.specs.Usage.{AreSeparate}
 use Rattle.occ_syntax.specs.View.{tree, trees}
 use Rattle.occ_syntax.specs.declared.proc.Proc.{Proc, Skip}
 use Rattle.occ_syntax.specs.declared.scope.Kind.{Kind}
-use Rattle.occ_frame.specs.After.{IsAfter}
-use Rattle.occ_frame.specs.Placed.{IsAround}
-use Rattle.occ_frame.proofs.After.{after-extends}
-use Rattle.occ_sides.specs.Sides.{AreUsers, closed_in}
-use Rattle.occ_sides.specs.Joined.{AreOfParts, HaveNodes, IsJoined, no_map}
-use Rattle.occ_sides.proofs.Using.{users_spread}
-use Rattle.occ_sides.specs.declared.users.Users.{Users}
+use Rattle.occ_norm_frame.specs.After.{IsAfter}
+use Rattle.occ_norm_frame.specs.Placed.{IsAround}
+use Rattle.occ_norm_frame.proofs.After.{after-extends}
+use Rattle.occ_norm_par.specs.Sides.{AreUsers, closed_in}
+use Rattle.occ_norm_par.specs.Joined.{AreOfParts, HaveNodes, IsJoined, no_map}
+use Rattle.occ_norm_par.proofs.Using.{users_spread}
+use Rattle.occ_norm_par.specs.declared.users.Users.{Users}
 
 -- the first n maps are those of the first n parts
 abbrev pub AreMade : World → List (Name × Kind) → List (Name × Width × ℕ) → ℕ → List Users → MapId → ℕ → List Proc → List MapId → Type 0

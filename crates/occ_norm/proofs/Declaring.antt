@@ -15,10 +15,10 @@ use Rattle.occ_syntax.specs.Types.{can_declare, is_width, types_kept}
 use Rattle.occ_usage.proofs.Scoped.{environment-push}
 use Rattle.occ_mdd.specs.declared.map.MapId.{MapId}
 use Rattle.occ_node.specs.declared.world.World.{World}
-use Rattle.occ_frame.specs.After.{IsOver}
-use Rattle.occ_frame.specs.Placed.{IsAround, IsFrame, closed_by, entered}
-use Rattle.occ_frame.proofs.After.{state_back, state_below}
-use Rattle.occ_frame.proofs.Bits.{pow_more}
+use Rattle.occ_norm_frame.specs.After.{IsOver}
+use Rattle.occ_norm_frame.specs.Placed.{IsAround, IsFrame, closed_by, entered}
+use Rattle.occ_norm_frame.proofs.After.{state_back, state_below}
+use Rattle.occ_norm_frame.proofs.Bits.{pow_more}
 use Rattle.occ_norm.proofs.Laying.{IsFresh, fresh_laid, fresh_state, laid-push, state-push}
 use Rattle.occ_norm.proofs.Opening.{IsAfterFrom, channel_from, variable_from}
 use Rattle.occ_norm.proofs.Steps.{reaches_in}
@@ -70,9 +70,6 @@ pub record Opens (vars : List (Name × Kind)) (layout : List (Name × Width × �
   pub opens : (w : World) (rest map : MapId) (top : ℕ) → n' ≤ top → top ≤ 24 → IsOver w n rest
       → ((Γ : Environment) → IsAround Γ vars' → types_kept q Γ ≡ true → IsAfterFrom w n' top layout' keep closed' Γ q rest map)
       → (Γ : Environment) → IsAround Γ vars → types_kept p Γ ≡ true → IsAfterFrom w n top layout keep closed Γ p rest map
-
-pub opens_itself : (vars : List (Name × Kind)) (layout : List (Name × Width × ℕ)) (n keep : ℕ) (closed : List Name) (p : Tree) → Opens vars layout n keep closed p vars layout n closed p
-opens_itself vars layout n keep closed p = record { opens = λ w rest map top h l over f. f }
 
 module _ (vars : List (Name × Kind)) (layout : List (Name × Width × ℕ)) (n keep : ℕ) (closed : List Name) (p : Tree) (inside : keep < 2 ^ n)
     (vars' : List (Name × Kind)) (layout' : List (Name × Width × ℕ)) (n' : ℕ) (closed' : List Name) (q : Tree) (frame : IsFrame vars' layout' n') (more : n ≤ n') where

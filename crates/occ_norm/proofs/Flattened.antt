@@ -1,13 +1,12 @@
 -- A program and the same with flat PARs have the same map.
-use Rattle.std.proofs.Common.{◌≡◌, ◌≤◌, true, List, Option, Some, arith, subst, sym}
+use Rattle.std.proofs.Common.{◌≡◌, true, List, Option, Some, subst}
 use Rattle.std.specs.Option.{IfSome}
 use Rattle.occ_base.specs.declared.names.Name.{Name}
-use Rattle.occ_flat.specs.Flat.{IsFlat}
+use Rattle.occ_norm_flatten.specs.Flat.{IsFlat}
 use Rattle.occ_mdd.specs.declared.map.MapId.{MapId}
 use Rattle.occ_node.specs.declared.world.World.{World}
 use Rattle.occ_norm.specs.Root.{IsRoot}
 use Rattle.occ_bits.specs.Layout.{laid_out, state_of}
-use Rattle.occ_syntax.specs.Counts.{bits_of_scope, most_bits}
 use Rattle.occ_syntax.specs.Meaning.{ended, refusing}
 use Rattle.occ_syntax.specs.Scopes.{environment}
 use Rattle.occ_syntax.specs.Tree.{Tree}
@@ -38,14 +37,6 @@ pub root_as : (w : World) (params others : List (Name × Kind)) (p q : Tree) (st
     → types_kept q (environment others) ≡ true → IsRoot w others q states → IsRoot w params p states
 root_as w params others p q states same flat tp tq root =
     root_flat w params p q states flat tp (subst (λ vs. types_kept q (environment vs) ≡ true) same tq) (subst (λ vs. IsRoot w vs q states) same root)
-
--- the limits of a program are those of the other
-pub interface_as : (params others : List (Name × Kind)) → others ≡ params → bits_of_scope params ≤ 16 → bits_of_scope others ≤ 16
-interface_as params others same h = subst (λ vs. bits_of_scope vs ≤ 16) (sym same) h
-
-pub state_as : (params others : List (Name × Kind)) (p q : Tree) → others ≡ params → IsFlat p q → most_bits p (bits_of_scope params) ≤ 24 → most_bits q (bits_of_scope others) ≤ 24
-state_as params others p q same flat h =
-    subst (λ vs. most_bits q (bits_of_scope vs) ≤ 24) (sym same) (let k = flat.bits (bits_of_scope params) in omega (arith, h, k))
 
 pub found_is : {X : Type 0} (o : Option X) (x : X) (P : X → Type 0) → o ≡ Some x → IfSome o P → P x
 found_is o x P e h = subst (λ r. IfSome r P) e h

@@ -15,7 +15,7 @@ use Rattle.occ_syntax.specs.declared.scope.Kind.{Kind}
 use Rattle.occ_syntax.specs.declared.scope.Kind.TheVariants.{Var, Chan}
 use Rattle.occ_syntax.specs.Counts.{bits_of_scope}
 use Rattle.occ_syntax.specs.Scopes.{Values, environment, with_value}
-use Rattle.occ_frame.specs.Changes.{AgreeOutside}
+use Rattle.occ_norm_frame.specs.Changes.{AgreeOutside}
 
 -- ---- the layout with one variable more
 pub laid-push : (first : ℕ) (vars : List (Name × Kind)) (x : Name) (wd : Width) → laid_out first (vars ++ (x, Var wd) ∷ []) ≡ laid_out first vars ++ (x, wd, first + bits_of_scope vars) ∷ []

@@ -9,3 +9,4 @@ pub mod Rooting
 pub mod Using
 pub mod Beside
 pub mod Flattened
+pub mod Rooted

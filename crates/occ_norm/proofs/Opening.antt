@@ -23,8 +23,8 @@ use Rattle.occ_node.specs.World.{fails, ends}
 use Rattle.occ_node.specs.declared.node.NodeId.{NodeId}
 use Rattle.occ_node.specs.declared.world.World.{World}
 use Rattle.occ_weave.specs.Weave.{is_open, is_silent_on, off_channels}
-use Rattle.occ_frame.specs.After.{AgreeBelow, IsAfter, IsOver, QuietlyFails, Resumes, change_of}
-use Rattle.occ_frame.specs.Changes.{AgreeOutside, IsFreed, Somewhere}
+use Rattle.occ_norm_frame.specs.After.{AgreeBelow, IsAfter, IsOver, QuietlyFails, Resumes, change_of}
+use Rattle.occ_norm_frame.specs.Changes.{AgreeOutside, IsFreed, Somewhere}
 use Rattle.occ_norm.proofs.Laying.{placed, placed_agrees, placed_lt, placed_value, value_dropped}
 use Rattle.occ_norm.proofs.Sequences.{Reaches}
 use Rattle.occ_norm.proofs.Simple.{TellsBits, change_same}

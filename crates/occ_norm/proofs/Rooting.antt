@@ -21,15 +21,15 @@ use Rattle.occ_node.specs.World.{fails, ends}
 use Rattle.occ_node.specs.declared.node.NodeId.{NodeId}
 use Rattle.occ_node.specs.declared.world.World.{World}
 use Rattle.occ_follow.specs.Sequence.{HasNodes}
-use Rattle.occ_lift.specs.Maps.{IsSkip, are_zero, is_clear}
+use Rattle.occ_norm_maps.specs.Maps.{IsSkip, are_zero, is_clear}
 use Rattle.occ_weave.specs.Weave.{is_silent_on}
-use Rattle.occ_frame.specs.After.{AgreeBelow, IsAfter, QuietlyFails, Resumes, change_of}
-use Rattle.occ_frame.specs.Changes.{IsChanged}
-use Rattle.occ_frame.specs.Placed.{IsAround, IsFrame}
-use Rattle.occ_frame.proofs.Bits.{pow_more}
+use Rattle.occ_norm_frame.specs.After.{AgreeBelow, IsAfter, QuietlyFails, Resumes, change_of}
+use Rattle.occ_norm_frame.specs.Changes.{IsChanged}
+use Rattle.occ_norm_frame.specs.Placed.{IsAround, IsFrame}
+use Rattle.occ_norm_frame.proofs.Bits.{pow_more}
 use Rattle.occ_norm.specs.Parts.{IsAfterIn}
 use Rattle.occ_node.proofs.Recovery.{canonical}
-use Rattle.occ_frame.proofs.After.{map_node, same_truth, state_below}
+use Rattle.occ_norm_frame.proofs.After.{map_node, same_truth, state_below}
 use Rattle.occ_norm.specs.Root.{IsRoot}
 use Rattle.occ_norm.proofs.Changing.{bit_of_change}
 

@@ -18,9 +18,9 @@ use Rattle.occ_mdd.specs.declared.map.MapId.{MapId}
 use Rattle.occ_node.specs.World.{fails, ends}
 use Rattle.occ_node.specs.declared.node.NodeId.{NodeId}
 use Rattle.occ_node.specs.declared.world.World.{World}
-use Rattle.occ_lift.specs.Maps.{IsStop}
+use Rattle.occ_norm_maps.specs.Maps.{IsStop}
 use Rattle.occ_weave.specs.Weave.{off_channels}
-use Rattle.occ_frame.specs.After.{AgreeBelow, IsAfter, IsOver, QuietlyFails, Resumes, change_of}
+use Rattle.occ_norm_frame.specs.After.{AgreeBelow, IsAfter, IsOver, QuietlyFails, Resumes, change_of}
 use Rattle.occ_norm.proofs.Changing.{bit_of_change}
 
 -- states of the layout tell its bits

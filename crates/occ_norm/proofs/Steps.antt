@@ -14,15 +14,13 @@ use Rattle.occ_mdd.specs.Maps.{value}
 use Rattle.occ_mdd.specs.declared.map.MapId.{MapId}
 use Rattle.occ_node.specs.declared.world.World.{World}
 use Rattle.occ_follow.specs.Sequence.{HasNodes}
-use Rattle.occ_diagram.specs.Assignment.{turned}
-use Rattle.occ_lift.specs.Maps.{Extends, IsSkip, IsStop}
-use Rattle.occ_frame.specs.Changes.{IsSupport}
-use Rattle.occ_frame.specs.After.{IsOver}
-use Rattle.occ_frame.specs.Placed.{Fits, IsAround, IsFrame}
-use Rattle.occ_frame.proofs.After.{after-extends, after-over, state_back, states_reached}
-use Rattle.occ_frame.proofs.Bits.{pow_more}
-use Rattle.occ_frame.proofs.Placing.{width_here}
-use Rattle.occ_laws.proofs.Named.{eval_by_names}
+use Rattle.occ_norm_maps.specs.Maps.{Extends, IsSkip, IsStop}
+use Rattle.occ_norm_frame.specs.After.{IsOver}
+use Rattle.occ_norm_frame.specs.Placed.{Fits, IsAround, IsFrame}
+use Rattle.occ_norm_frame.proofs.After.{after-extends, after-over, state_back, states_reached}
+use Rattle.occ_norm_frame.proofs.Bits.{pow_more}
+use Rattle.occ_norm_frame.proofs.Placing.{width_here}
+use Rattle.occ_meaning.proofs.Named.{eval_by_names}
 use Rattle.occ_norm.specs.Parts.{IsAfterIn}
 use Rattle.occ_norm.proofs.Sequences.{Reaches, seq_after}
 use Rattle.occ_norm.proofs.Simple.{after_as, case_after, skip_after, stop_after}
@@ -48,19 +46,6 @@ pub in-extends : (v w : World) (k : Extends v w) (vars : List (Name × Kind)) (l
     → HasNodes v rest → HasNodes v r → IsAfterIn v vars layout keep closed p rest r → IsAfterIn w vars layout keep closed p rest r
 in-extends v w k vars layout keep closed p rest r has hr is Γ around types = after-extends v w k layout keep closed Γ p rest r has hr (is Γ around types)
 
-pub stop-extends : (v w : World) → Extends v w → (r : MapId) → IsStop v r → IsStop w r
-stop-extends v w k r is = record {
-  node = is.node;
-  everywhere = record { known = more is.everywhere.known k.maps.more; values = λ x. k.maps.same r x is.everywhere.known ∙ is.everywhere.values x };
-  known = more is.known k.grows.more;
-  fails_now = λ X. k.grows.same_fails is.node [] X is.known ∙ is.fails_now X;
-  fails_once = λ e t X. k.grows.same_fails is.node (e ∷ t) X is.known ∙ is.fails_once e t X;
-  never_ends = λ t x. k.grows.same_ends is.node t x is.known ∙ is.never_ends t x;
-}
-  where
-    more : {a b c : ℕ} → a < b → b ≤ c → a < c
-    more {a} {b} {c} h l = omega (arith, h, l)
-
 pub skip-extends : (v w : World) → Extends v w → (keep : ℕ) (r : MapId) → IsSkip v keep r → IsSkip w keep r
 skip-extends v w k keep r is = record {
   node = is.node;
@@ -79,12 +64,6 @@ over_skip w n keep r has is = record { has = has; same = λ x y h l agree. is.ev
 
 pub keep_below : (keep needed both n : ℕ) → keep < 2 ^ n → needed < 2 ^ n → both ≡ bit_or keep needed → both < 2 ^ n
 keep_below keep needed both n h k e = subst (λ b. b < 2 ^ n) (sym e) (or_lt n keep needed h k)
-
-pub support-extends : (v w : World) → Extends v w → (count : ℕ) (map : MapId) (bits : ℕ) → HasNodes v map → IsSupport v count map bits → IsSupport w count map bits
-support-extends v w k count map bits has is = record {
-  within = is.within;
-  others = λ b l z x. k.maps.same map (turned x b) has.known ∙ is.others b l z x ∙ sym (k.maps.same map x has.known);
-}
 
 module _ (w : World) (vars : List (Name × Kind)) (layout : List (Name × Width × ℕ)) (n keep : ℕ) (closed : List Name) (frame : IsFrame vars layout n) (inside : keep < 2 ^ n) where
   few : n ≤ 24

@@ -1,5 +1,5 @@
 -- The parts of lists, one by one from the end: their usage, and the list that is left.
-use Rattle.std.proofs.Common.{Bool, true, false, ◌==◌, ◌≡◌, ◌<◌, ◌≤◌, ◌+◌, ◌-◌, ℕ, zero, suc, List, [], ◌∷◌, length, get_or, drop, refl, sym, ap, ◌∙◌, subst, arith}
+use Rattle.std.proofs.Common.{Bool, true, ◌==◌, ◌≡◌, ◌<◌, ◌≤◌, ◌+◌, ◌-◌, ℕ, zero, suc, List, [], ◌∷◌, length, get_or, drop, refl, sym, ap, ◌∙◌, subst, arith}
 use Rattle.std.proofs.lemmas.Bool.{and_parts, eqb-true}
 use Rattle.std.proofs.lemmas.List.{drop_more}
 use Rattle.occ_syntax.specs.declared.expr.Expr.{Expr}
@@ -71,7 +71,3 @@ types_at (q ∷ ps) (suc i) p Γ h k e = types_at ps i p Γ (and_parts (types_ke
 -- whether a list is empty, as code asks it
 pub no_parts : (ps : List Proc) {b : Bool} → b ≡ (length ps == 0) → b ≡ true → trees ps ≡ no_tree
 no_parts ps e h = no_trees ps (eqb-true (length ps) 0 (sym e ∙ h))
-
-pub some_parts : (ps : List Proc) (left : ℕ) {b : Bool} → left ≡ 0 → b ≡ (length ps == 0) → b ≡ false → left < length ps
-some_parts [] left none e h = absurd (let f : true ≡ false = sym e ∙ h in cc)
-some_parts (p ∷ ps) left none e h = omega (arith, none)

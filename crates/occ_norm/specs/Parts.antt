@@ -8,8 +8,8 @@ use Rattle.occ_syntax.specs.Tree.{Tree}
 use Rattle.occ_syntax.specs.Types.{types_kept}
 use Rattle.occ_mdd.specs.declared.map.MapId.{MapId}
 use Rattle.occ_node.specs.declared.world.World.{World}
-use Rattle.occ_frame.specs.After.{IsAfter}
-use Rattle.occ_frame.specs.Placed.{IsAround}
+use Rattle.occ_norm_frame.specs.After.{IsAfter}
+use Rattle.occ_norm_frame.specs.Placed.{IsAround}
 
 -- the map r is that of the part and then what the map `rest` has, wherever the part keeps types among these variables
 abbrev pub IsAfterIn : World → List (Name × Kind) → List (Name × Width × ℕ) → ℕ → List Name → Tree → MapId → MapId → Type 0

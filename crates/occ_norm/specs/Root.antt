@@ -13,7 +13,7 @@ use Rattle.occ_mdd.specs.declared.map.MapId.{MapId}
 use Rattle.occ_node.specs.World.{fails, ends}
 use Rattle.occ_node.specs.declared.node.NodeId.{NodeId}
 use Rattle.occ_node.specs.declared.world.World.{World}
-use Rattle.occ_frame.specs.After.{IsOver}
+use Rattle.occ_norm_frame.specs.After.{IsOver}
 
 -- The map has a node at every assignment of the bits of the parameters' variables. Its node at an assignment has exactly the
 -- failures and the ends of the body from the state for which the assignment stands: it ends in the assignments that stand

@@ -4,21 +4,20 @@ ghost use Rattle.occ_syntax.specs.Tree.{alt, par, select, seq};
 ghost use Rattle.occ_syntax.specs.Usage.{AllKeepUsage, AreSeparate, BranchesKeepUsage, CasesKeepUsage, KeepsUsage};
 ghost use Rattle.occ_syntax.specs.View.{tree, trees, cases, branches};
 ghost use Rattle.occ_follow.specs.Sequence.{HasNodes};
-ghost use Rattle.occ_lift.specs.Maps.{Extends};
-ghost use Rattle.occ_frame.specs.After.{IsOver};
-ghost use Rattle.occ_frame.specs.Placed.{Fits, FitAll, FitBranches, FitCases};
+ghost use Rattle.occ_norm_maps.specs.Maps.{Extends};
+ghost use Rattle.occ_norm_frame.specs.After.{IsOver};
+ghost use Rattle.occ_norm_frame.specs.Placed.{Fits, FitAll, FitBranches, FitCases};
 ghost use Rattle.occ_norm.specs.Parts.{IsAfterIn};
 
 use occ_base::Memory;
-use occ_frame::{Frame, freed, holds};
-use occ_guards::{Alternation, input, output};
-use occ_lift::{choose, stop};
 use occ_mdd::MapId;
 use occ_node::World;
-use occ_sequel::sequel;
-use occ_sides::{Sides, joined, side_frame};
+use occ_norm_alt::{Alternation, input, output};
+use occ_norm_assign::assigned;
+use occ_norm_frame::{Frame, freed, holds};
+use occ_norm_maps::{choose, stop};
+use occ_norm_par::{Sides, joined, sequel, side_frame};
 use occ_syntax::{Expr, Guard, Proc};
-use occ_writes::assigned;
 use std::alloc::Global;
 
 /// The map of a part and then what another map has.

@@ -12,36 +12,36 @@ use Rattle.occ_syntax.specs.Scopes.{environment}
 use Rattle.occ_syntax.specs.Tree.{Tree}
 use Rattle.occ_syntax.specs.Types.{scope_kept, types_kept}
 use Rattle.occ_syntax.specs.View.{tree}
-use Rattle.occ_symbol.specs.Symbols.{Extends}
-use Rattle.occ_symbol.proofs.Interned.{extends_trans}
-use Rattle.occ_form.specs.declared.form.Param.{Param}
-use Rattle.occ_form.specs.Shape.{Shape, header, close}
-use Rattle.occ_draft.specs.Forest.{Forest, no_line, and_line}
-use Rattle.occ_draft.specs.Judging.{or_else, on_line, first_fault}
-use Rattle.occ_draft.specs.Limits.{bits_fault, bits_in_scope, copied_lines, count_fault}
-use Rattle.occ_draft.specs.Names.{name_fault, redeclares_some}
-use Rattle.occ_draft.specs.Places.{Sorts, places, param_entries}
-use Rattle.occ_draft.specs.Types.{type_fault, direction_fault}
-use Rattle.occ_draft.specs.Unrolled.{Numbers, named, params_named, slot_process}
-use Rattle.occ_kept.specs.Agreement.{AreKnown}
-use Rattle.occ_kept.specs.Passing.{shape_passes}
-use Rattle.occ_kept.specs.Programs.{param_scope, IsInOrderWith}
-use Rattle.occ_kept.specs.Sound.{is_sound, are_sound, are_placed}
-use Rattle.occ_kept.proofs.Params.{program_kept}
-use Rattle.occ_kept.proofs.Small.{param_bits, scopes_small}
-use Rattle.occ_layout.specs.Whole.{IsProgram}
-use Rattle.occ_unroll.specs.Elements.{with_places, with_elements, program_places}
-use Rattle.occ_unroll.specs.Numbers.{number_in}
-use Rattle.occ_unroll.proofs.Sized.{slot_process_size}
+use Rattle.occ_lex_symbols.specs.Symbols.{Extends}
+use Rattle.occ_lex_symbols.proofs.Interned.{extends_trans}
+use Rattle.occ_parse_forms.specs.declared.form.Param.{Param}
+use Rattle.occ_parse_forms.specs.Shape.{Shape, header, close}
+use Rattle.occ_parse_rules.specs.Forest.{Forest, no_line, and_line}
+use Rattle.occ_parse_rules.specs.Judging.{or_else, on_line, first_fault}
+use Rattle.occ_parse_rules.specs.Limits.{bits_fault, bits_in_scope, copied_lines, count_fault}
+use Rattle.occ_parse_rules.specs.Names.{name_fault, redeclares_some}
+use Rattle.occ_parse_rules.specs.Places.{Sorts, places, param_entries}
+use Rattle.occ_parse_rules.specs.Types.{type_fault, direction_fault}
+use Rattle.occ_parse_rules.specs.Unrolled.{Numbers, named, params_named, slot_process}
+use Rattle.occ_parse_sound.specs.Agreement.{AreKnown}
+use Rattle.occ_parse_sound.specs.Passing.{shape_passes}
+use Rattle.occ_parse_sound.specs.Programs.{param_scope, IsInOrderWith}
+use Rattle.occ_parse_sound.specs.Sound.{is_sound, are_sound, are_placed}
+use Rattle.occ_parse_sound.proofs.Params.{program_kept}
+use Rattle.occ_parse_sound.proofs.Small.{param_bits, scopes_small}
+use Rattle.occ_parse_layout.specs.Whole.{IsProgram}
+use Rattle.occ_parse_unroll.specs.Elements.{with_places, with_elements, program_places}
+use Rattle.occ_parse_unroll.specs.Numbers.{number_in}
+use Rattle.occ_parse_unroll.proofs.Sized.{slot_process_size}
 use Rattle.occ_usage.specs.Accepted.{IsTyped}
-use Rattle.occ_reading.specs.declared.bound.Bound.{Bound}
-use Rattle.occ_reading.specs.declared.fault.ParseFault.{ParseFault}
-use Rattle.occ_reading.specs.declared.fault.ParseFault.TheVariants as fault
-use Rattle.occ_reading.specs.declared.fault.Which.{Which}
-use Rattle.occ_reading.specs.declared.fault.Which.TheVariants as which
-use Rattle.occ_reading.specs.Limits.{is_limited}
-use Rattle.occ_reading.specs.Drafts.{header_line, header_params, header_below, as_fault, name_fault_on, type_fault_on, over, unnumbered, parameters, limit_fault, limit_fault_of, draft_fault}
-use Rattle.occ_reading.specs.Reading.{IsLaidOut, names_in}
+use Rattle.occ_parse_reading.specs.declared.bound.Bound.{Bound}
+use Rattle.occ_parse_reading.specs.declared.fault.ParseFault.{ParseFault}
+use Rattle.occ_parse_reading.specs.declared.fault.ParseFault.TheVariants as fault
+use Rattle.occ_parse_reading.specs.declared.fault.Which.{Which}
+use Rattle.occ_parse_reading.specs.declared.fault.Which.TheVariants as which
+use Rattle.occ_parse_reading.specs.Limits.{is_limited}
+use Rattle.occ_parse_reading.specs.Drafts.{header_line, header_params, header_below, as_fault, name_fault_on, type_fault_on, over, unnumbered, parameters, limit_fault, limit_fault_of, draft_fault}
+use Rattle.occ_parse_reading.specs.Reading.{IsLaidOut, names_in}
 use Rattle.occ_parse.proofs.Texts.{is_plain, in_table, plain_table}
 use Rattle.occ_parse.proofs.Small.{shape_small}
 use Rattle.occ_parse.proofs.Knowing.{EachLine, IsLineOf, each_map, lines_are_of, line_passes, line_small, lines_sound}

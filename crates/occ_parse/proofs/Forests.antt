@@ -4,32 +4,32 @@ use Rattle.std.specs.Prelude.{is_some, Result, Ok, Err, IfErr}
 use Rattle.occ_lex.specs.declared.fault.LineFault.{LineFault}
 use Rattle.occ_lex.specs.declared.token.Line.{Line}
 use Rattle.occ_lex.specs.Rows.{reading_of}
-use Rattle.occ_symbol.specs.declared.symbol.Row.{Row}
-use Rattle.occ_symbol.specs.Symbols.{rows_of}
+use Rattle.occ_lex_symbols.specs.declared.symbol.Row.{Row}
+use Rattle.occ_lex_symbols.specs.Symbols.{rows_of}
 use Rattle.occ_base.specs.declared.names.Name.{Name}
 use Rattle.occ_syntax.specs.declared.scope.Kind.{Kind}
 use Rattle.occ_syntax.specs.Tree.{Tree}
-use Rattle.occ_form.specs.declared.form.Param.{Param}
-use Rattle.occ_draft.specs.Unrolled.{params_named, slot_process, lined}
-use Rattle.occ_kept.specs.Programs.{param_scope}
-use Rattle.occ_unroll.specs.Elements.{with_elements}
-use Rattle.occ_unroll.specs.Numbers.{number_in}
-use Rattle.occ_draft.specs.Forest.{Forest, Laid, lines_at}
-use Rattle.occ_layout.specs.declared.placed.Frame.{Frame}
-use Rattle.occ_layout.specs.declared.placed.Frame.TheVariants as frame
-use Rattle.occ_layout.specs.Layout.{least_bad}
-use Rattle.occ_layout.specs.Nesting.{Nest}
-use Rattle.occ_layout.specs.Whole.{IsProgram}
-use Rattle.occ_layout.proofs.Levels.{good_nest}
-use Rattle.occ_layout.proofs.Framed.{whole_of}
-use Rattle.occ_reading.specs.declared.bound.Bound.{Bound}
-use Rattle.occ_reading.specs.declared.bound.Bound.TheVariants as bound
-use Rattle.occ_reading.specs.declared.fault.ParseFault.{ParseFault}
-use Rattle.occ_reading.specs.declared.fault.ParseFault.TheVariants as fault
-use Rattle.occ_reading.specs.Limits.{is_too_long, frame_of, stopped}
-use Rattle.occ_reading.specs.Drafts.{begins_with_header, header_name, header_params, header_below, draft_fault}
-use Rattle.occ_reading.specs.Reading.{AreForms, AreJudged, IsLaidOut, IsRefused, badly_laid, at_line, IsRead, rows_in, names_in}
-use Rattle.occ_parse.specs.Laying.{IsWellLaid, IsIllLaid}
+use Rattle.occ_parse_forms.specs.declared.form.Param.{Param}
+use Rattle.occ_parse_rules.specs.Unrolled.{params_named, slot_process, lined}
+use Rattle.occ_parse_sound.specs.Programs.{param_scope}
+use Rattle.occ_parse_unroll.specs.Elements.{with_elements}
+use Rattle.occ_parse_unroll.specs.Numbers.{number_in}
+use Rattle.occ_parse_rules.specs.Forest.{Forest, Laid, lines_at}
+use Rattle.occ_parse_layout.specs.declared.placed.Frame.{Frame}
+use Rattle.occ_parse_layout.specs.declared.placed.Frame.TheVariants as frame
+use Rattle.occ_parse_layout.specs.Layout.{least_bad}
+use Rattle.occ_parse_layout.specs.Nesting.{Nest}
+use Rattle.occ_parse_layout.specs.Whole.{IsProgram}
+use Rattle.occ_parse_layout.proofs.Levels.{good_nest}
+use Rattle.occ_parse_layout.proofs.Framed.{whole_of}
+use Rattle.occ_parse_reading.specs.declared.bound.Bound.{Bound}
+use Rattle.occ_parse_reading.specs.declared.bound.Bound.TheVariants as bound
+use Rattle.occ_parse_reading.specs.declared.fault.ParseFault.{ParseFault}
+use Rattle.occ_parse_reading.specs.declared.fault.ParseFault.TheVariants as fault
+use Rattle.occ_parse_reading.specs.Limits.{is_too_long, frame_of, stopped}
+use Rattle.occ_parse_reading.specs.Drafts.{header_name, header_params, header_below, draft_fault}
+use Rattle.occ_parse_reading.specs.Reading.{AreForms, AreJudged, IsLaidOut, IsRefused, badly_laid, at_line, IsRead, rows_in, names_in}
+use Rattle.occ_parse.specs.Laying.{IsIllLaid}
 
 nest_of : (b : Bound) (rows : List Laid) → least_bad (frame_of b) false rows ≡ None → Nest 0 0 rows
 nest_of bound.Program rows h = good_nest frame.Program false rows h
@@ -42,21 +42,6 @@ pub good_rows_nest : (b : Bound) (f : Frame) (stop : Option ParseFault) (more : 
 good_rows_nest b f stop more rows r e m s h n =
     let no_more : more ≡ false = m ∙ ap (λ t. is_some t) s in
     nest_of b rows (ap (λ g. least_bad g false rows) (sym e) ∙ ap (λ a. least_bad f a rows) (sym no_more) ∙ sym h ∙ n)
-
-pub good_rows_well_laid : (b : Bound) (f : Frame) (stop : Option ParseFault) (more : Bool) (rows : List Laid) (r : Option ℕ) (g : Forest) → f ≡ frame_of b → more ≡ is_some stop → stop ≡ None
-    → r ≡ least_bad f more rows → r ≡ None → lines_at 0 g ≡ rows → IsWellLaid b rows stop g
-good_rows_well_laid b f stop more rows r g e m s h n lines =
-    let no_more : more ≡ false = m ∙ ap (λ t. is_some t) s in
-    record {
-      lines = lines;
-      good = ap (λ g. least_bad g false rows) (sym e) ∙ ap (λ a. least_bad f a rows) (sym no_more) ∙ sym h ∙ n;
-      whole = s;
-    }
-
-pub bad_row : (b : Bound) (f : Frame) (stop : Option ParseFault) (more : Bool) (rows : List Laid) (r : Option ℕ) (n : ℕ) → f ≡ frame_of b → more ≡ is_some stop
-    → r ≡ least_bad f more rows → r ≡ Some n → IsIllLaid b rows stop (fault.Form n)
-bad_row b f stop more rows r n e m h s =
-    inl (n, refl, ap (λ g. least_bad g (is_some stop) rows) (sym e) ∙ ap (λ a. least_bad f a rows) (sym m) ∙ sym h ∙ s)
 
 pub row_behind : (b : Bound) (f : Frame) (stop : Option ParseFault) (more : Bool) (rows : List Laid) (r : Option ℕ) (g : ParseFault) → f ≡ frame_of b → more ≡ is_some stop
     → r ≡ least_bad f more rows → r ≡ None → stop ≡ Some g → IsIllLaid b rows stop g
@@ -85,22 +70,9 @@ module _ (b : Bound) (text : List ℕ) (old : List (List ℕ)) where
         stop_is = sym (ap (λ s. s.1) same) ∙ stops;
       }
 
-  laid_out_of : (laid : List Laid) (stop : Option ParseFault) (f : Forest) → AreJudged b text old laid stop → IsWellLaid b laid stop f → IsLaidOut b text old f
-  laid_out_of laid stop f j w =
-      let P : List Laid → Type 0 = λ ls. AreJudged b text old ls None in
-      record {
-        judged = subst P (sym w.lines) (subst (λ s. AreJudged b text old laid s) w.whole j);
-        good = ap (λ ls. least_bad (frame_of b) false ls) w.lines ∙ w.good;
-      }
-
   refused_of : (laid : List Laid) (stop : Option ParseFault) (f : ParseFault) → AreJudged b text old laid stop → IsIllLaid b laid stop f → IsRefused b text old f
   refused_of laid stop f j (inl found) = subst (IsRefused b text old) (sym found.1) (badly_laid laid stop found.0 j found.2)
   refused_of laid stop f j (inr found) = at_line laid f (subst (λ s. AreJudged b text old laid s) found.0 j) found.1
-
-  pub found_from : (lines : List Line) (found : Option (ℕ × LineFault)) (rows : List Row) (laid : List Laid) (stop : Option ParseFault) (f : Forest) → is_too_long b text ≡ false
-      → (lines, found) ≡ reading_of text → rows ≡ rows_of text old lines → AreForms (stopped b rows found).0 laid → (stopped b rows found).1 ≡ stop
-      → IsWellLaid b laid stop f → IsLaidOut b text old f
-  found_from lines found rows laid stop f short read rows_are forms stops w = laid_out_of laid stop f (judged_of lines found rows laid stop short read rows_are forms stops) w
 
   pub refused_from : (lines : List Line) (found : Option (ℕ × LineFault)) (rows : List Row) (laid : List Laid) (stop : Option ParseFault) (f : ParseFault) → is_too_long b text ≡ false
       → (lines, found) ≡ reading_of text → rows ≡ rows_of text old lines → AreForms (stopped b rows found).0 laid → (stopped b rows found).1 ≡ stop
@@ -110,9 +82,6 @@ module _ (b : Bound) (text : List ℕ) (old : List (List ℕ)) where
 
 -- ---- the header
 
-with_header : (f : Forest) → IsProgram f → begins_with_header f ≡ true
-with_header f p = ap (λ g. begins_with_header g) p.whole
-
 frame_whole : (b : Bound) (rows : List Laid) (g : Forest) → lines_at 0 g ≡ rows → least_bad (frame_of b) false rows ≡ None → IsProgram g
 frame_whole bound.Program rows g e h = whole_of frame.Program rows g refl e h
 frame_whole bound.First rows g e h = whole_of frame.Program rows g refl e h
@@ -120,9 +89,6 @@ frame_whole bound.Script rows g e h = whole_of frame.Plain rows g refl e h
 
 pub program_of : (b : Bound) (text : List ℕ) (old : List (List ℕ)) (f : Forest) → IsLaidOut b text old f → IsProgram f
 program_of b text old f l = frame_whole b (lines_at 0 f) f refl l.good
-
-pub header_first : (b : Bound) (text : List ℕ) (old : List (List ℕ)) (f : Forest) → IsLaidOut b text old f → begins_with_header f ≡ true
-header_first b text old f l = with_header f (program_of b text old f l)
 
 -- ---- a text that is read
 

@@ -5,30 +5,30 @@ use Rattle.std.proofs.lemmas.Bool.{and_parts, and_from, ltb-true}
 use Rattle.occ_lex.specs.declared.fault.LineFault.{LineFault}
 use Rattle.occ_lex.specs.Rows.{reading_of}
 use Rattle.occ_lex.proofs.Placing.{reading_placed}
-use Rattle.occ_symbol.specs.declared.symbol.Row.{Row}
-use Rattle.occ_symbol.specs.declared.symbol.Symbol.{Symbol}
-use Rattle.occ_symbol.specs.Symbols.{Extends}
-use Rattle.occ_symbol.proofs.Interned.{extends_same}
-use Rattle.occ_form.specs.declared.form.Declared.{Declared}
-use Rattle.occ_form.specs.declared.form.Declared.TheVariants as declared
-use Rattle.occ_form.specs.declared.form.Item.{Item}
-use Rattle.occ_form.specs.declared.form.Param.{Param}
-use Rattle.occ_form.specs.declared.phrase.Index.{Index}
-use Rattle.occ_form.specs.Lines.{IsForm}
-use Rattle.occ_form.specs.Shape.{Said, item, numeral, typed, truth, negation, complement, operation, Waiting, ready, input, output, Shape, header, close, skip, stop, assign, receive, send, group, declare, condition, guard, nothing}
-use Rattle.occ_draft.specs.Forest.{Forest, no_line, and_line, Laid, lines_at}
-use Rattle.occ_kept.specs.Passing.{place_passes, item_passes, declared_passes, said_passes, waiting_passes, param_passes, shape_passes}
-use Rattle.occ_kept.specs.Sound.{is_sound, are_sound}
-use Rattle.occ_kept.proofs.Forms.{form_in, form_sound}
-use Rattle.occ_unroll.specs.Known.{IsKnownElement, IsKnownItem, IsKnownDeclared, IsKnownParam, IsKnownSaid, IsKnownWaiting, IsKnownLine, AreKnownLines}
-use Rattle.occ_reading.specs.declared.bound.Bound.{Bound}
-use Rattle.occ_reading.specs.declared.fault.ParseFault.{ParseFault}
-use Rattle.occ_reading.specs.declared.fault.Which.{Which}
-use Rattle.occ_reading.specs.Limits.{line_limit, stop_at, stopped}
-use Rattle.occ_reading.specs.Drafts.{header_name, header_params, header_below}
-use Rattle.occ_reading.specs.Reading.{AreForms, IsLaidOut, rows_in, names_in}
+use Rattle.occ_lex_symbols.specs.declared.symbol.Row.{Row}
+use Rattle.occ_lex_symbols.specs.declared.symbol.Symbol.{Symbol}
+use Rattle.occ_lex_symbols.specs.Symbols.{Extends}
+use Rattle.occ_lex_symbols.proofs.Interned.{extends_same}
+use Rattle.occ_parse_forms.specs.declared.form.Declared.{Declared}
+use Rattle.occ_parse_forms.specs.declared.form.Declared.TheVariants as declared
+use Rattle.occ_parse_forms.specs.declared.form.Item.{Item}
+use Rattle.occ_parse_forms.specs.declared.form.Param.{Param}
+use Rattle.occ_parse_forms.specs.declared.phrase.Index.{Index}
+use Rattle.occ_parse_forms.specs.Lines.{IsForm}
+use Rattle.occ_parse_forms.specs.Shape.{Said, item, numeral, typed, truth, negation, complement, operation, Waiting, ready, input, output, Shape, header, close, skip, stop, assign, receive, send, group, declare, condition, guard, nothing}
+use Rattle.occ_parse_rules.specs.Forest.{Forest, no_line, and_line, Laid, lines_at}
+use Rattle.occ_parse_sound.specs.Passing.{place_passes, item_passes, declared_passes, said_passes, waiting_passes, param_passes, shape_passes}
+use Rattle.occ_parse_sound.specs.Sound.{is_sound, are_sound}
+use Rattle.occ_parse_sound.proofs.Forms.{form_in, form_sound}
+use Rattle.occ_parse_unroll.specs.Known.{IsKnownElement, IsKnownItem, IsKnownDeclared, IsKnownParam, IsKnownSaid, IsKnownWaiting, IsKnownLine, AreKnownLines}
+use Rattle.occ_parse_reading.specs.declared.bound.Bound.{Bound}
+use Rattle.occ_parse_reading.specs.declared.fault.ParseFault.{ParseFault}
+use Rattle.occ_parse_reading.specs.declared.fault.Which.{Which}
+use Rattle.occ_parse_reading.specs.Limits.{line_limit, stop_at, stopped}
+use Rattle.occ_parse_reading.specs.Drafts.{header_name, header_params, header_below}
+use Rattle.occ_parse_reading.specs.Reading.{AreForms, IsLaidOut, rows_in, names_in}
 use Rattle.occ_base.specs.declared.names.Name.{Name}
-use Rattle.occ_layout.specs.Whole.{IsProgram}
+use Rattle.occ_parse_layout.specs.Whole.{IsProgram}
 use Rattle.occ_parse.proofs.Forests.{program_of}
 use Rattle.occ_parse.proofs.Texts.{AreOf, rows_are, OfNames, passes_all, small_all, in_table}
 use Rattle.occ_parse.proofs.Small.{shape_small, form_small}

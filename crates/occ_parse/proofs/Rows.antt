@@ -1,17 +1,17 @@
 -- Rows that are judged one by one.
 use Rattle.std.proofs.Common.{◌≡◌, ℕ, ◌+◌, ◌<◌, ◌≤◌, List, [], ◌∷◌, ◌++◌, length, get_or, drop, Option, Some, None, refl, sym, ap, subst, ◌∙◌, append_assoc}
-use Rattle.std.proofs.lemmas.List.{append-nil, drop_more, drop_all, map-append}
+use Rattle.std.proofs.lemmas.List.{append-nil, drop_more, drop_all}
 use Rattle.occ_lex.specs.declared.fault.LineFault.{LineFault}
-use Rattle.occ_symbol.specs.declared.symbol.Row.{Row}
-use Rattle.occ_draft.specs.Forest.{Laid}
-use Rattle.occ_layout.specs.declared.placed.Placed.{Placed}
-use Rattle.occ_layout.specs.Layout.{laid, laid_rows}
-use Rattle.occ_reading.specs.declared.bound.Bound.{Bound}
-use Rattle.occ_reading.specs.declared.fault.ParseFault.{ParseFault}
-use Rattle.occ_reading.specs.declared.fault.ParseFault.TheVariants as fault
-use Rattle.occ_reading.specs.declared.fault.Which.{Which}
-use Rattle.occ_reading.specs.Limits.{line_limit, line_fault, stop_at, stopped}
-use Rattle.occ_reading.specs.Reading.{IsSaid, AreForms}
+use Rattle.occ_lex_symbols.specs.declared.symbol.Row.{Row}
+use Rattle.occ_parse_rules.specs.Forest.{Laid}
+use Rattle.occ_parse_layout.specs.declared.placed.Placed.{Placed}
+use Rattle.occ_parse_layout.specs.Layout.{laid_rows}
+use Rattle.occ_parse_reading.specs.declared.bound.Bound.{Bound}
+use Rattle.occ_parse_reading.specs.declared.fault.ParseFault.{ParseFault}
+use Rattle.occ_parse_reading.specs.declared.fault.ParseFault.TheVariants as fault
+use Rattle.occ_parse_reading.specs.declared.fault.Which.{Which}
+use Rattle.occ_parse_reading.specs.Limits.{line_limit, stop_at, stopped}
+use Rattle.occ_parse_reading.specs.Reading.{IsSaid, AreForms}
 
 -- so many rows are done, and what is left decides what follows and where it stops
 pub record Passed (b : Bound) (rows : List Row) (found : Option (ℕ × LineFault)) (done : List Laid) (left : List Row) : Type 0 where
@@ -40,10 +40,6 @@ module _ (b : Bound) (rows : List Row) (found : Option (ℕ × LineFault)) where
       let P : List Row × Option ParseFault → Type 0 = λ s. AreForms s.0 [] in
       subst (AreForms (stopped b rows found).0) (append-nil done) (p.forms [] (subst (λ o. P (stop_at row o others)) (sym over) tt))
 
-  over_stop : (done : List Laid) (row : Row) (left : List Row) (w : Which) → Passed b rows found done (row ∷ left) → line_limit b row ≡ Some w
-      → (stopped b rows found).1 ≡ Some (fault.Limit w row.number)
-  over_stop done row left w p over = sym p.stop ∙ ap (λ o. (stop_at row o (stopped b left found)).1) over
-
 -- the rows that are left, at a place
 module _ (b : Bound) (rows : List Row) (found : Option (ℕ × LineFault)) (i : ℕ) (row : Row) (items : List Placed) where
   pub first_left : Passed b rows found [] (drop 0 rows)
@@ -52,27 +48,12 @@ module _ (b : Bound) (rows : List Row) (found : Option (ℕ × LineFault)) (i : 
   here : i < length rows → row ≡ get_or rows i row → Passed b rows found (laid_rows items) (drop i rows) → Passed b rows found (laid_rows items) (row ∷ drop (i + 1) rows)
   here h e p = subst (Passed b rows found (laid_rows items)) (drop_more rows i row h ∙ ap (λ r. r ∷ drop (i + 1) rows) (sym e)) p
 
-  pub next_left : (line : Placed) (new : List Placed) → i < length rows → row ≡ get_or rows i row → Passed b rows found (laid_rows items) (drop i rows)
-      → None ≡ line_limit b row → IsSaid row (laid line) → new ≡ items ++ line ∷ [] → Passed b rows found (laid_rows new) (drop (i + 1) rows)
-  next_left line new h e p none said pushed =
-      subst (λ ls. Passed b rows found ls (drop (i + 1) rows)) (sym (ap laid_rows pushed ∙ map-append laid items (line ∷ [])))
-      (one_more b rows found (laid_rows items) row (drop (i + 1) rows) (laid line) (here h e p) (sym none) said)
-
   pub over_left_forms : (w : Which) → i < length rows → row ≡ get_or rows i row → Passed b rows found (laid_rows items) (drop i rows) → Some w ≡ line_limit b row
       → AreForms (stopped b rows found).0 (laid_rows items)
   over_left_forms w h e p over = over_forms b rows found (laid_rows items) row (drop (i + 1) rows) w (here h e p) (sym over)
-
-  pub over_left_stop : (w : Which) → i < length rows → row ≡ get_or rows i row → Passed b rows found (laid_rows items) (drop i rows) → Some w ≡ line_limit b row
-      → (stopped b rows found).1 ≡ Some (fault.Limit w row.number)
-  over_left_stop w h e p over = over_stop b rows found (laid_rows items) row (drop (i + 1) rows) w (here h e p) (sym over)
 
 module _ (b : Bound) (rows : List Row) (found : Option (ℕ × LineFault)) (i : ℕ) (items : List Placed) where
   pub none_left_forms : length rows ≤ i → Passed b rows found (laid_rows items) (drop i rows) → AreForms (stopped b rows found).0 (laid_rows items)
   none_left_forms h p =
       let q : Passed b rows found (laid_rows items) [] = subst (Passed b rows found (laid_rows items)) (drop_all i rows h) p in
       subst (AreForms (stopped b rows found).0) (append-nil (laid_rows items)) (q.forms [] tt)
-
-  pub none_left_stop : length rows ≤ i → Passed b rows found (laid_rows items) (drop i rows) → (stopped b rows found).1 ≡ line_fault found
-  none_left_stop h p =
-      let q : Passed b rows found (laid_rows items) [] = subst (Passed b rows found (laid_rows items)) (drop_all i rows h) p in
-      sym q.stop

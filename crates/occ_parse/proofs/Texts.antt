@@ -17,14 +17,14 @@ use Rattle.occ_lex.specs.Placed.{IsTokenOf, IsLineOf}
 use Rattle.occ_lex.specs.Spelling.{is_name, is_numeral, is_reserved, is_sign, kind_of, value_of}
 use Rattle.occ_lex.specs.Token.{text_of}
 use Rattle.occ_lex.specs.Tokens.{judged}
-use Rattle.occ_symbol.specs.declared.symbol.Keyword.{Keyword}
-use Rattle.occ_symbol.specs.declared.symbol.Keyword.TheVariants as word
-use Rattle.occ_symbol.specs.declared.symbol.Symbol.{Symbol}
-use Rattle.occ_symbol.specs.declared.symbol.Symbol.TheVariants as symbol
-use Rattle.occ_symbol.specs.Symbols.{Extends, names_with, rows_of, symbol_of, symbols_of, with_names, with_names_of_all}
-use Rattle.occ_symbol.specs.Words.{keyword_of, keywords, look_up}
-use Rattle.occ_symbol.proofs.Interned.{extends_trans, extends_names, extends_all, longer}
-use Rattle.occ_kept.specs.Passing.{keyword_passes, symbol_passes}
+use Rattle.occ_lex_symbols.specs.declared.symbol.Keyword.{Keyword}
+use Rattle.occ_lex_symbols.specs.declared.symbol.Keyword.TheVariants as word
+use Rattle.occ_lex_symbols.specs.declared.symbol.Symbol.{Symbol}
+use Rattle.occ_lex_symbols.specs.declared.symbol.Symbol.TheVariants as symbol
+use Rattle.occ_lex_symbols.specs.Symbols.{Extends, names_with, rows_of, symbol_of, symbols_of, with_names, with_names_of_all}
+use Rattle.occ_lex_symbols.specs.Words.{keyword_of, keywords, look_up}
+use Rattle.occ_lex_symbols.proofs.Interned.{extends_trans, extends_names, extends_all, longer}
+use Rattle.occ_parse_sound.specs.Passing.{keyword_passes, symbol_passes}
 
 -- ---- tables
 

@@ -1,10 +1,10 @@
 ghost use Rattle.std.specs.Prelude.{◌≡◌, true};
-ghost use Rattle.occ_draft.specs.Forest.{forest};
-ghost use Rattle.occ_reading.specs.Drafts.{begins_with_header, header_below, header_line, header_name, header_params};
+ghost use Rattle.occ_parse_rules.specs.Forest.{forest};
+ghost use Rattle.occ_parse_reading.specs.Drafts.{begins_with_header, header_below, header_line, header_name, header_params};
 
 use occ_base::Name;
-use occ_draft::Node;
-use occ_form::{Form, Param};
+use occ_parse_forms::{Form, Param};
+use occ_parse_rules::Node;
 
 /// The header of a program: its line, the program's name and parameters, and the lines below it.
 #[derive(Clone, Copy, Debug)]

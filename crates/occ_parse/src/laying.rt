@@ -1,20 +1,20 @@
 //! The lines of a text as a forest.
 
 ghost use Rattle.std.specs.Prelude.{◌≡◌, ◌⊎◌, ◌<◌, length, false, IfOk, IfErr, OnOk};
-ghost use Rattle.occ_symbol.specs.Symbols.{Extends};
-ghost use Rattle.occ_draft.specs.Forest.{forest, in_nodes};
-ghost use Rattle.occ_reading.specs.Limits.{is_too_long};
-ghost use Rattle.occ_reading.specs.Reading.{AreJudged, IsLaidOut, IsRefused, names_in};
+ghost use Rattle.occ_lex_symbols.specs.Symbols.{Extends};
+ghost use Rattle.occ_parse_rules.specs.Forest.{forest, in_nodes};
+ghost use Rattle.occ_parse_reading.specs.Limits.{is_too_long};
+ghost use Rattle.occ_parse_reading.specs.Reading.{AreJudged, IsLaidOut, IsRefused, names_in};
 ghost use Rattle.occ_parse.specs.Laying.{IsWellLaid, IsIllLaid};
-ghost use Rattle.occ_layout.specs.Layout.{laid_rows};
+ghost use Rattle.occ_parse_layout.specs.Layout.{laid_rows};
 
 use crate::limits::frame_of;
 use crate::stopping::{Judged, judge_rows};
 use occ_base::Names;
-use occ_draft::Nodes;
-use occ_layout::{grown, least_bad};
-use occ_reading::{Bound, ParseFault};
-use occ_symbol::rows;
+use occ_lex_symbols::rows;
+use occ_parse_layout::{grown, least_bad};
+use occ_parse_reading::{Bound, ParseFault};
+use occ_parse_rules::Nodes;
 use std::alloc::Global;
 
 /// The forest of lines that are well laid out, where no faulty line stands behind them.

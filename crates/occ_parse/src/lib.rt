@@ -3,7 +3,7 @@
 //! programs. What stands behind a line that can't be read isn't looked at.
 //!
 //! The language is that of C. A. R. Hoare and A. W. Roscoe (The laws of occam programming, 1988), with arrays and
-//! replicators. `occ_reading` defines what a text reads as.
+//! replicators. `occ_parse_reading` defines what a text reads as.
 #![tactic(auto)]
 
 mod drafting;
@@ -15,6 +15,6 @@ mod stopping;
 #[cfg(test)]
 mod tests;
 
-pub use occ_reading::{Bound, ParseFault, Which};
+pub use occ_parse_reading::{Bound, ParseFault, Which};
 pub use reading::{LineNumbers, Text, parse};
 pub use stopping::{Judged, judge_rows};

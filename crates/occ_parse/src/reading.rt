@@ -1,9 +1,9 @@
 ghost use Rattle.std.specs.Prelude.{◌≡◌, ◌⊎◌, ◌<◌, length, true, IfOk, IfErr};
 ghost use Rattle.occ_syntax.specs.View.{tree};
-ghost use Rattle.occ_symbol.specs.Symbols.{Extends};
+ghost use Rattle.occ_lex_symbols.specs.Symbols.{Extends};
 ghost use Rattle.occ_usage.specs.Accepted.{IsTyped};
-ghost use Rattle.occ_reading.specs.Limits.{is_limited};
-ghost use Rattle.occ_reading.specs.Reading.{IsRead, IsRefused};
+ghost use Rattle.occ_parse_reading.specs.Limits.{is_limited};
+ghost use Rattle.occ_parse_reading.specs.Reading.{IsRead, IsRefused};
 ghost use Rattle.occ_parse.specs.Known.{NamesAreKnown};
 
 use crate::drafting::draft_fault;
@@ -11,9 +11,9 @@ use crate::header::header_of;
 use crate::laying::laid_out;
 use crate::limits::is_too_long;
 use occ_base::{List, Names};
-use occ_reading::{Bound, ParseFault, Which};
+use occ_parse_reading::{Bound, ParseFault, Which};
+use occ_parse_unroll::unroll;
 use occ_syntax::Program;
-use occ_unroll::unroll;
 use std::alloc::Global;
 
 /// The numbers of lines.

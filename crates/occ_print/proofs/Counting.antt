@@ -11,7 +11,7 @@ use Rattle.occ_syntax.specs.Counts.{capped}
 use Rattle.occ_syntax.specs.Declarations.{declaring}
 use Rattle.occ_syntax.specs.Tree.{Tree, skip, stop, assign, receive, send, seq, par, select, alt, declare, connect, Trees, no_tree, and_tree, Cases, no_case, and_case, Branches, no_branch, and_branch}
 use Rattle.occ_syntax.specs.View.{exp, waiting, tree, trees, cases, branches}
-use Rattle.occ_form.specs.Lines.{comma}
+use Rattle.occ_parse_forms.specs.Lines.{comma}
 use Rattle.occ_print.specs.Symbols.{comma_behind, name_symbol, separated, whole_symbols, assign_symbols, send_symbols, guard_symbols, declaration_symbols}
 use Rattle.occ_print.specs.Lines.{TextLine, part_lines, all_lines, case_lines, branch_lines, most_symbols}
 use Rattle.occ_print.proofs.Lists.{is_none, none_taken, separated-more, is_none-map}

@@ -9,12 +9,12 @@ use Rattle.occ_syntax.specs.declared.expr.Op.TheVariants as op
 use Rattle.occ_syntax.specs.declared.scope.Kind.{Kind}
 use Rattle.occ_syntax.specs.declared.scope.Kind.TheVariants as kind
 use Rattle.occ_syntax.specs.Tree.{Exp, variable, numeral, truth, negation, complement, operation, Waiting, ready, input, output, Tree, skip, stop, assign, receive, send, seq, par, select, alt, declare, connect, Trees, no_tree, and_tree, Cases, no_case, and_case, Branches, no_branch, and_branch}
-use Rattle.occ_symbol.specs.declared.symbol.Symbol.{Symbol}
-use Rattle.occ_symbol.specs.declared.symbol.Sign.TheVariants as sign
-use Rattle.occ_symbol.specs.declared.symbol.Symbol.TheVariants as symbol
-use Rattle.occ_symbol.specs.Symbols.{IsKnown}
-use Rattle.occ_form.specs.Lines.{comma, kind_words, mark_words}
-use Rattle.occ_form.specs.Written.{op_word, truth_word}
+use Rattle.occ_lex_symbols.specs.declared.symbol.Symbol.{Symbol}
+use Rattle.occ_lex_symbols.specs.declared.symbol.Sign.TheVariants as sign
+use Rattle.occ_lex_symbols.specs.declared.symbol.Symbol.TheVariants as symbol
+use Rattle.occ_lex_symbols.specs.Symbols.{IsKnown}
+use Rattle.occ_parse_forms.specs.Lines.{comma, kind_words, mark_words}
+use Rattle.occ_parse_forms.specs.Written.{op_word, truth_word}
 use Rattle.occ_print.specs.Symbols.{name_symbol, separated, is_operation, goes_on, compares_numerals, in_brackets, width_symbols, exp_symbols, whole_symbols, assign_symbols, waiting_symbols, is_true, is_ready, guard_symbols, named_symbols, declaration_symbols, header_symbols}
 use Rattle.occ_print.specs.Lines.{TextLine, part_lines, all_lines, case_lines, branch_lines}
 use Rattle.occ_print.specs.Known.{ExpIsKnown, WaitingIsKnown, PartIsKnown, PartsAreKnown, CasesAreKnown, BranchesAreKnown, LinesAreKnown}

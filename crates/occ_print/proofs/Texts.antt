@@ -1,13 +1,13 @@
 -- The text of lines, symbol by symbol and line by line.
-use Rattle.std.proofs.Common.{◌≡◌, ℕ, zero, suc, ◌+◌, ◌-◌, ◌*◌, ◌<◌, ◌≤◌, Bool, List, [], ◌∷◌, ◌++◌, length, get_or, take, drop, map, replicate, Option, Some, refl, ap, sym, ◌∙◌, arith, append_assoc}
+use Rattle.std.proofs.Common.{◌≡◌, ℕ, zero, suc, ◌+◌, ◌-◌, ◌*◌, ◌<◌, Bool, List, [], ◌∷◌, ◌++◌, length, get_or, take, drop, map, replicate, Option, Some, refl, ap, sym, ◌∙◌, arith, append_assoc}
 use Rattle.std.specs.Prelude.{decimal}
 use Rattle.std.specs.List.{prefix_len}
-use Rattle.std.proofs.lemmas.List.{append-nil, take-append-drop, at_drop_more, at_drop_all, map-append}
+use Rattle.std.proofs.lemmas.List.{append-nil, take-append-drop, at_drop_more, map-append}
 use Rattle.std.proofs.lemmas.Grind.{flat_map-append}
 use Rattle.occ_lex.specs.Printed.{Piece, piece_text, pieces_text, printed_line, printed_text}
 use Rattle.occ_lex.specs.Spelling.{is_name_byte}
-use Rattle.occ_symbol.specs.declared.symbol.Symbol.{Symbol}
-use Rattle.occ_symbol.specs.declared.symbol.Symbol.TheVariants as symbol
+use Rattle.occ_lex_symbols.specs.declared.symbol.Symbol.{Symbol}
+use Rattle.occ_lex_symbols.specs.declared.symbol.Symbol.TheVariants as symbol
 use Rattle.occ_print.specs.Lines.{TextLine}
 use Rattle.occ_print.specs.Spelled.{keyword_text, sign_text, name_text, symbol_text, gap, index_pieces, name_pieces, symbol_pieces, pieces_behind, printed, lines_text}
 
@@ -48,11 +48,6 @@ symbol_more names header before symbols i d t0 t1 t2 h e f =
     ap (λ t. t ++ rest) (f ∙ ap (λ t. t ++ symbol_text names s) e ∙ append_assoc t0 (replicate g 32) (symbol_text names s))
     ∙ append_assoc t0 (replicate g 32 ++ symbol_text names s) rest ∙ ap (λ t. t0 ++ t) (sym k)
 
-pub no_symbol_more : (names : List (List ℕ)) (header : Bool) (before : Option Symbol) (symbols : List Symbol) (i : ℕ) (t0 : List ℕ)
-    → length symbols ≤ i → t0 ++ pieces_text (pieces_behind names header before (drop i symbols)) ≡ t0
-no_symbol_more names header before symbols i t0 h =
-    ap (λ t. t0 ++ t) (at_drop_all (λ ss. pieces_text (pieces_behind names header before ss)) symbols i h) ∙ append-nil t0
-
 -- two spaces more
 two_more : (n : ℕ) → replicate {A = ℕ} (n + 2) 32 ≡ replicate {A = ℕ} n 32 ++ 32 ∷ 32 ∷ []
 two_more zero = refl
@@ -75,9 +70,6 @@ lines_text-append names xs ys =
 pub line_then : (names : List (List ℕ)) (l : TextLine) (ls : List TextLine) (t0 t1 t2 : List ℕ)
     → t1 ≡ t0 ++ printed_line (printed names l) → t2 ≡ t1 ++ lines_text names ls → t2 ≡ t0 ++ lines_text names (l ∷ ls)
 line_then names l ls t0 t1 t2 e f = f ∙ ap (λ t. t ++ lines_text names ls) e ∙ append_assoc t0 (printed_line (printed names l)) (lines_text names ls)
-
-pub line_alone : (names : List (List ℕ)) (l : TextLine) (t0 t1 : List ℕ) → t1 ≡ t0 ++ printed_line (printed names l) → t1 ≡ t0 ++ lines_text names (l ∷ [])
-line_alone names l t0 t1 e = e ∙ ap (λ t. t0 ++ t) (sym (append-nil (printed_line (printed names l))))
 
 -- lines that were printed in front of those that are left
 pub lines_before : (names : List (List ℕ)) (all front back : List TextLine) (t0 t1 : List ℕ)

@@ -9,12 +9,12 @@ use Rattle.occ_lex.specs.declared.token.TokenKind.{TokenKind}
 use Rattle.occ_lex.specs.declared.token.TokenKind.TheVariants as token
 use Rattle.occ_lex.specs.Printed.{Piece, Printed, printed_text}
 use Rattle.occ_lex.specs.Spelling.{is_name_byte}
-use Rattle.occ_symbol.specs.declared.symbol.Keyword.{Keyword}
-use Rattle.occ_symbol.specs.declared.symbol.Keyword.TheVariants as word
-use Rattle.occ_symbol.specs.declared.symbol.Sign.{Sign}
-use Rattle.occ_symbol.specs.declared.symbol.Sign.TheVariants as sign
-use Rattle.occ_symbol.specs.declared.symbol.Symbol.{Symbol}
-use Rattle.occ_symbol.specs.declared.symbol.Symbol.TheVariants as symbol
+use Rattle.occ_lex_symbols.specs.declared.symbol.Keyword.{Keyword}
+use Rattle.occ_lex_symbols.specs.declared.symbol.Keyword.TheVariants as word
+use Rattle.occ_lex_symbols.specs.declared.symbol.Sign.{Sign}
+use Rattle.occ_lex_symbols.specs.declared.symbol.Sign.TheVariants as sign
+use Rattle.occ_lex_symbols.specs.declared.symbol.Symbol.{Symbol}
+use Rattle.occ_lex_symbols.specs.declared.symbol.Symbol.TheVariants as symbol
 use Rattle.occ_print.specs.Lines.{TextLine, part_lines, program_lines}
 
 -- ---- the text of a symbol

@@ -7,13 +7,13 @@ use Rattle.occ_syntax.specs.declared.expr.Op.{Op}
 use Rattle.occ_syntax.specs.declared.expr.Op.TheVariants as op
 use Rattle.occ_syntax.specs.declared.scope.Kind.{Kind}
 use Rattle.occ_syntax.specs.Tree.{Exp, variable, numeral, truth, negation, complement, operation, Waiting, ready, input, output}
-use Rattle.occ_symbol.specs.declared.symbol.Keyword.{Keyword}
-use Rattle.occ_symbol.specs.declared.symbol.Keyword.TheVariants as word
-use Rattle.occ_symbol.specs.declared.symbol.Sign.TheVariants as sign
-use Rattle.occ_symbol.specs.declared.symbol.Symbol.{Symbol}
-use Rattle.occ_symbol.specs.declared.symbol.Symbol.TheVariants as symbol
-use Rattle.occ_form.specs.Lines.{comma, kind_words, mark_words}
-use Rattle.occ_form.specs.Written.{op_word, truth_word}
+use Rattle.occ_lex_symbols.specs.declared.symbol.Keyword.{Keyword}
+use Rattle.occ_lex_symbols.specs.declared.symbol.Keyword.TheVariants as word
+use Rattle.occ_lex_symbols.specs.declared.symbol.Sign.TheVariants as sign
+use Rattle.occ_lex_symbols.specs.declared.symbol.Symbol.{Symbol}
+use Rattle.occ_lex_symbols.specs.declared.symbol.Symbol.TheVariants as symbol
+use Rattle.occ_parse_forms.specs.Lines.{comma, kind_words, mark_words}
+use Rattle.occ_parse_forms.specs.Written.{op_word, truth_word}
 
 abbrev pub name_symbol : ℕ → Symbol
 name_symbol x = symbol.Name (record { 0 = x })

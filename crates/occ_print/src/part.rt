@@ -2,7 +2,7 @@ ghost use Rattle.std.specs.Prelude.{◌≡◌, ◌++◌, false, OnOk};
 ghost use Rattle.occ_syntax.specs.Declarations.{is_declaration};
 ghost use Rattle.std.specs.List.{AllByRecursion};
 ghost use Rattle.occ_lex.specs.Printed.{printed_line};
-ghost use Rattle.occ_symbol.specs.Symbols.{IsKnown};
+ghost use Rattle.occ_lex_symbols.specs.Symbols.{IsKnown};
 ghost use Rattle.occ_syntax.specs.View.{exp, exps, numbers, tree, trees, cases, branches, waiting};
 ghost use Rattle.occ_print.specs.Known.{LinesAreKnown};
 ghost use Rattle.occ_print.specs.Levels.{level_of};
@@ -15,7 +15,7 @@ use crate::level::Level;
 use crate::line::push_line;
 use crate::simple::{push_assignment, push_declaration, push_guard, push_input, push_output};
 use occ_base::{Memory, Name, Names};
-use occ_symbol::{Keyword, Symbol, Symbols};
+use occ_lex_symbols::{Keyword, Symbol, Symbols};
 use occ_syntax::{Expr, Guard, Kind, Proc};
 use std::alloc::Global;
 

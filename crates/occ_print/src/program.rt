@@ -8,7 +8,7 @@ use crate::line::push_line;
 use crate::part::push_part;
 use crate::simple::push_header;
 use occ_base::{Memory, Names};
-use occ_symbol::{Sign, Symbol, Symbols};
+use occ_lex_symbols::{Sign, Symbol, Symbols};
 use occ_syntax::{Proc, Program};
 use std::alloc::Global;
 

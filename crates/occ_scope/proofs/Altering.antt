@@ -70,9 +70,6 @@ numbered_same (Restrict chan) = refl
 numbered_same (Forget bits) = refl
 numbered_same (Shift change) = refl
 
-pub changed_recalled : (w : World) (c : Change) (memo : Memo) (p : NodeId) (n r : ℕ) → n ≡ number_of c → AreChanged w c memo → recalled memo (record { first = p.0; second = n; third = 0 }) ≡ Some r → IsChanged w c p (node r)
-changed_recalled w c memo p n r is are e = subst (λ d. IsChanged w d p (node r)) (ap (numbered c) is ∙ numbered_same c) (are.each (record { first = p.0; second = n; third = 0 }) r e)
-
 pub changed_learnt : (w : World) (c : Change) (old new : Memo) (p r : NodeId) (n : ℕ) → n ≡ number_of c → AreChanged w c old → IsChanged w c p r → Learns old new (record { first = p.0; second = n; third = 0 }) r.0 → AreChanged w c new
 changed_learnt w c old new p r n at are is learns = record {
   each = λ k m e. ⊎_elim

@@ -19,7 +19,3 @@ weight-declaring x (Chan w d) p = refl
 -- a capped count and one more
 pub one_more : (a r n m : ℕ) → r ≡ capped a → n ≡ min (r + 1) (2 ^ 64 - 1) → m ≡ 1 + a → n ≡ capped m
 one_more a r n m e f g = omega arith
-
--- two capped counts together
-pub both_counts : (a b c x y : ℕ) → x ≡ capped a → y ≡ capped b → c ≡ min (x + y) (2 ^ 64 - 1) → c ≡ capped (a + b)
-both_counts a b c x y e f g = omega arith

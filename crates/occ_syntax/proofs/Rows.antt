@@ -11,13 +11,6 @@ use Rattle.occ_syntax.specs.Tree.{Exp, Waiting, Tree, skip, seq, par, select, al
 use Rattle.occ_syntax.specs.Declarations.{declaring}
 use Rattle.occ_syntax.specs.View.{numbers, exp, waiting, tree, trees, cases, branches}
 
--- two lists that look alike so far, and at the next item too
-pub alike_more : {A B : Type 0} (f : A → B) (xs ys : List A) (i : ℕ) (x y : A) → i < length xs → i < length ys → x ≡ get_or xs i x → y ≡ get_or ys i y → f x ≡ f y
-    → map f (take i xs) ≡ map f (take i ys) → map f (take (i + 1) xs) ≡ map f (take (i + 1) ys)
-alike_more f xs ys i x y h k d e g so_far =
-    let at : f (get_or xs i x) ≡ f (get_or ys i y) = ap f (sym d) ∙ g ∙ ap f e in
-    map_more f xs i x h ∙ ap (λ zs. zs ++ f (get_or xs i x) ∷ []) so_far ∙ ap (λ z. map f (take i ys) ++ z ∷ []) at ∙ sym (map_more f ys i y k)
-
 -- two lists that look alike do so at each place
 pub alike_at : {A B : Type 0} (f : A → B) (xs ys : List A) (i : ℕ) (x y : A) → i < length xs → i < length ys → x ≡ get_or xs i x → y ≡ get_or ys i y → map f xs ≡ map f ys → f x ≡ f y
 alike_at f xs ys i x y h k d e g =
@@ -93,9 +86,6 @@ same_cases cs ds e = cases_to cs ∙ ap to_cases e ∙ sym (cases_to ds)
 pub cases_tell : (cs ds : List (Expr × Proc)) → cases cs ≡ cases ds → map choice cs ≡ map choice ds
 cases_tell cs ds e = sym (cases_from cs) ∙ ap from_cases e ∙ cases_from ds
 
-pub same_choice : (c d : Expr × Proc) → exp c.0 ≡ exp d.0 → tree c.1 ≡ tree d.1 → choice c ≡ choice d
-same_choice c d e f = ap (λ x. (x, tree c.1)) e ∙ ap (λ p. (exp d.0, p)) f
-
 -- an alternative as it looks
 abbrev pub alternative : Guard × Proc → Exp × Waiting × Tree
 alternative b = (exp b.0.condition, waiting b.0.wait, tree b.1)
@@ -123,10 +113,6 @@ same_branches bs ds e = branches_to bs ∙ ap to_branches e ∙ sym (branches_to
 
 pub branches_tell : (bs ds : List (Guard × Proc)) → branches bs ≡ branches ds → map alternative bs ≡ map alternative ds
 branches_tell bs ds e = sym (branches_from bs) ∙ ap from_branches e ∙ branches_from ds
-
-pub same_alternative : (b d : Guard × Proc) → exp b.0.condition ≡ exp d.0.condition → waiting b.0.wait ≡ waiting d.0.wait → tree b.1 ≡ tree d.1 → alternative b ≡ alternative d
-same_alternative b d e f g =
-    ap (λ x. (x, waiting b.0.wait, tree b.1)) e ∙ ap (λ w. (exp d.0.condition, w, tree b.1)) f ∙ ap (λ p. (exp d.0.condition, waiting d.0.wait, p)) g
 
 -- what a test that failed, or held, says of a fact
 pub refuted : {P : Type 0} → (P → ⊥) → IsTrue false ↔ P

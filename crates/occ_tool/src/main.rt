@@ -2,7 +2,7 @@
 #![tactic(auto)]
 
 use occ_desk::RealDesk;
-use occ_top::run;
+use occ_tool_run::run;
 use std::env;
 use std::io::ErrorKind;
 use std::process::ExitCode;

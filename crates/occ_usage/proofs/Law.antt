@@ -17,8 +17,8 @@ use Rattle.occ_syntax.specs.Scopes.{Environment, environment, with_name}
 use Rattle.occ_syntax.specs.Tree.{Tree, skip, stop, assign, receive, send, seq, par, select, alt, declare, connect, Trees, no_tree, and_tree, Cases, no_case, and_case, Branches, no_branch, and_branch}
 use Rattle.occ_syntax.specs.Types.{types_kept, all_types_kept, cases_kept, branches_kept, is_condition, waiting_kept, can_declare}
 use Rattle.occ_syntax.specs.Usage.{IsSeparate, KeepsUsage, AllKeepUsage, AreSeparate, CasesKeepUsage, BranchesKeepUsage}
-use Rattle.occ_laws.proofs.Free.{not_written, none_written, no_end, some_no_end}
-use Rattle.occ_laws.proofs.InScope.{free_in_scope}
+use Rattle.occ_meaning.proofs.Free.{not_written, none_written, no_end, some_no_end}
+use Rattle.occ_meaning.proofs.InScope.{free_in_scope}
 use Rattle.occ_usage.specs.declared.fault.UsageFault.{UsageFault}
 use Rattle.occ_usage.specs.declared.fault.UsageFault.TheVariants.{SharedVariable, SharedEnd, Memory}
 use Rattle.occ_usage.specs.Accepted.{IsTyped, IsAccepted, IsFaultless, IsFirst, usage_faults}

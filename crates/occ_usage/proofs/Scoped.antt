@@ -1,12 +1,12 @@
 -- Environments of lists, and the rules of types in other words.
-use Rattle.std.proofs.Common.{◌≡◌, ℕ, ◌+◌, ◌<◌, ◌≤◌, ◌==◌, Bool, true, false, true≢false, IsTrue, ◌↔◌, cond, not, ◌&&◌, ◌||◌, Option, Some, None, is_none, is_some, List, [], ◌∷◌, ◌++◌, length, get_or, take, drop, map, refl, sym, ap, ◌∙◌, subst, arith, append_assoc, append-nil}
+use Rattle.std.proofs.Common.{◌≡◌, ℕ, ◌+◌, ◌<◌, ◌≤◌, ◌==◌, Bool, true, false, true≢false, IsTrue, ◌↔◌, cond, not, ◌&&◌, ◌||◌, Option, Some, None, is_none, is_some, List, [], ◌∷◌, ◌++◌, length, get_or, take, drop, refl, sym, ap, ◌∙◌, arith, append_assoc}
 use mathlib.Core.Bool.{beq}
 use mathlib.Core.Path.{fun_ext}
 use Rattle.std.specs.List.{list_any}
 use Rattle.std.specs.Map.{lookup}
 use Rattle.indexmap.specs.IndexMap.{insert_entry}
 use Rattle.std.proofs.lemmas.Bool.{eqb-true, and_parts}
-use Rattle.std.proofs.lemmas.List.{at_drop_more, at_drop_all, drop_all, drop_more, take-append-le, length_push}
+use Rattle.std.proofs.lemmas.List.{at_drop_more, drop_all, drop_more, take-append-le, length_push}
 use Rattle.occ_base.specs.declared.names.Name.{Name}
 use Rattle.occ_syntax.specs.declared.expr.Expr.{Expr}
 use Rattle.occ_syntax.specs.declared.scope.Kind.{Kind}
@@ -16,7 +16,6 @@ use Rattle.occ_syntax.specs.Declarations.{declaring}
 use Rattle.occ_syntax.specs.Scopes.{Environment, environment, with_name, variable_width}
 use Rattle.occ_syntax.specs.Tree.{Tree, Exp}
 use Rattle.occ_syntax.specs.Types.{agree, type_of, is_width, width_of_kind, can_declare, types_kept, is_pair, pairs_kept, scope_kept}
-use Rattle.occ_syntax.specs.Usage.{KeepsUsage}
 use Rattle.occ_syntax.specs.View.{numbers, exp, exps, tree}
 use Rattle.occ_names.specs.Once.{has, with_one, is_distinct, same_number}
 use Rattle.occ_names.specs.Mentions.{called}
@@ -237,12 +236,6 @@ insert_new (e ∷ es) n k h = new_at (n.0 == e.0.0) n k e.1 (environment es n.0)
 
 refuted : {P : Type 0} → (P → ⊥) → IsTrue false ↔ P
 refuted wrong = (λ h. absurd (true≢false (sym h)), λ p. absurd (wrong p))
-
-pub wrong_scope : (program : Program) → scope_kept program.params ≡ false → IsTrue false ↔ KeepsRules program
-wrong_scope program e = refuted (λ r. true≢false (sym r.scope ∙ e))
-
-pub wrong_types : (program : Program) → types_kept (tree program.body) (environment program.params) ≡ false → IsTrue false ↔ KeepsRules program
-wrong_types program e = refuted (λ r. true≢false (sym r.keeps.types ∙ e))
 
 usage_told : (program : Program) (fs : List UsageFault) → fs ≡ usage_faults program → is_none (first fs) ≡ true → first fs ≡ None
 usage_told program [] e h = refl

@@ -1,12 +1,11 @@
 -- Sets to which the names of parts are added.
-use Rattle.std.proofs.Common.{◌≡◌, ℕ, ◌+◌, ◌<◌, ◌≤◌, ◌==◌, Bool, true, false, cond, not, ◌&&◌, ◌||◌, Option, Some, None, List, [], ◌∷◌, ◌++◌, length, get_or, take, drop, refl, sym, ap, ◌∙◌, subst}
+use Rattle.std.proofs.Common.{◌≡◌, ℕ, ◌+◌, ◌<◌, ◌≤◌, Bool, true, false, cond, ◌&&◌, ◌||◌, List, [], ◌∷◌, ◌++◌, length, get_or, take, drop, refl, sym, ap, ◌∙◌, subst}
 use mathlib.Core.Bool.{beq}
 use mathlib.Core.Path.{fun_ext}
-use Rattle.std.specs.List.{list_any}
 use Rattle.std.proofs.lemmas.Bool.{and_parts}
 use Rattle.std.proofs.lemmas.List.{at_drop_more, at_drop_all, take_more}
 use Rattle.occ_base.specs.declared.event.Dir.{Dir}
-use Rattle.occ_base.specs.declared.event.Dir.TheVariants.{Input, Output}
+use Rattle.occ_base.specs.declared.event.Dir.TheVariants.{Input}
 use Rattle.occ_base.specs.declared.names.Name.{Name}
 use Rattle.occ_syntax.specs.declared.proc.Proc.{Proc}
 use Rattle.occ_syntax.specs.Names.{is_in, free, written, uses_end, free_in_some, written_in_some, end_in_some}
@@ -14,11 +13,9 @@ use Rattle.occ_syntax.specs.Tree.{Tree, Trees, no_tree, and_tree}
 use Rattle.occ_syntax.specs.View.{numbers, tree, trees}
 use Rattle.occ_names.specs.Once.{has, with_one, same_number}
 use Rattle.occ_names.specs.Mentions.{called, same_end, end_number, end_numbers}
-use Rattle.occ_names.proofs.Listed.{IsTest, has_more_at, swap, or_nothing, numbers_tested, ends_tested}
-use Rattle.occ_usage.specs.declared.fault.UsageFault.{UsageFault}
-use Rattle.occ_usage.specs.Faults.{shared_variable, shared_end, variable_faults, end_faults, first}
+use Rattle.occ_names.proofs.Listed.{IsTest, has_more_at, swap, or_nothing, numbers_tested}
+use Rattle.occ_usage.specs.Faults.{shared_variable, shared_end, end_faults}
 use Rattle.occ_usage.specs.Sharing.{Shares, with_part}
-use Rattle.occ_usage.proofs.Law.{none_then, some_then}
 
 -- ---- equations of tests, tried at each of their values
 
@@ -183,22 +180,5 @@ trees_more ps i p h e =
 
 -- ---- the first fault of a PAR
 
-same_variables : (f g : ℕ → Bool) (n : ℕ) (xs : List ℕ) → ((x : ℕ) → f x ≡ g x) → variable_faults f n xs ≡ variable_faults g n xs
-same_variables f g n xs h = ap (λ t. variable_faults t n xs) (fun_ext h)
-
 same_ends : (f g : ℕ → Dir → Bool) (n : ℕ) (xs : List ℕ) → ((c : ℕ) (d : Dir) → f c d ≡ g c d) → end_faults f n xs ≡ end_faults g n xs
 same_ends f g n xs h = ap (λ t. end_faults t n xs) (fun_ext (λ c. fun_ext (h c)))
-
-pub variable_found : (ps : Trees) (named written : List ℕ) (used : List (ℕ × Dir)) (shared : List ℕ) (ends : List (ℕ × Dir)) (n : ℕ) (xs : List ℕ) (f : UsageFault)
-    → Shares ps named written used shared ends → Some f ≡ first (variable_faults (is_in shared) n xs)
-    → Some f ≡ first (variable_faults (shared_variable ps) n xs ++ end_faults (shared_end ps) n xs)
-variable_found ps named written used shared ends n xs f h e =
-    sym (some_then (variable_faults (shared_variable ps) n xs) (end_faults (shared_end ps) n xs) f
-    (sym (ap first (same_variables (is_in shared) (shared_variable ps) n xs h.variables)) ∙ sym e))
-
-pub end_found : (ps : Trees) (named written : List ℕ) (used : List (ℕ × Dir)) (shared : List ℕ) (ends : List (ℕ × Dir)) (n : ℕ) (xs : List ℕ) (found : Option UsageFault)
-    → Shares ps named written used shared ends → None ≡ first (variable_faults (is_in shared) n xs) → found ≡ first (end_faults (λ c d. has same_end ends (c, d)) n xs)
-    → found ≡ first (variable_faults (shared_variable ps) n xs ++ end_faults (shared_end ps) n xs)
-end_found ps named written used shared ends n xs found h e g =
-    g ∙ ap first (same_ends (λ c d. has same_end ends (c, d)) (shared_end ps) n xs h.ends)
-    ∙ sym (none_then (variable_faults (shared_variable ps) n xs) (end_faults (shared_end ps) n xs) (sym (ap first (same_variables (is_in shared) (shared_variable ps) n xs h.variables)) ∙ sym e))

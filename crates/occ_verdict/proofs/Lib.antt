@@ -1,3 +1,6 @@
-pub mod Overlay
 pub mod Link
 pub mod Unique
+pub mod Least
+pub mod OneFirst
+pub mod Across
+pub mod Roots

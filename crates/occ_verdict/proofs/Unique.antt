@@ -11,9 +11,9 @@ use Rattle.occ_node.specs.declared.node.NodeId.{NodeId}
 use Rattle.occ_node.specs.declared.root.Root.{Root}
 use Rattle.occ_node.specs.declared.world.World.{World}
 use Rattle.occ_compare.specs.Verdicts.{MeanTheSame}
-use Rattle.occ_frame.proofs.After.{same_truth}
-use Rattle.occ_first.specs.Alike.{AreAlike, AreAlikeRoots}
-use Rattle.occ_first.proofs.Roots.{one_first_of}
+use Rattle.occ_norm_frame.proofs.After.{same_truth}
+use Rattle.occ_verdict.specs.Alike.{AreAlike, AreAlikeRoots}
+use Rattle.occ_verdict.proofs.Roots.{one_first_of}
 use Rattle.occ_norm.specs.Root.{IsRoot}
 use Rattle.occ_verdict.specs.Verdict.{IsVerdictOf}
 

@@ -1,8 +1,11 @@
-//! The verdict on two accepted programs of one interface, by their behaviours from each of their initial states.
+//! The verdict on two accepted programs of one interface, by their behaviours from each of their initial states: which world
+//! has their rows doesn't matter to it.
 #![tactic(auto)]
 
+mod first;
 mod law;
 mod verdict;
 
+pub use first::one_first_difference;
 pub use law::one_verdict;
 pub use verdict::decide;

@@ -1,5 +1,5 @@
 use Rattle.std.proofs.Common.{◌≡◌, ap, sym, ◌∙◌, subst, IfOk}
-use Rattle.occ_laws.specs.Substitution.{substituted}
+use Rattle.occ_meaning.specs.Substitution.{substituted}
 use Rattle.occ_syntax.specs.View.{exp, exps}
 use Rattle.occ_names.proofs.Substituted.{value_found, value_none}
 use Rattle.occ_names.proofs.substitution.+put.Goals as goal

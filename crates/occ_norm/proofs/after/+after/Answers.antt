@@ -1,20 +1,20 @@
 use Rattle.occ_syntax.specs.Tree.{seq, par, select, alt, assign, skip, stop, no_tree, and_tree}
 use Rattle.occ_syntax.specs.Types.{branches_kept, is_condition, types_kept, waiting_kept}
-use Rattle.occ_laws.proofs.Facts.{and_four}
-use Rattle.occ_guards.specs.Alternation.{IsAlternation}
-use Rattle.occ_guards.proofs.Alternatives.{alternation_grow}
+use Rattle.occ_meaning.proofs.Facts.{and_four}
+use Rattle.occ_norm_alt.specs.Alternation.{IsAlternation}
+use Rattle.occ_norm_alt.proofs.Alternatives.{alternation_grow}
 use Rattle.occ_syntax.specs.Usage.{KeepsUsage}
 use Rattle.occ_syntax.specs.View.{numbers, exp, exps, tree, trees, cases, branches, waiting}
 use Rattle.occ_syntax.proofs.Views.{tree-Seq, tree-Par, tree-If, tree-Alt}
 use Rattle.occ_syntax.proofs.Weights.{weight, weight-seq, weight-par, weight-select, weight-alt, weight_in_all, weight_in_cases, weight_in_branches}
 use Rattle.occ_syntax.proofs.Counting.{weight-declaring}
 use Rattle.occ_dd.specs.Store.{has}
-use Rattle.occ_frame.specs.After.{IsAfter}
-use Rattle.occ_frame.specs.Placed.{Fits, IsAround}
-use Rattle.occ_frame.proofs.After.{after-extends, after-over, over-extends}
-use Rattle.occ_frame.proofs.Placing.{branch_at, branch_condition, branch_wait, case_at, case_condition, fit_at, fits_alt, fits_assign, fits_can, fits_next, fits_par, fits_receive, fits_select, fits_send, fits_seq}
+use Rattle.occ_norm_frame.specs.After.{IsAfter}
+use Rattle.occ_norm_frame.specs.Placed.{Fits, IsAround}
+use Rattle.occ_norm_frame.proofs.After.{after-extends, after-over, over-extends}
+use Rattle.occ_norm_frame.proofs.Placing.{branch_at, branch_condition, branch_wait, case_at, case_condition, fit_at, fits_alt, fits_assign, fits_can, fits_next, fits_par, fits_receive, fits_select, fits_send, fits_seq}
 use Rattle.std.proofs.Common.{true, ◌-◌, ◌≡◌, ◌≤◌, ◌<◌, ◌+◌, [], ◌∷◌, cond, drop, length, get_or, sym, ap, ◌∙◌, subst, arith}
-use Rattle.occ_lift.proofs.Worlds.{extends_refl, extends_trans, has_nodes-extends}
+use Rattle.occ_norm_maps.proofs.Worlds.{extends_refl, extends_trans, has_nodes-extends}
 use Rattle.occ_norm.specs.Parts.{IsAfterIn}
 use Rattle.occ_norm.proofs.Declaring.{bits_grow, opens_next}
 use Rattle.occ_norm.proofs.Opening.{after_from, freed_after}
@@ -23,11 +23,11 @@ use Rattle.std.proofs.lemmas.Option.{same_Some, slice_get-get_or}
 use Rattle.std.proofs.lemmas.List.{length-append}
 use Rattle.occ_syntax.specs.declared.proc.Proc.{Skip}
 use Rattle.occ_bits.specs.Layout.{laid_out}
-use Rattle.occ_lift.specs.Maps.{IsSkip}
-use Rattle.occ_sides.specs.Sides.{closed_in}
-use Rattle.occ_sides.specs.Joined.{HaveNodes}
+use Rattle.occ_norm_maps.specs.Maps.{IsSkip}
+use Rattle.occ_norm_par.specs.Sides.{closed_in}
+use Rattle.occ_norm_par.specs.Joined.{HaveNodes}
 use Rattle.occ_norm.proofs.Beside.{AreMade, made_more, nodes_more, parts_after}
-use Rattle.occ_sides.proofs.Closing.{closed_all}
+use Rattle.occ_norm_par.proofs.Closing.{closed_all}
 use Rattle.occ_norm.proofs.Steps.{as_is, case_in, empty_in, if_ok, in-extends, no_case_in, keep_below, none_in, one_in, over_in, over_skip, seq_in, skip-extends, skip_in, stop_in, truth_here}
 use Rattle.occ_norm.proofs.Using.{no_parts, branch_usage_at, branches_left, case_usage_at, cases_left, dropped_all, one_tree, trees_left, types_at, usage_at, usage_inside}
 use Rattle.occ_norm.proofs.after.+after.Goals as goal

@@ -6,11 +6,11 @@ use Rattle.occ_syntax.specs.Usage.{KeepsUsage}
 use Rattle.occ_syntax.specs.View.{tree, trees, cases, branches}
 use Rattle.occ_syntax.proofs.Weights.{weight, weight_of_all, weight_of_cases, weight_of_branches}
 use Rattle.occ_follow.specs.Sequence.{HasNodes}
-use Rattle.occ_lift.specs.Maps.{Extends, IsSkip, MayHaveNodes}
-use Rattle.occ_frame.specs.After.{IsOver}
-use Rattle.occ_frame.specs.Placed.{Fits, IsAround}
-use Rattle.occ_guards.specs.Alternation.{IsAlternation}
-use Rattle.occ_sides.specs.Joined.{HaveNodes}
+use Rattle.occ_norm_maps.specs.Maps.{Extends, IsSkip, MayHaveNodes}
+use Rattle.occ_norm_frame.specs.After.{IsOver}
+use Rattle.occ_norm_frame.specs.Placed.{Fits, IsAround}
+use Rattle.occ_norm_alt.specs.Alternation.{IsAlternation}
+use Rattle.occ_norm_par.specs.Joined.{HaveNodes}
 use Rattle.occ_norm.proofs.Beside.{AreMade}
 use Rattle.occ_norm.specs.Parts.{IsAfterIn}
 use Rattle.occ_norm.proofs.Declaring.{Opens}

@@ -1,5 +1,5 @@
 use Rattle.occ_syntax.specs.View.{tree}
-use Rattle.occ_lift.proofs.Worlds.{extends_trans, has_nodes-extends}
+use Rattle.occ_norm_maps.proofs.Worlds.{extends_trans, has_nodes-extends}
 use Rattle.occ_norm.proofs.Rooting.{root_of}
 use Rattle.occ_norm.proofs.Steps.{in-extends, skip-extends}
 use Rattle.occ_norm.proofs.normal.states_of.Goals as goal

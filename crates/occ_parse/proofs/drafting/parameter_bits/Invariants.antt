@@ -1,5 +1,5 @@
 use Rattle.std.proofs.Common.{◌≡◌, ◌+◌, ◌≤◌, min, drop}
-use Rattle.occ_unroll.specs.Bits.{bits_of_params}
+use Rattle.occ_parse_unroll.specs.Bits.{bits_of_params}
 use Rattle.occ_parse.proofs.drafting.parameter_bits.Given as goal
 
 -- the bits so far with those of the parameters that are left are those of all, up to the limit

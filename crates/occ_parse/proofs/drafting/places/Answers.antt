@@ -1,5 +1,5 @@
 use Rattle.std.proofs.Common.{◌∙◌}
-use Rattle.occ_unroll.proofs.Steps.{places_of_array}
+use Rattle.occ_parse_unroll.proofs.Steps.{places_of_array}
 use Rattle.occ_parse.proofs.drafting.places.Goals as goal
 
 pub returns-in-Array-clause-number : goal.returns-in-Array-clause-number

@@ -1,5 +1,5 @@
 use Rattle.std.proofs.Common.{ap, ◌∙◌}
-use Rattle.occ_layout.specs.Layout.{laid_rows, least_bad}
+use Rattle.occ_parse_layout.specs.Layout.{laid_rows, least_bad}
 use Rattle.occ_parse.proofs.Forests.{good_rows_nest}
 use Rattle.occ_parse.proofs.laying.forest_of.Goals as goal
 

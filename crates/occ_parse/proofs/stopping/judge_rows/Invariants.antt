@@ -1,5 +1,5 @@
 use Rattle.std.proofs.Common.{drop}
-use Rattle.occ_layout.specs.Layout.{laid_rows}
+use Rattle.occ_parse_layout.specs.Layout.{laid_rows}
 use Rattle.occ_parse.proofs.Rows.{Passed}
 use Rattle.occ_parse.proofs.stopping.judge_rows.Given as goal
 

@@ -3,7 +3,8 @@ use Rattle.occ_syntax.specs.Scopes.{environment}
 use Rattle.occ_syntax.specs.Types.{types_kept}
 use Rattle.occ_syntax.specs.View.{tree}
 use Rattle.occ_norm.specs.Root.{IsRoot}
-use Rattle.occ_verdict.proofs.Link.{comparable, decided, named, placed, root-extends}
+use Rattle.occ_verdict.proofs.Link.{comparable, decided, named, placed}
+use Rattle.occ_norm.proofs.Rooted.{root-extends}
 use Rattle.occ_verdict.proofs.verdict.decide.Goals as goal
 
 pub compare-requires : goal.compare-requires

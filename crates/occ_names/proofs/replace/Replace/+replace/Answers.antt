@@ -7,7 +7,7 @@ use Rattle.occ_syntax.proofs.Views.{tree-Seq, tree-Par, tree-If, tree-Alt}
 use Rattle.occ_syntax.proofs.Weights.{weight, weight-seq, weight-par, weight-select, weight-alt, weight_in_all, weight_in_cases, weight_in_branches}
 use Rattle.occ_syntax.proofs.Counting.{weight-declaring}
 use Rattle.occ_syntax.proofs.Within.{one_off}
-use Rattle.occ_laws.specs.Rename.{replacing, renamed}
+use Rattle.occ_meaning.specs.Rename.{replacing, renamed}
 use Rattle.occ_names.proofs.Replaced.{renamed-declaring, all_made, cases_made, branches_made, made_choice, made_alternative}
 use Rattle.occ_names.proofs.replace.Replace.+replace.Goals as goal
 

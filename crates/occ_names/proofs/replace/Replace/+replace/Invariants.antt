@@ -3,7 +3,7 @@ use Rattle.occ_syntax.specs.Declarations.{declaring_all}
 use Rattle.occ_syntax.specs.View.{tree, trees, cases, branches, in_procs, in_choices, in_alternatives}
 use Rattle.occ_syntax.proofs.Weights.{weight, weight_of_all, weight_of_cases, weight_of_branches}
 use Rattle.occ_syntax.proofs.Rows.{choice, alternative}
-use Rattle.occ_laws.specs.Rename.{replacing, renamed}
+use Rattle.occ_meaning.specs.Rename.{replacing, renamed}
 use Rattle.occ_names.proofs.Replaced.{made_choice, made_alternative}
 use Rattle.occ_names.proofs.replace.Replace.+replace.Given as goal
 

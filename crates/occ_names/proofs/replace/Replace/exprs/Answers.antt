@@ -1,7 +1,7 @@
 use Rattle.std.proofs.Common.{map, ap, sym, ◌∙◌}
 use Rattle.std.proofs.lemmas.List.{take_all}
 use Rattle.occ_syntax.specs.View.{exp}
-use Rattle.occ_laws.specs.Rename.{replacing, renamed_exp}
+use Rattle.occ_meaning.specs.Rename.{replacing, renamed_exp}
 use Rattle.occ_names.proofs.Replaced.{renamed_values}
 use Rattle.occ_names.proofs.replace.Replace.exprs.Goals as goal
 

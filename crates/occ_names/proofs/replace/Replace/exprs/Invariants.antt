@@ -1,6 +1,6 @@
 use Rattle.std.proofs.Common.{◌≡◌, map, take}
 use Rattle.occ_syntax.specs.View.{exp, exps}
-use Rattle.occ_laws.specs.Rename.{replacing, renamed_exp}
+use Rattle.occ_meaning.specs.Rename.{replacing, renamed_exp}
 use Rattle.occ_names.proofs.replace.Replace.exprs.Given as goal
 
 abbrev pub invariant-loop-expr : goal.invariant-loop-expr

@@ -1,7 +1,7 @@
 use Rattle.std.proofs.Common.{◌≡◌, map, take}
 use Rattle.occ_base.specs.declared.names.Name.{Name}
 use Rattle.occ_syntax.specs.View.{numbers}
-use Rattle.occ_laws.specs.Rename.{replacing}
+use Rattle.occ_meaning.specs.Rename.{replacing}
 use Rattle.occ_names.proofs.replace.Replace.names.Given as goal
 
 abbrev pub invariant-loop-name : goal.invariant-loop-name

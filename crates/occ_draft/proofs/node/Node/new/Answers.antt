@@ -1,6 +1,0 @@
-use Rattle.occ_draft.proofs.Views.{grafted_is}
-use Rattle.occ_draft.proofs.node.Node.new.Goals as goal
-
-pub returns : goal.returns
-unfolding Rattle.occ_draft.specs.declared.node.Node.TheViews.out-Node Rattle.occ_draft.specs.Forest.in_nodes denote.Hole.Carrier.out Rattle.occ_draft.specs.declared.node.Node.TheViews.roll-Node denote.Hole.Carrier.roll
-returns c = λ rest. grafted_is _ rest

@@ -1,5 +1,0 @@
-use Rattle.occ_draft.proofs.Views.{grafted_is}
-use Rattle.occ_draft.proofs.node.Node.seen.Goals as goal
-
-pub returns : goal.returns
-returns c = λ rest. rw (c.items.ensures) (grafted_is _ rest)

@@ -1,4 +1,0 @@
-pub mod Least
-pub mod Unique
-pub mod Across
-pub mod Roots

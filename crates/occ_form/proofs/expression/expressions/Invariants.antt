@@ -1,8 +1,0 @@
-use Rattle.std.proofs.Common.{◌≡◌, map, drop}
-use Rattle.occ_form.specs.Reading.{expression_of}
-use Rattle.occ_form.specs.Shape.{all_said}
-use Rattle.occ_form.specs.Symbols.{each, groups_of, in_front}
-use Rattle.occ_form.proofs.expression.expressions.Given as goal
-
-abbrev pub invariant-loop-group : goal.invariant-loop-group
-invariant-loop-group l = in_front (all_said l.phrases) (each expression_of (map (λ group. group.now) (drop l.group-index l.group-items))) ≡ each expression_of (groups_of l.symbols)

@@ -1,7 +1,0 @@
-use Rattle.std.proofs.Common.{◌≡◌, map, drop}
-use Rattle.occ_form.specs.Reading.{item_of}
-use Rattle.occ_form.specs.Symbols.{each, groups_of, in_front}
-use Rattle.occ_form.proofs.item.items.Given as goal
-
-abbrev pub invariant-loop-group : goal.invariant-loop-group
-invariant-loop-group l = in_front l.items (each item_of (map (λ group. group.now) (drop l.group-index l.group-items))) ≡ each item_of (groups_of l.symbols)

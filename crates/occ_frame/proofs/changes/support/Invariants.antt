@@ -1,9 +1,0 @@
-use Rattle.occ_lift.specs.Maps.{Extends}
-use Rattle.occ_frame.specs.Changes.{IsSupport}
-use Rattle.occ_frame.proofs.changes.support.Given as goal
-
-abbrev pub invariant-loop-bit : goal.invariant-loop-bit
-invariant-loop-bit l = record {
-  extends : Extends l.fn.world l.world;
-  support : IsSupport l.world l.bit l.fn.map l.bits;
-}

@@ -1,4 +1,0 @@
-use Rattle.occ_guards.proofs.choice.+input_from.Given as goal
-
-abbrev pub decreases-input_from : goal.decreases-input_from
-decreases-input_from l = l.left

@@ -1,5 +1,0 @@
-use Rattle.occ_laws.proofs.Settled.{empty_trace}
-use Rattle.occ_laws.proofs.behaviour.every_part_has_the_empty_trace.Goals as goal
-
-pub returns : goal.returns
-returns c = empty_trace

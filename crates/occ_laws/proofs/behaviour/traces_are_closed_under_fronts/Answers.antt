@@ -1,5 +1,0 @@
-use Rattle.occ_laws.proofs.Settled.{front_trace}
-use Rattle.occ_laws.proofs.behaviour.traces_are_closed_under_fronts.Goals as goal
-
-pub returns : goal.returns
-returns c = front_trace

@@ -1,5 +1,0 @@
-use Rattle.occ_laws.proofs.Refusals.{part_more}
-use Rattle.occ_laws.proofs.behaviour.unused_ends_are_refused.Goals as goal
-
-pub returns : goal.returns
-returns c = λ Θ p h Γ s t X W ext d. (part_more p Θ h).more Γ s t X W ext d

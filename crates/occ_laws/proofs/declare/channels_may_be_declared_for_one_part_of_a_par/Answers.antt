@@ -1,5 +1,0 @@
-use Rattle.occ_laws.proofs.DeclaredBeside.{channel_of_one_part}
-use Rattle.occ_laws.proofs.declare.channels_may_be_declared_for_one_part_of_a_par.Goals as goal
-
-pub returns : goal.returns
-returns c = channel_of_one_part

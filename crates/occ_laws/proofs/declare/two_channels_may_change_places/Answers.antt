@@ -1,5 +1,0 @@
-use Rattle.occ_laws.proofs.Declared.{channels_swapped}
-use Rattle.occ_laws.proofs.declare.two_channels_may_change_places.Goals as goal
-
-pub returns : goal.returns
-returns c = channels_swapped

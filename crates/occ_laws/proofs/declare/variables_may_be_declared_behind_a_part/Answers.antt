@@ -1,5 +1,0 @@
-use Rattle.occ_laws.proofs.DeclaredInTurn.{variable_past_first}
-use Rattle.occ_laws.proofs.declare.variables_may_be_declared_behind_a_part.Goals as goal
-
-pub returns : goal.returns
-returns c = variable_past_first

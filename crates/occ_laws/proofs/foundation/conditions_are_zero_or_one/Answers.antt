@@ -1,5 +1,0 @@
-use Rattle.occ_laws.proofs.Named.{condition_bit}
-use Rattle.occ_laws.proofs.foundation.conditions_are_zero_or_one.Goals as goal
-
-pub returns : goal.returns
-returns c = condition_bit

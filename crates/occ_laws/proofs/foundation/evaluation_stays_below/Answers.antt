@@ -1,5 +1,0 @@
-use Rattle.occ_laws.proofs.Typing.{eval_below}
-use Rattle.occ_laws.proofs.foundation.evaluation_stays_below.Goals as goal
-
-pub returns : goal.returns
-returns c = eval_below

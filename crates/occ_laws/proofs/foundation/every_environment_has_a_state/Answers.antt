@@ -1,5 +1,0 @@
-use Rattle.occ_laws.proofs.Named.{zeros_state}
-use Rattle.occ_laws.proofs.foundation.every_environment_has_a_state.Goals as goal
-
-pub returns : goal.returns
-returns c = zeros_state

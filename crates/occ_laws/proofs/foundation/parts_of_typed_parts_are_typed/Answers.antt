@@ -1,5 +1,0 @@
-use Rattle.occ_laws.proofs.Contexts.{part_types}
-use Rattle.occ_laws.proofs.foundation.parts_of_typed_parts_are_typed.Goals as goal
-
-pub returns : goal.returns
-returns c = part_types

@@ -1,5 +1,0 @@
-use Rattle.occ_laws.proofs.Frame.{part_value}
-use Rattle.occ_laws.proofs.foundation.unwritten_variables_keep_their_values.Goals as goal
-
-pub returns : goal.returns
-returns c = λ Θ p h x k Γ s t s' d. (part_value p Θ h x k).value Γ s t s' d

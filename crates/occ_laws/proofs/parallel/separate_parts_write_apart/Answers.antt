@@ -1,5 +1,0 @@
-use Rattle.occ_laws.proofs.Parts.{each_written_apart}
-use Rattle.occ_laws.proofs.parallel.separate_parts_write_apart.Goals as goal
-
-pub returns : goal.returns
-returns c = each_written_apart

@@ -1,5 +1,0 @@
-use Rattle.occ_laws.proofs.Parts.{par_skip}
-use Rattle.occ_laws.proofs.parallel.skip_in_par_is_nothing.Goals as goal
-
-pub returns : goal.returns
-returns c = par_skip

@@ -1,5 +1,0 @@
-use Rattle.occ_laws.proofs.Parts.{par_turned}
-use Rattle.occ_laws.proofs.parallel.two_parts_may_change_places.Goals as goal
-
-pub returns : goal.returns
-returns c = par_turned

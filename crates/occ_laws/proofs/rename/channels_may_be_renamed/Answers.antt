@@ -1,5 +1,0 @@
-use Rattle.occ_laws.proofs.Redeclared.{channel_renamed}
-use Rattle.occ_laws.proofs.rename.channels_may_be_renamed.Goals as goal
-
-pub returns : goal.returns
-returns c = channel_renamed

@@ -1,5 +1,0 @@
-use Rattle.occ_laws.proofs.Exchanged.{replaced}
-use Rattle.occ_laws.proofs.rename.replaced_names_keep_behaviour.Goals as goal
-
-pub returns : goal.returns
-returns c = replaced

@@ -1,5 +1,0 @@
-use Rattle.occ_laws.proofs.Exchanged.{replaced_types}
-use Rattle.occ_laws.proofs.rename.replaced_names_keep_types.Goals as goal
-
-pub returns : goal.returns
-returns c = replaced_types

@@ -1,5 +1,0 @@
-use Rattle.occ_laws.proofs.Redeclared.{itself_replaced}
-use Rattle.occ_laws.proofs.rename.replacing_by_itself_changes_nothing.Goals as goal
-
-pub returns : goal.returns
-returns c = itself_replaced

@@ -1,5 +1,0 @@
-use Rattle.occ_laws.proofs.Redeclared.{variable_renamed}
-use Rattle.occ_laws.proofs.rename.variables_may_be_renamed.Goals as goal
-
-pub returns : goal.returns
-returns c = variable_renamed

@@ -1,5 +1,0 @@
-use Rattle.occ_laws.proofs.Contexts.{select_same}
-use Rattle.occ_laws.proofs.same.if_of_same_processes.Goals as goal
-
-pub returns : goal.returns
-returns c = select_same

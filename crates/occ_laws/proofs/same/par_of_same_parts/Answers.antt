@@ -1,5 +1,0 @@
-use Rattle.occ_laws.proofs.Contexts.{par_same}
-use Rattle.occ_laws.proofs.same.par_of_same_parts.Goals as goal
-
-pub returns : goal.returns
-returns c = par_same

@@ -1,5 +1,0 @@
-use Rattle.occ_laws.proofs.Alike.{same_back}
-use Rattle.occ_laws.proofs.same.same_both_ways.Goals as goal
-
-pub returns : goal.returns
-returns c = same_back

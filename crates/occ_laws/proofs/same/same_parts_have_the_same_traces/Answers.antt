@@ -1,5 +1,0 @@
-use Rattle.occ_laws.proofs.Alike.{same_traces}
-use Rattle.occ_laws.proofs.same.same_parts_have_the_same_traces.Goals as goal
-
-pub returns : goal.returns
-returns c = same_traces

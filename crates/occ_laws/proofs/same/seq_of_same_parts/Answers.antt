@@ -1,5 +1,0 @@
-use Rattle.occ_laws.proofs.Contexts.{seq_same}
-use Rattle.occ_laws.proofs.same.seq_of_same_parts.Goals as goal
-
-pub returns : goal.returns
-returns c = seq_same

@@ -1,5 +1,0 @@
-use Rattle.occ_laws.proofs.InScope.{nowhere_free}
-use Rattle.occ_laws.proofs.scope.what_stands_nowhere_is_not_free.Goals as goal
-
-pub returns : goal.returns
-returns c = nowhere_free

@@ -1,5 +1,0 @@
-use Rattle.occ_laws.proofs.Substituting.{substituted_gone}
-use Rattle.occ_laws.proofs.substitution.replaced_variables_are_gone.Goals as goal
-
-pub returns : goal.returns
-returns c = substituted_gone

@@ -1,5 +1,0 @@
-use Rattle.occ_laws.proofs.Substituting.{substituted_names}
-use Rattle.occ_laws.proofs.substitution.substitution_brings_no_other_names.Goals as goal
-
-pub returns : goal.returns
-returns c = substituted_names

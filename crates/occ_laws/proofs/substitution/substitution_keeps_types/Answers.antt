@@ -1,5 +1,0 @@
-use Rattle.occ_laws.proofs.Substituting.{substituted_type}
-use Rattle.occ_laws.proofs.substitution.substitution_keeps_types.Goals as goal
-
-pub returns : goal.returns
-returns c = substituted_type

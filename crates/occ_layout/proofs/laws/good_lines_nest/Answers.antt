@@ -1,5 +1,0 @@
-use Rattle.occ_layout.proofs.Levels.{good_nest}
-use Rattle.occ_layout.proofs.laws.good_lines_nest.Goals as goal
-
-pub returns : goal.returns
-returns c = good_nest

@@ -1,5 +1,0 @@
-use Rattle.occ_layout.proofs.Options.{options_of}
-use Rattle.occ_layout.proofs.laws.good_options_declare_nothing.Goals as goal
-
-pub returns : goal.returns
-returns c = options_of

@@ -1,6 +1,0 @@
-use Rattle.std.proofs.Common.{◌≡◌, take}
-use Rattle.occ_listing.specs.Lists.{with_numbers}
-use Rattle.occ_listing.proofs.offers.listed_offers.Given as goal
-
-abbrev pub invariant-loop-event : goal.invariant-loop-event
-invariant-loop-event l = l.list ≡ with_numbers l.numbers l.offers (take l.event-index l.event-items)

@@ -1,0 +1,63 @@
+-- Two rows of one text are the same: where there are parameters since no text stands twice in a table of names, and else
+-- since no name is written.
+use Rattle.std.proofs.Common.{◌≡◌, ◌≤◌, ◌<◌, ◌^◌, ◌++◌, ℕ, true, List, [], ◌∷◌, Some, None, codes, refl, sym, ap, ◌∙◌, subst, ⊎_elim, arith}
+use Rattle.std.proofs.lemmas.Bool.{and_parts}
+use Rattle.std.specs.List.{list_all, AllByRecursion}
+use Rattle.occ_base.specs.Names.{IsDistinct}
+use Rattle.occ_base.specs.declared.event.Event.{Event}
+use Rattle.occ_base.specs.declared.names.Name.{Name}
+use Rattle.occ_syntax.specs.declared.scope.Kind.{Kind}
+use Rattle.occ_syntax.specs.Scopes.{environment, in_interface}
+use Rattle.occ_behaviour.specs.Texts.{set_text}
+use Rattle.occ_nform_table.specs.declared.table.TableRow.{TableRow}
+use Rattle.occ_nform_table.specs.Judging.{ends_text, accepts_text, offers_text, row_text}
+use Rattle.occ_nform_table.specs.Lines.{is_rising}
+use Rattle.occ_nform_table.specs.Tables.{are_params, IsInterface, IsRowOf}
+use Rattle.occ_nform_text.proofs.Rows.{one_row}
+use Rattle.occ_nform_number.specs.Numbering.{HaveOneText}
+use Rattle.occ_nform_number.proofs.Named.{event_named}
+
+no_event : (e : Event) → in_interface (environment []) e ≡ true → ⊥
+no_event e h = let none : e.chan.0 < 0 = event_named 0 [] tt e h in omega arith
+
+bare_set : (set : List Event) → list_all (in_interface (environment [])) set ≡ true → set ≡ []
+bare_set [] h = refl
+bare_set (e ∷ set) h = absurd (no_event e (and_parts (in_interface (environment []) e) (list_all (in_interface (environment [])) set) h).0)
+
+bare_accepts : (names : List (List ℕ)) (sets : List (List Event)) → AllByRecursion (λ set. (list_all (in_interface (environment [])) set ≡ true) × (is_rising [] 0 set ≡ true)) sets → accepts_text names sets ≡ accepts_text [] sets
+unfolding accepts_text
+bare_accepts names [] h = refl
+bare_accepts names (set ∷ sets) h =
+    subst (λ (s : List Event). codes "ACCEPT " ++ set_text names s ++ codes "\n" ++ accepts_text names sets ≡ codes "ACCEPT " ++ set_text [] s ++ codes "\n" ++ accepts_text [] sets) (sym (bare_set set h.0.0))
+    (ap (λ l. codes "ACCEPT " ++ set_text [] [] ++ codes "\n" ++ l) (bare_accepts names sets h.1))
+
+bare_offers : (names : List (List ℕ)) (n : ℕ) (offers : List (Event × ℕ)) → AllByRecursion (λ (o : Event × ℕ). (in_interface (environment []) o.0 ≡ true) × (o.1 < n)) offers → offers_text names offers ≡ offers_text [] offers
+unfolding offers_text
+bare_offers names n [] h = refl
+bare_offers names n (o ∷ offers) h = absurd (no_event o.0 h.0.0)
+
+bare_text : (names : List (List ℕ)) (n : ℕ) (row : TableRow) → IsRowOf [] n row → row_text names row ≡ row_text [] row
+bare_text names n row is =
+    let accepts = bare_accepts names row.accepts is.accepts in
+    let offers = bare_offers names n row.offers is.offers in
+    λ i. ends_text row.ends ++ accepts i ++ offers i
+
+no_interface : IsInterface [] []
+no_interface = record { named = tt; wide = tt; few = omega arith; bits = omega arith }
+
+no_params : are_params [] [] [] ≡ true
+unfolding are_params
+no_params = refl
+
+bare_row : (names : List (List ℕ)) (params : List (Name × Kind)) → params ≡ [] → (n : ℕ) (one two : TableRow) → n ≤ 10 ^ 64 → IsRowOf params n one → IsRowOf params n two → row_text names one ≡ row_text names two → one ≡ two
+bare_row names params none n one two few h g e =
+    let first : IsRowOf [] n one = subst (λ ps. IsRowOf ps n one) none h in
+    let second : IsRowOf [] n two = subst (λ ps. IsRowOf ps n two) none g in
+    one_row [] [] n n one two (λ i j text a b. let f : None ≡ Some text = a in cc) no_interface no_params few few first second (sym (bare_text names n one first) ∙ e ∙ bare_text names n two second)
+
+pub one_text : (names : List (List ℕ)) (params : List (Name × Kind)) → HaveOneText names params → IsInterface names params → are_params names [] params ≡ true → (n : ℕ) (one two : TableRow) → n ≤ 10 ^ 64
+    → IsRowOf params n one → IsRowOf params n two → row_text names one ≡ row_text names two → one ≡ two
+one_text names params distinct interface good n one two few h g e = ⊎_elim
+    (λ (none : params ≡ []). bare_row names params none n one two few h g e)
+    (λ (d : IsDistinct names). one_row names params n n one two d interface good few few h g e)
+    distinct

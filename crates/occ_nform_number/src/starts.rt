@@ -1,0 +1,26 @@
+ghost use Rattle.std.specs.Prelude.{◌≡◌, ◌≤◌, IfOk};
+ghost use Rattle.occ_syntax.specs.Counts.{bits_of_scope};
+ghost use Rattle.occ_compare.specs.Interface.{HasNodes};
+ghost use Rattle.occ_nform_number.specs.Numbering.{AreStarts};
+
+use crate::places::{assignment, state_count};
+use occ_base::Memory;
+use occ_node::{NodeId, Root, World};
+use std::alloc::Global;
+
+// The nodes of the initial states in their order.
+pub(crate) fn start_nodes(alloc: Global, world: &World, root: &Root) -> Result<Vec<NodeId>, Memory>
+    requires few { bits_of_scope root.now.params ≤ 16 }
+    requires nodes { HasNodes world.now root.now.states }
+    ensures { IfOk result (λ starts. AreStarts world.now root.now starts.items) }
+{
+    let params = root.params.items();
+    let mut starts = Vec::new(alloc);
+    for place in 0..state_count(params) {
+        match world.maps.get(root.states, assignment(params, place)) {
+            Some(node) => starts.push(node)?,
+            None => unreachable!(),
+        }
+    }
+    Ok(starts)
+}

@@ -1,0 +1,124 @@
+-- The parameters of a program that was read are an interface.
+use Rattle.std.proofs.Common.{◌≡◌, ℕ, ◌≤◌, Bool, true, false, nat_lt, if◌then◌else◌, List, [], length, Option, Some, None, refl, sym, ap, subst, ◌∙◌, arith}
+use Rattle.std.proofs.lemmas.Bool.{ltb-false}
+use Rattle.occ_base.specs.declared.names.Name.{Name}
+use Rattle.occ_base.specs.Names.{IsDistinct}
+use Rattle.occ_syntax.specs.declared.scope.Kind.{Kind}
+use Rattle.occ_syntax.specs.Counts.{bits_of_scope, controls}
+use Rattle.occ_syntax.specs.Tree.{Tree}
+use Rattle.occ_lex.specs.Rows.{reading_of}
+use Rattle.occ_lex_symbols.specs.Symbols.{Extends}
+use Rattle.occ_lex_symbols.proofs.Interned.{extends_trans}
+use Rattle.occ_parse_forms.specs.declared.form.Param.{Param}
+use Rattle.occ_parse_forms.specs.Shape.{header, close}
+use Rattle.occ_parse_rules.specs.Forest.{Forest, no_line, and_line, lines_at}
+use Rattle.occ_parse_rules.specs.Judging.{or_else, on_line, first_fault}
+use Rattle.occ_parse_rules.specs.Limits.{bits_in_scope, count_fault}
+use Rattle.occ_parse_rules.specs.Names.{name_fault, redeclares_some}
+use Rattle.occ_parse_rules.specs.Places.{param_entries}
+use Rattle.occ_parse_rules.specs.Unrolled.{params_named, slot_process}
+use Rattle.occ_parse_sound.specs.Programs.{param_scope}
+use Rattle.occ_parse_sound.proofs.Small.{param_bits}
+use Rattle.occ_parse_layout.specs.declared.placed.Frame.TheVariants as frame
+use Rattle.occ_parse_layout.specs.Whole.{IsProgram}
+use Rattle.occ_parse_layout.proofs.Framed.{whole_of}
+use Rattle.occ_parse_unroll.specs.Elements.{with_places, with_elements, program_places, params_places, elements}
+use Rattle.occ_parse_unroll.specs.Numbers.{number_in}
+use Rattle.occ_parse_unroll.proofs.Elements.{places_behind}
+use Rattle.occ_parse_reading.specs.declared.bound.Bound.TheVariants as bound
+use Rattle.occ_parse_reading.specs.declared.fault.ParseFault.{ParseFault}
+use Rattle.occ_parse_reading.specs.declared.fault.ParseFault.TheVariants as fault
+use Rattle.occ_parse_reading.specs.declared.fault.Which.{Which}
+use Rattle.occ_parse_reading.specs.declared.fault.Which.TheVariants as which
+use Rattle.occ_parse_reading.specs.Drafts.{header_params, header_below, as_fault, name_fault_on, over, unnumbered, draft_fault}
+use Rattle.occ_parse_reading.specs.Reading.{IsRead, names_in}
+use Rattle.occ_parse.proofs.Places.{places_extend, places_distinct}
+use Rattle.occ_nform_table.specs.Tables.{are_params, IsInterface}
+use Rattle.occ_nform_params.proofs.Header.{Table, all_distinct, AreGood, header_good}
+use Rattle.occ_nform_params.proofs.Named.{all_stand}
+use Rattle.occ_nform_params.proofs.Params.{interface}
+
+-- ---- no faults
+
+or_else_none : {F : Type 0} (a b : Option F) → or_else a b ≡ None → (a ≡ None) × (b ≡ None)
+or_else_none None b h = (refl, h)
+or_else_none (Some x) b h = absurd cc
+
+on_line_none : {F : Type 0} (n : ℕ) (a : Option F) → on_line n a ≡ None → a ≡ None
+on_line_none n None h = refl
+on_line_none n (Some x) h = absurd cc
+
+as_fault_none : {F : Type 0} (on : ℕ → F → ParseFault) (o : Option (ℕ × F)) → as_fault on o ≡ None → o ≡ None
+as_fault_none on None h = refl
+as_fault_none on (Some found) h = absurd cc
+
+over_none : (b : Bool) (w : Which) (n : ℕ) → over b w n ≡ None → b ≡ false
+over_none true w n h = absurd cc
+over_none false w n h = refl
+
+if_none : {F : Type 0} (b : Bool) (x : F) (rest : Option F) → (if b then Some x else rest) ≡ None → (b ≡ false) × (rest ≡ None)
+if_none true x rest h = absurd cc
+if_none false x rest h = (refl, h)
+
+-- what a program without a fault keeps of its parameters
+record AreKept (params : List Param) : Type 0 where
+  once : redeclares_some [] (param_entries params) ≡ false
+  few : length (params_places params) ≤ 16
+  bits : bits_in_scope (param_scope params) ≤ 16
+
+-- lines that begin with a header and end with a close
+abbrev lines_of : ℕ → Name → List Param → Forest → ℕ → Forest
+lines_of number name params below last = and_line number (header name params) below (and_line last close no_line no_line)
+
+are_kept : (number : ℕ) (name : Name) (params : List Param) (below : Forest) (last : ℕ) → draft_fault bound.Program (lines_of number name params below last) ≡ None → AreKept params
+are_kept number name params below last h =
+    let f = lines_of number name params below last in
+    let first = or_else_none (as_fault name_fault_on (first_fault name_fault [] [] f)) _ h in
+    let names = as_fault_none name_fault_on (first_fault name_fault [] [] f) first.0 in
+    let judged = on_line_none number (name_fault [] (header name params)) (or_else_none (on_line number (name_fault [] (header name params))) _ names).0 in
+    let limits = (or_else_none _ _ (or_else_none _ _ first.1).1).1 in
+    let one = or_else_none (over (nat_lt 16 (length (params_places params))) which.Parameters number) _ limits in
+    let two = or_else_none (as_fault (λ line found. fault.Limit which.Count line) (first_fault count_fault [] [] f)) _ one.1 in
+    let three = or_else_none (over (nat_lt 4096 (controls (slot_process unnumbered (param_scope params) below))) which.Controls number) _ two.1 in
+    let four = or_else_none (over (nat_lt 16 (bits_in_scope (param_scope params))) which.InterfaceBits number) _ three.1 in
+    record {
+      once = (if_none (redeclares_some [] (param_entries params)) _ _ judged).0;
+      few = ltb-false _ _ (over_none _ _ _ one.0);
+      bits = ltb-false _ _ (over_none _ _ _ four.0);
+    }
+
+-- ---- a program that was read
+
+-- what is said of a table and of parameters
+abbrev pub AreInterface : Table → List (Name × Kind) → Type 0
+AreInterface t params = IsDistinct t × IsInterface t params × (are_params t [] params ≡ true)
+
+-- by the table before the elements of arrays, and with them
+by_tables : (old t : Table) (name : Name) (params : List Param) (below : Forest) → IsDistinct old → AreGood old name params → AreKept params → t ≡ with_elements old params below
+    → AreInterface t (params_named (number_in t) params)
+by_tables old t name params below d g k table =
+    let rest = (elements below).first (param_scope params) (λ i. 0) in
+    let mid = with_places old (params_places params) in
+    let two : t ≡ with_places mid rest = table ∙ places_behind old (params_places params) rest in
+    let behind : Extends mid t = subst (Extends mid) (sym two) (places_extend mid rest) in
+    let all : Extends old t = extends_trans old mid t (places_extend old (params_places params)) behind in
+    let distinct : IsDistinct t = subst IsDistinct (sym table) (places_distinct old (program_places params below) d) in
+    let stand : _ = all_stand old t params g.named g.small name g.first behind all in
+    let bits : bits_of_scope (params_named (number_in t) params) ≤ 16 = omega (arith, k.bits, param_bits (number_in t) params []) in
+    let both = interface t distinct params k.once g.wide g.marked stand k.few bits in
+    (distinct, both.0, both.1)
+
+pub have_names : (text : List ℕ) (old new : Table) (name : Name) (params : List (Name × Kind)) (body : Tree) (numbers : List ℕ)
+    → IsDistinct old → IsRead bound.Program text old new name params body numbers → AreInterface new params
+have_names text old new name params body numbers d r =
+    let f = r.draft in
+    let p : IsProgram f = whole_of frame.Program (lines_at 0 f) f refl refl r.laid_out.good in
+    let mid = names_in text old in
+    let g = header_good text old f p r.laid_out.judged in
+    let ps_are : header_params f ≡ p.params = ap (λ q. header_params q) p.whole in
+    let below_is : header_below f ≡ p.below = ap (λ q. header_below q) p.whole in
+    let table : new ≡ with_elements mid p.params p.below = r.table ∙ (λ i. with_elements mid (ps_are i) (below_is i)) in
+    let kept = are_kept p.number p.name p.params p.below p.last (ap (λ q. draft_fault bound.Program q) (sym p.whole) ∙ r.in_order) in
+    let single : IsDistinct mid = all_distinct text old (reading_of text).0 d in
+    let params_are : params ≡ params_named (number_in new) p.params = r.params_are ∙ ap (λ qs. params_named (number_in new) qs) ps_are in
+    subst (AreInterface new) (sym params_are) (by_tables mid new p.name p.params p.below single g kept table)

@@ -1,0 +1,12 @@
+use Rattle.std.proofs.Common.{◌≡◌, length}
+use Rattle.occ_lex.specs.Rows.{rows}
+use Rattle.occ_nform_table.specs.Lines.{end_of}
+use Rattle.occ_nform_table.specs.Reading.{taken}
+use Rattle.occ_nform_read.proofs.Taking.{with_front}
+use Rattle.occ_nform_read.proofs.reading.ends_in.Given as goal
+
+abbrev pub invariant-loop-line : goal.invariant-loop-line
+invariant-loop-line l = with_front l.ends (taken (end_of l.params) (rows l.rest)) ≡ taken (end_of l.params) (rows l.text)
+
+abbrev pub decreases-loop-line : goal.decreases-loop-line
+decreases-loop-line l = length l.rest

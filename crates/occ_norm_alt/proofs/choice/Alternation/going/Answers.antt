@@ -1,0 +1,18 @@
+use Rattle.std.proofs.Common.{refl}
+use Rattle.occ_norm_maps.proofs.Worlds.{extends_trans, has_nodes-extends, may_have}
+use Rattle.occ_norm_frame.proofs.Keeping.{none_may}
+use Rattle.occ_norm_alt.proofs.Steps.{united_from}
+use Rattle.occ_norm_alt.proofs.choice.Alternation.going.Goals as goal
+
+pub united-requires-clause-b : goal.united-requires-clause-b
+united-requires-clause-b c = c.in_ok-there.ensures.may (may_have c.constant.new.world c.args.next (has_nodes-extends c.args.world.now c.constant.new.world c.constant.ensures.extends c.args.next c.requires.next)) (none_may c.constant.new.world c.in_ok-nothing.nothing c.in_ok-nothing.ensures.map)
+
+pub returns-clause-waiting : goal.returns-clause-waiting
+returns-clause-waiting c = (has_nodes-extends c.args.world.now c.united.new.world (extends_trans c.args.world.now c.choose.new.world c.united.new.world (extends_trans c.args.world.now c.constant.new.world c.choose.new.world c.constant.ensures.extends c.choose.ensures.extends) c.united.ensures.extends) c.args.self.waiting c.requires.waiting)
+
+pub returns-clause-united : goal.returns-clause-united
+returns-clause-united c = (
+  refl,
+  united_from c.args.world.now c.constant.new.world c.choose.new.world c.united.new.world c.constant.ensures.extends c.choose.ensures.extends c.united.ensures.extends c.args.enabled c.requires.enabled
+      c.args.self.ready c.args.next c.in_ok-nothing.nothing c.in_ok-there.there c.in_ok-ready.ready c.requires.next c.in_ok-nothing.ensures.map c.in_ok-there.ensures.map c.in_ok-ready.ensures.united,
+)

@@ -1,0 +1,56 @@
+-- The inputs of the values of some digits, and the outputs of a value, each with what comes after it.
+use Rattle.std.specs.Prelude.{ℕ, zero, suc, ◌+◌, ◌*◌, ◌%◌, ◌<◌, ◌≡◌, ◌^◌, Bool, true, Some, bit_and, bit_xor}
+use Rattle.std.specs.Int.{bit_at}
+use Rattle.occ_base.specs.declared.event.Dir.TheVariants.{Input, Output}
+use Rattle.occ_base.specs.declared.event.Event.{Event}
+use Rattle.occ_base.specs.declared.names.Name.{Name}
+use Rattle.occ_diagram.specs.Assignment.{with_bit}
+use Rattle.occ_mdd.specs.Maps.{value}
+use Rattle.occ_mdd.specs.declared.map.MapId.{MapId}
+use Rattle.occ_node.specs.World.{fails, ends}
+use Rattle.occ_node.specs.declared.node.NodeId.{NodeId}
+use Rattle.occ_node.specs.declared.world.World.{World}
+use Rattle.occ_norm_maps.specs.Lifted.{IsPrefixed}
+use Rattle.occ_norm_alt.specs.Offering.{At, IsOffering}
+
+-- the assignment with the bits from `first` on, so many, made the digits of a value
+abbrev pub placed : ℕ → ℕ → ℕ → ℕ → ℕ
+placed first zero v x = x
+placed first (suc n) v x = with_bit (placed first n v x) (first + n) (bit_at v n)
+
+abbrev pub input_event : Name → ℕ → Event
+input_event chan v = record { chan = chan; dir = Input; value = v }
+
+abbrev pub output_event : Name → ℕ → Event
+output_event chan v = record { chan = chan; dir = Output; value = v }
+
+-- the event is an input of `base` and any number of so many digits
+pub record TakesInput (chan : Name) (left base : ℕ) (e : Event) : Type 0 where
+  pub u : ℕ
+  pub below : u < 2 ^ left
+  pub is : e ≡ input_event chan (base + u)
+
+-- such an input puts the digits in place, and this behaves so
+pub record LeadsInput (chan : Name) (first left base x : ℕ) (e : Event) (behaves : ℕ → ℕ → Type 0) : Type 0 where
+  pub u : ℕ
+  pub below : u < 2 ^ left
+  pub is : e ≡ input_event chan (base + u)
+  pub behaved : behaves (base + u) (placed first left u x)
+
+-- those of some bits that a value has, where its digits begin at `first`
+abbrev pub digits_at : ℕ → ℕ → ℕ → ℕ
+digits_at first keep v = bit_and (v * 2 ^ first % 2 ^ 64) keep
+
+-- the node waits for the inputs, and goes on as that of `next` with the digits in place and the bits of the value turned
+abbrev pub AreInputsAt : World → Name → ℕ → ℕ → ℕ → ℕ → MapId → ℕ → NodeId → Type 0
+AreInputsAt w chan first left keep base next x a = IsOffering w a (TakesInput chan left base)
+    (λ e t X. LeadsInput chan first left base x e (λ v y. At w next y (λ m. fails w m t X)))
+    (λ e t z. LeadsInput chan first left base x e (λ v y. At w next y (λ m. ends w m t (bit_xor z (digits_at first keep v)))))
+
+pub record AreInputs (w : World) (chan : Name) (first left keep base : ℕ) (next r : MapId) : Type 0 where
+  pub inputs : (x : ℕ) (a : NodeId) → x < 2 ^ 64 → value w.maps r x ≡ Some a → AreInputsAt w chan first left keep base next x a
+
+-- where the test holds, r is `next` after the output of a value that depends on the assignment
+pub record AreOutputs (w : World) (chan : Name) (test : ℕ → Bool) (v : ℕ → ℕ) (next r : MapId) : Type 0 where
+  pub outputs : (x : ℕ) (m a : NodeId) → x < 2 ^ 64 → test x ≡ true → value w.maps next x ≡ Some m → value w.maps r x ≡ Some a
+      → IsPrefixed w (output_event chan (v x)) m a

@@ -1,0 +1,327 @@
+ghost use Rattle.std.specs.Prelude.{◌≡◌, ℕ, ◌+◌, ◌^◌, ◌≤◌, ◌<◌, true, List, length, take, IfOk, IsSome};
+ghost use Rattle.std.specs.List.{All};
+ghost use Rattle.occ_base.specs.declared.names.Name.{Name};
+ghost use Rattle.occ_base.specs.declared.width.Width.{Width};
+ghost use Rattle.occ_bits.specs.Layout.{environment_in};
+ghost use Rattle.occ_bits.specs.Words.{number_at};
+ghost use Rattle.occ_dd.specs.Store.{IsKnown as IsSetKnown, has};
+ghost use Rattle.occ_follow.specs.Sequence.{HasNodes};
+ghost use Rattle.occ_norm_maps.specs.Maps.{Extends, MayHaveNodes};
+ghost use Rattle.occ_syntax.specs.Scopes.{variable_width};
+ghost use Rattle.occ_syntax.specs.Types.{type_of};
+ghost use Rattle.occ_syntax.specs.Scopes.{Environment};
+ghost use Rattle.occ_syntax.specs.Tree.{Branches, Exp, Tree, alt, and_branch, input, no_branch, output, receive, send};
+ghost use Rattle.occ_syntax.specs.Types.{is_condition, types_kept, waiting_kept};
+ghost use Rattle.occ_syntax.specs.View.{exp, waiting};
+ghost use Rattle.occ_norm_frame.specs.After.{IsAfter, IsOver};
+ghost use Rattle.occ_norm_frame.specs.Placed.{CanWait, IsAround};
+ghost use Rattle.occ_norm_alt.specs.Alternation.{IsAlternation, IsEnabledBy, IsOffered, IsUnited};
+ghost use Rattle.occ_norm_alt.specs.Inputs.{AreInputs, AreOutputs};
+ghost use Rattle.occ_norm_alt.specs.Offering.{IsGuarded};
+
+use occ_base::{Dir, Event, Memory, Name};
+use occ_dd::SetId;
+use occ_mdd::MapId;
+use occ_node::World;
+use occ_norm_frame::{Frame, bits_from, digits, rebased, within, without};
+use occ_norm_maps::{
+    choose, cofactor, constant, finished, merged, prefixed, shifted, stop, united,
+};
+use occ_syntax::{Expr, Wait};
+use std::alloc::Global;
+
+/// An ALT so far: what its events lead to, and what its ready guards lead to, if there is one.
+#[derive(Clone, Copy)]
+pub struct Alternation {
+    pub waiting: MapId,
+    pub ready: MapId,
+}
+
+// The inputs of a variable, whose bits begin at `first`, from a channel.
+#[derive(Clone, Copy)]
+struct Inputs {
+    chan: Name,
+    first: u32,
+    keep: u64,
+}
+
+// The outputs of a value to a channel, and what comes after them.
+#[derive(Clone, Copy)]
+struct Outputs {
+    chan: Name,
+    next: MapId,
+}
+
+// The map of the input of a value, and then what the map has.
+fn input_of(
+    alloc: Global,
+    world: &mut World,
+    inputs: Inputs,
+    value: u8,
+    next: MapId,
+) -> Result<MapId, Memory>
+    requires first { inputs.first < 64 }
+    requires next { HasNodes world.old next }
+    ensures extends { Extends world.old world.new }
+    ensures nodes { IfOk result (HasNodes world.new) }
+    ensures inputs { IfOk result (AreInputs world.new inputs.chan inputs.first 0 inputs.keep value next) }
+{
+    let change = (u64::from(value) << inputs.first) & inputs.keep;
+    let there = shifted(alloc, world, next, change)?;
+    let event = Event {
+        chan: inputs.chan,
+        dir: Dir::Input,
+        value,
+    };
+    prefixed(alloc, world, there, event)
+}
+
+// The map of the inputs of the values that have some digits above those that are left, and then what the map has.
+fn input_from(
+    alloc: Global,
+    world: &mut World,
+    inputs: Inputs,
+    left: u32,
+    value: u8,
+    next: MapId,
+) -> Result<MapId, Memory>
+    requires left { left ≤ 8 }
+    requires first { inputs.first + left ≤ 64 }
+    requires below { inputs.first < 64 }
+    requires room { value + 2 ^ left ≤ 256 }
+    requires next { HasNodes world.old next }
+    ensures extends { Extends world.old world.new }
+    ensures nodes { IfOk result (HasNodes world.new) }
+    ensures inputs { IfOk result (AreInputs world.new inputs.chan inputs.first left inputs.keep value next) }
+{
+    if left == 0 {
+        return input_of(alloc, world, inputs, value, next);
+    }
+    let digit = left - 1;
+    let bit = inputs.first + digit;
+    let zero = cofactor(world, next, bit, false)?;
+    let one = cofactor(world, next, bit, true)?;
+    let low = input_from(alloc, world, inputs, digit, value, zero)?;
+    let high = input_from(alloc, world, inputs, digit, value + (1 << digit), one)?;
+    merged(alloc, world, low, high)
+}
+
+/// The map of an input and then what another map has.
+pub fn input(
+    alloc: Global,
+    world: &mut World,
+    frame: &Frame,
+    chan: Name,
+    var: Name,
+    next: MapId,
+) -> Result<MapId, Memory>
+    requires var { IsSome (variable_width (environment_in frame.now.layout) var.0) }
+    requires next { IsOver world.old frame.now.bits next }
+    ensures extends { Extends world.old world.new }
+    ensures nodes { IfOk result (HasNodes world.new) }
+    ensures guarded { IfOk result (λ r. (Γ : Environment) → IsAround Γ frame.now.vars → types_kept (receive chan.0 var.0) Γ ≡ true
+        → IsGuarded world.new frame.now.layout frame.now.keep frame.now.closed.items Γ (input chan.0 var.0) next r) }
+    ensures after { IfOk result (λ r. (Γ : Environment) → IsAround Γ frame.now.vars → types_kept (receive chan.0 var.0) Γ ≡ true
+        → IsAfter world.new frame.now.layout frame.now.keep frame.now.closed.items Γ (receive chan.0 var.0) next r) }
+{
+    if frame.is_closed(chan) {
+        return stop(alloc, world);
+    }
+    let (width, first) = frame.slot(var);
+    let bits = width.bits();
+    let keep = frame.keep & bits_from(first, bits);
+    let inputs = Inputs { chan, first, keep };
+    let map = input_from(alloc, world, inputs, u32::from(bits), 0, next)?;
+    rebased(alloc, world, keep, map)
+}
+
+// The map of the outputs of the values that have some digits above those that are left, on the set of states in which
+// these are the digits, and then what the map has. Elsewhere it says nothing.
+fn output_from(
+    alloc: Global,
+    world: &mut World,
+    outputs: Outputs,
+    digits: &[SetId],
+    left: usize,
+    set: SetId,
+    value: u8,
+) -> Result<MapId, Memory>
+    requires few { length digits.now ≤ 8 }
+    requires left { left ≤ length digits.now }
+    requires room { value + 2 ^ left ≤ 256 }
+    requires digits { All (IsSetKnown world.old.store) digits.now }
+    requires set { IsSetKnown world.old.store set }
+    requires next { HasNodes world.old outputs.next }
+    ensures extends { Extends world.old world.new }
+    ensures nodes { IfOk result (HasNodes world.new) }
+    ensures outputs { IfOk result (AreOutputs world.new outputs.chan (has world.old.store set)
+        (λ x. value + number_at world.old.store (take left digits.now) x) outputs.next) }
+{
+    if set == world.store.empty() {
+        return stop(alloc, world);
+    }
+    if left == 0 {
+        let event = Event {
+            chan: outputs.chan,
+            dir: Dir::Output,
+            value,
+        };
+        return prefixed(alloc, world, outputs.next, event);
+    }
+    let place = left - 1;
+    let digit = digits[place];
+    let with = within(world, set, digit)?;
+    let outside = without(world, set, digit)?;
+    let one = value + (1 << place);
+    let high = output_from(alloc, world, outputs, digits, place, with, one)?;
+    let low = output_from(alloc, world, outputs, digits, place, outside, value)?;
+    choose(world, digit, high, low)
+}
+
+/// The map of an output and then what another map has.
+pub fn output(
+    alloc: Global,
+    world: &mut World,
+    frame: &Frame,
+    chan: Name,
+    value: &Expr,
+    next: MapId,
+) -> Result<MapId, Memory>
+    requires value { IsSome (type_of (environment_in frame.now.layout) (exp value.now)) }
+    requires next { IsOver world.old frame.now.bits next }
+    ensures extends { Extends world.old world.new }
+    ensures nodes { IfOk result (HasNodes world.new) }
+    ensures guarded { IfOk result (λ r. (Γ : Environment) → IsAround Γ frame.now.vars → types_kept (send chan.0 (exp value.now)) Γ ≡ true
+        → IsGuarded world.new frame.now.layout frame.now.keep frame.now.closed.items Γ (output chan.0 (exp value.now)) next r) }
+    ensures after { IfOk result (λ r. (Γ : Environment) → IsAround Γ frame.now.vars → types_kept (send chan.0 (exp value.now)) Γ ≡ true
+        → IsAfter world.new frame.now.layout frame.now.keep frame.now.closed.items Γ (send chan.0 (exp value.now)) next r) }
+{
+    let closed = frame.is_closed(chan);
+    if closed {
+        return stop(alloc, world);
+    }
+    let digits = digits(alloc, world, frame, value)?;
+    let full = world.store.full();
+    let outputs = Outputs { chan, next };
+    let sets = digits.bits();
+    output_from(alloc, world, outputs, sets, sets.len(), full, 0)
+}
+
+impl Alternation {
+    /// The ALT without guards.
+    pub fn none(alloc: Global, world: &mut World) -> Result<Alternation, Memory>
+        ensures extends { Extends world.old world.new }
+        ensures waiting { IfOk result (λ r. HasNodes world.new r.waiting) }
+        ensures ready { IfOk result (λ r. MayHaveNodes world.new r.ready) }
+        ensures none { IfOk result (λ r. (layout : List (Name × Width × ℕ)) (keep : ℕ) (closed : List Name) (Γ : Environment) (rest : MapId)
+            → IsAlternation world.new layout keep closed Γ no_branch rest r.waiting r.ready) }
+    {
+        let waiting = stop(alloc, world)?;
+        let ready = constant(world, None)?;
+        Ok(Alternation { waiting, ready })
+    }
+
+    /// The ALT with one more guard in front, which is enabled on a set of states, and what comes after it: `next` is the map of
+    /// its process and then what `rest` has.
+    pub fn and(
+        self,
+        alloc: Global,
+        world: &mut World,
+        frame: &Frame,
+        enabled: SetId,
+        wait: &Wait,
+        next: MapId,
+    ) -> Result<Alternation, Memory>
+        requires waiting { HasNodes world.old self.waiting }
+        requires ready { MayHaveNodes world.old self.ready }
+        requires enabled { IsSetKnown world.old.store enabled }
+        requires wait { CanWait frame.now.layout (waiting wait.now) }
+        requires next { IsOver world.old frame.now.bits next }
+        ensures extends { Extends world.old world.new }
+        ensures waiting { IfOk result (λ r. HasNodes world.new r.waiting) }
+        ensures ready { IfOk result (λ r. MayHaveNodes world.new r.ready) }
+        ensures and { IfOk result (λ r. (Γ : Environment) (bs : Branches) (e : Exp) (p : Tree) (rest : MapId)
+            → IsAround Γ frame.now.vars → waiting_kept Γ (waiting wait.now) ≡ true → IsEnabledBy world.old frame.now.layout Γ e enabled
+            → IsOver world.old frame.now.bits rest
+            → IsAlternation world.old frame.now.layout frame.now.keep frame.now.closed.items Γ bs rest self.waiting self.ready
+            → IsAfter world.old frame.now.layout frame.now.keep frame.now.closed.items Γ p rest next
+            → IsAlternation world.new frame.now.layout frame.now.keep frame.now.closed.items Γ (and_branch e (waiting wait.now) p bs) rest r.waiting r.ready) }
+    {
+        match wait {
+            Wait::Skip => self.going(alloc, world, enabled, next),
+            Wait::Get { chan, var } => {
+                let offered = input(alloc, world, frame, *chan, *var, next)?;
+                self.offering(alloc, world, enabled, offered)
+            }
+            Wait::Put { chan, value } => {
+                let offered = output(alloc, world, frame, *chan, value, next)?;
+                self.offering(alloc, world, enabled, offered)
+            }
+        }
+    }
+
+    // The ALT with a ready guard on a set of states.
+    fn going(
+        self,
+        alloc: Global,
+        world: &mut World,
+        enabled: SetId,
+        next: MapId,
+    ) -> Result<Alternation, Memory>
+        requires waiting { HasNodes world.old self.waiting }
+        requires ready { MayHaveNodes world.old self.ready }
+        requires enabled { IsSetKnown world.old.store enabled }
+        requires next { HasNodes world.old next }
+        ensures extends { Extends world.old world.new }
+        ensures waiting { IfOk result (λ r. HasNodes world.new r.waiting) }
+        ensures ready { IfOk result (λ r. MayHaveNodes world.new r.ready) }
+        ensures united { IfOk result (λ r. (r.waiting ≡ self.waiting) × IsUnited world.new (has world.old.store enabled) self.ready next r.ready) }
+    {
+        let nothing = constant(world, None)?;
+        let there = choose(world, enabled, next, nothing)?;
+        let ready = united(alloc, world, self.ready, there)?;
+        Ok(Alternation {
+            waiting: self.waiting,
+            ready,
+        })
+    }
+
+    // The ALT with what is offered on a set of states.
+    fn offering(
+        self,
+        alloc: Global,
+        world: &mut World,
+        enabled: SetId,
+        offered: MapId,
+    ) -> Result<Alternation, Memory>
+        requires waiting { HasNodes world.old self.waiting }
+        requires ready { MayHaveNodes world.old self.ready }
+        requires enabled { IsSetKnown world.old.store enabled }
+        requires offered { HasNodes world.old offered }
+        ensures extends { Extends world.old world.new }
+        ensures waiting { IfOk result (λ r. HasNodes world.new r.waiting) }
+        ensures ready { IfOk result (λ r. MayHaveNodes world.new r.ready) }
+        ensures offered { IfOk result (λ r. (r.ready ≡ self.ready) × IsOffered world.new (has world.old.store enabled) self.waiting offered r.waiting) }
+    {
+        let stopped = stop(alloc, world)?;
+        let there = choose(world, enabled, offered, stopped)?;
+        let waiting = merged(alloc, world, self.waiting, there)?;
+        Ok(Alternation {
+            waiting,
+            ready: self.ready,
+        })
+    }
+
+    /// The map of the ALT.
+    pub fn map(self, alloc: Global, world: &mut World) -> Result<MapId, Memory>
+        requires waiting { HasNodes world.old self.waiting }
+        requires ready { MayHaveNodes world.old self.ready }
+        ensures extends { Extends world.old world.new }
+        ensures nodes { IfOk result (HasNodes world.new) }
+        ensures after { IfOk result (λ r. (layout : List (Name × Width × ℕ)) (keep : ℕ) (closed : List Name) (Γ : Environment) (bs : Branches) (rest : MapId)
+            → IsAlternation world.old layout keep closed Γ bs rest self.waiting self.ready
+            → IsAfter world.new layout keep closed Γ (alt bs) rest r) }
+    {
+        finished(alloc, world, self.waiting, self.ready)
+    }
+}

@@ -1,0 +1,282 @@
+-- Writes that are made all at once: their bits of a state are exchanged, and its node is turned once.
+use Rattle.std.proofs.Common.{◌≡◌, ℕ, zero, suc, ◌<◌, ◌*◌, ◌^◌, ◌==◌, ◌++◌, ◌+◌, Bool, true, false, not, cond, List, [], ◌∷◌, Option, Some, length, get_or, take, refl, sym, ap, ◌∙◌, subst, arith, add-one, ⊎_elim}
+use Rattle.std.proofs.Math.Seq.{take-suc}
+use Rattle.std.proofs.Math.Nat.{one-mul, zero-mul}
+use Rattle.std.proofs.lemmas.Bool.{cases_Bool, cond_both}
+use Rattle.std.proofs.lemmas.List.Elements.{All-take}
+use Rattle.std.proofs.lemmas.Nat.Bits.{and_pow as and_one_bit}
+use Rattle.std.specs.Int.{bit_at}
+use Rattle.std.specs.Int.Bits.{bit_and, bit_xor, xor_zero_r}
+use Rattle.occ_bits.specs.Words.{digit}
+use Rattle.occ_diagram.specs.Assignment.{turned, with_bit}
+use Rattle.occ_diagram.proofs.Bits.{bit_at-with_bit_other, bit_cases}
+use Rattle.occ_dd.specs.Store.{IsKnown, IsSet, Keeps, has}
+use Rattle.occ_dd.specs.declared.set.SetId.{SetId}
+use Rattle.occ_dd.proofs.Callers.{known-keeps}
+use Rattle.occ_dd.specs.declared.store.Store.{Store}
+use Rattle.occ_mdd.specs.Maps.{IsMap, value}
+use Rattle.occ_mdd.specs.declared.map.MapId.{MapId}
+use Rattle.occ_node.specs.declared.node.NodeId.{NodeId}
+use Rattle.occ_node.specs.declared.world.World.{World}
+use Rattle.occ_follow.specs.Sequence.{HasNodes}
+use Rattle.occ_norm_maps.specs.Growth.{turned_grow}
+use Rattle.occ_norm_maps.specs.Lifted.{IsTurned}
+use Rattle.occ_norm_maps.specs.Maps.{Extends}
+use Rattle.occ_norm_maps.proofs.Worlds.{extends_trans, has_nodes-extends}
+use Rattle.occ_norm_frame.specs.Changes.{IsChanged}
+use Rattle.occ_norm_frame.proofs.After.{value_was}
+use Rattle.occ_norm_frame.proofs.Keeping.{set-extends}
+use Rattle.occ_norm_frame.proofs.Changing.{xor_in_turn}
+use Rattle.occ_norm_assign.specs.Writes.{AreWrites, IsWrite}
+use Rattle.occ_norm_assign.specs.Written.{AreDistinct, AreFree, IsExchanged, IsFree, IsOff, change_by, differs, is_changed, onto, step}
+use Rattle.occ_norm_assign.specs.declared.writes.Write.{Write}
+use Rattle.occ_norm_assign.proofs.Written.{onto_append}
+use Rattle.occ_norm_assign.proofs.Apart.{change_more}
+use Rattle.occ_norm_assign.proofs.Assigning.{step-keeps}
+use Rattle.occ_norm_assign.proofs.Keeping.{writes-extend}
+use Rattle.occ_norm_assign.proofs.Substituted.{onto-keeps}
+
+-- ---- as the store grows
+pub is_changed-keeps : (s t : Store) → Keeps s t → (w : Write) → IsKnown s w.set → (x : ℕ) → is_changed t w x ≡ is_changed s w x
+is_changed-keeps s t k w known x = ap (λ b. differs b (bit_at x w.bit)) (k.same w.set x known)
+
+pub free-keeps : (s t : Store) → Keeps s t → (w : Write) → IsKnown s w.set → (ws : List Write) → IsFree s w ws → IsFree t w ws
+free-keeps s t k w known [] is = tt
+free-keeps s t k w known (v ∷ vs) is = ((λ x. is_changed-keeps s t k w known (turned x v.bit) ∙ is.0 x ∙ sym (is_changed-keeps s t k w known x)), free-keeps s t k w known vs is.1)
+
+pub free-kept : (s t : Store) → Keeps s t → (w : Write) → IsKnown s w.set → (ws : List Write) → IsFree t w ws → IsFree s w ws
+free-kept s t k w known [] is = tt
+free-kept s t k w known (v ∷ vs) is = ((λ x. sym (is_changed-keeps s t k w known (turned x v.bit)) ∙ is.0 x ∙ is_changed-keeps s t k w known x), free-kept s t k w known vs is.1)
+
+pub are_free-keeps : (s t : Store) → Keeps s t → (ws : List Write) → AreWrites s ws → (n : ℕ) → n ≡ length ws → AreFree s ws n → AreFree t ws n
+are_free-keeps s t k ws are n e free i h = free-keeps s t k (get_or ws i none) (are i none (omega (arith, h, e))).known (take i ws) (free i h)
+  where
+    none : Write
+    none = record { bit = 0; set = record { 0 = 0 } }
+
+change_by-keeps : (s t : Store) → Keeps s t → (keep : ℕ) (ws : List Write) → AreWrites s ws → (x : ℕ) → change_by t keep ws x ≡ change_by s keep ws x
+change_by-keeps s t k keep [] are x = refl
+change_by-keeps s t k keep (w ∷ ws) are x = λ i. bit_xor (step-keeps s t keep w x (k.same w.set x (are 0 w (omega arith)).known) i) (change_by-keeps s t k keep ws (λ j d h. are (suc j) d (omega arith)) x i)
+
+pub exchanged-extends : (v w : World) → Extends v w → (writes : List Write) → AreWrites v.store writes → (keep left change : ℕ) (map r : MapId) → HasNodes v map → HasNodes v r
+    → IsExchanged v writes keep left change map r → IsExchanged w writes keep left change map r
+exchanged-extends v w k writes are keep left change map r hm hr is = record {
+  exchanged = λ x a b h e f.
+      let first = All-take (IsWrite v.store) left writes are in
+      subst (λ c. IsTurned w (bit_xor change c) a b) (sym (change_by-keeps v.store w.store k.grows.stored keep (take left writes) first x))
+      (turned_grow v w k.grows (bit_xor change (change_by v.store keep (take left writes) x)) a b
+      (is.exchanged x a b h
+      (value_was v w k map hm _ (Some a) (ap (value w.maps map) (sym (onto-keeps v.store w.store k.grows.stored (take left writes) first x x)) ∙ e))
+      (value_was v w k r hr x (Some b) f)));
+}
+
+-- ---- the writes before one
+free_push : (s : Store) (w : Write) (ws : List Write) (v : Write) → IsFree s w ws → ((x : ℕ) → is_changed s w (turned x v.bit) ≡ is_changed s w x) → IsFree s w (ws ++ v ∷ [])
+free_push s w [] v is e = (e, tt)
+free_push s w (u ∷ us) v is e = (is.0, free_push s w us v is.1 e)
+
+pub free_next : (s : Store) (w : Write) (ws : List Write) (i : ℕ) (d : Write) → i < length ws → IsFree s w (take i ws) → ((x : ℕ) → is_changed s w (turned x (get_or ws i d).bit) ≡ is_changed s w x) → IsFree s w (take (i + 1) ws)
+free_next s w ws i d h is e = subst (IsFree s w) (sym (take-suc ws i d h) ∙ ap (λ n. take n ws) (sym (add-one i))) (free_push s w (take i ws) (get_or ws i d) is e)
+
+free_put : (s : Store) (w : Write) (b : ℕ) → ((x : ℕ) → is_changed s w (turned x b) ≡ is_changed s w x) → (y v : ℕ) → is_changed s w (with_bit y b v) ≡ is_changed s w y
+free_put s w b e y v = cond_both (bit_at y b == v) y (turned y b) (λ z. is_changed s w z ≡ is_changed s w y) (λ i. refl) (λ i. e y)
+
+free_onto : (s : Store) (w : Write) (ws : List Write) → IsFree s w ws → (x y : ℕ) → is_changed s w (onto s ws x y) ≡ is_changed s w y
+free_onto s w [] is x y = refl
+free_onto s w (v ∷ vs) is x y = free_onto s w vs is.1 x (with_bit y v.bit (digit s v.set x)) ∙ free_put s w v.bit is.0 y (digit s v.set x)
+
+off_onto : (s : Store) (ws : List Write) (b x y : ℕ) → IsOff b ws → bit_at (onto s ws x y) b ≡ bit_at y b
+off_onto s [] b x y off = refl
+off_onto s (w ∷ ws) b x y off = off_onto s ws b x (with_bit y w.bit (digit s w.set x)) off.1 ∙ bit_at-with_bit_other y w.bit (digit s w.set x) b (λ e. off.0 (sym e))
+
+off_at : (b : ℕ) (ws : List Write) (i : ℕ) (d : Write) → i < length ws → IsOff b ws → (get_or ws i d).bit ≡ b → ⊥
+off_at b [] i d h off e = absurd (omega (arith, h))
+off_at b (w ∷ ws) zero d h off e = off.0 e
+off_at b (w ∷ ws) (suc i) d h off e = off_at b ws i d (omega (arith, h)) off.1 e
+
+off_before : (ws : List Write) → AreDistinct ws → (i : ℕ) (d : Write) → i < length ws → IsOff (get_or ws i d).bit (take i ws)
+off_before [] ds i d h = absurd (omega (arith, h))
+off_before (w ∷ ws) ds zero d h = tt
+off_before (w ∷ ws) ds (suc i) d h = ((λ e. off_at w.bit ws i d (omega (arith, h)) ds.0 (sym e)), off_before ws ds.1 i d (omega (arith, h)))
+
+-- ---- one write more
+-- a bit that becomes what it isn't is turned
+put_changed : (t : Bool) (z b v : ℕ) → bit_at z b ≡ v → differs t v ≡ true → with_bit z b (cond t 1 0) ≡ turned z b
+put_changed true z b v e h = ⊎_elim
+    (λ (o : bit_at z b ≡ 0). ap (λ n. cond (n == 1) z (turned z b)) o)
+    (λ (o : bit_at z b ≡ 1). absurd (let f : false ≡ true = ap (λ n. not (n == 1)) (sym o ∙ e) ∙ h in cc))
+    (bit_cases z b)
+put_changed false z b v e h = ⊎_elim
+    (λ (o : bit_at z b ≡ 0). absurd (let f : false ≡ true = ap (λ n. n == 1) (sym o ∙ e) ∙ h in cc))
+    (λ (o : bit_at z b ≡ 1). ap (λ n. cond (n == 0) z (turned z b)) o)
+    (bit_cases z b)
+
+put_same : (t : Bool) (z b v : ℕ) → bit_at z b ≡ v → differs t v ≡ false → with_bit z b (cond t 1 0) ≡ z
+put_same true z b v e h = ⊎_elim
+    (λ (o : bit_at z b ≡ 0). absurd (let f : true ≡ false = ap (λ n. not (n == 1)) (sym o ∙ e) ∙ h in cc))
+    (λ (o : bit_at z b ≡ 1). ap (λ n. cond (n == 1) z (turned z b)) o)
+    (bit_cases z b)
+put_same false z b v e h = ⊎_elim
+    (λ (o : bit_at z b ≡ 0). ap (λ n. cond (n == 0) z (turned z b)) o)
+    (λ (o : bit_at z b ≡ 1). absurd (let f : true ≡ false = ap (λ n. n == 1) (sym o ∙ e) ∙ h in cc))
+    (bit_cases z b)
+
+-- the bit, if it is one of those that are kept
+kept_part : (keep b : ℕ) → cond (bit_at keep b == 1) (2 ^ b) 0 ≡ bit_and keep (2 ^ b)
+kept_part keep b = ⊎_elim
+    (λ (o : bit_at keep b ≡ 0). ap (λ n. cond (n == 1) (2 ^ b) 0) o ∙ sym (zero-mul (2 ^ b)) ∙ ap (λ n. n * 2 ^ b) (sym o))
+    (λ (o : bit_at keep b ≡ 1). ap (λ n. cond (n == 1) (2 ^ b) 0) o ∙ sym (one-mul (2 ^ b)) ∙ ap (λ n. n * 2 ^ b) (sym o))
+    (bit_cases keep b)
+    ∙ sym (and_one_bit keep b)
+
+module _ (w : World) (writes : List Write) (keep place left change more : ℕ) (d : Write) (map other on off high low made : MapId)
+    (h : place < length writes) (e : left ≡ suc place) (distinct : AreDistinct writes) (free : IsFree w.store (get_or writes place d) (take place writes))
+    (more_is : more ≡ bit_xor change (bit_and keep (2 ^ (get_or writes place d).bit)))
+    (ons : (y : ℕ) → value w.maps on y ≡ cond (is_changed w.store (get_or writes place d) y) (value w.maps map (turned y (get_or writes place d).bit)) (value w.maps other y))
+    (offs : (y : ℕ) → value w.maps off y ≡ cond (is_changed w.store (get_or writes place d) y) (value w.maps other y) (value w.maps map y))
+    (mades : (x : ℕ) → value w.maps made x ≡ cond (is_changed w.store (get_or writes place d) x) (value w.maps high x) (value w.maps low x))
+    (highs : IsExchanged w writes keep place more on high) (lows : IsExchanged w writes keep place change off low) where
+  abbrev here : Write
+  here = get_or writes place d
+
+  abbrev before : ℕ → ℕ
+  before x = onto w.store (take place writes) x x
+
+  abbrev by_first : ℕ → ℕ
+  by_first x = change_by w.store keep (take place writes) x
+
+  whole : take left writes ≡ take place writes ++ here ∷ []
+  whole = ap (λ n. take n writes) e ∙ take-suc writes place d h
+
+  after_is : (x : ℕ) → onto w.store (take left writes) x x ≡ with_bit (before x) here.bit (digit w.store here.set x)
+  after_is x = ap (λ ws. onto w.store ws x x) whole ∙ onto_append w.store (take place writes) (here ∷ []) x x
+
+  change_is : (x : ℕ) → change_by w.store keep (take left writes) x ≡ bit_xor (by_first x) (step w.store keep here x)
+  change_is x = ap (λ ws. change_by w.store keep ws x) whole ∙ change_more w.store keep (take place writes) here x
+
+  as_before : (x : ℕ) → is_changed w.store here (before x) ≡ is_changed w.store here x
+  as_before x = free_onto w.store here (take place writes) free x x
+
+  bit_before : (x : ℕ) → bit_at (before x) here.bit ≡ bit_at x here.bit
+  bit_before x = off_onto w.store (take place writes) here.bit x x (off_before writes distinct place d h)
+
+  where_changed : (x : ℕ) (a b : NodeId) → x < 2 ^ 64 → is_changed w.store here x ≡ true → value w.maps map (onto w.store (take left writes) x x) ≡ Some a → value w.maps made x ≡ Some b
+      → IsTurned w (bit_xor change (change_by w.store keep (take left writes) x)) a b
+  where_changed x a b l t f g =
+      let there : value w.maps on (before x) ≡ Some a =
+      ons (before x) ∙ ap (λ c. cond c (value w.maps map (turned (before x) here.bit)) (value w.maps other (before x))) (as_before x ∙ t)
+      ∙ ap (value w.maps map) (sym (put_changed (has w.store here.set x) (before x) here.bit (bit_at x here.bit) (bit_before x) t) ∙ sym (after_is x)) ∙ f in
+      let picked : value w.maps high x ≡ Some b = sym (ap (λ c. cond c (value w.maps high x) (value w.maps low x)) t) ∙ sym (mades x) ∙ g in
+      let stepped : bit_and keep (2 ^ here.bit) ≡ step w.store keep here x = sym (kept_part keep here.bit) ∙ ap (λ c. cond (bit_at keep here.bit == 1) (cond c (2 ^ here.bit) 0) 0) (sym t) in
+      subst (λ c. IsTurned w c a b)
+      (ap (λ n. bit_xor n (by_first x)) more_is ∙ xor_in_turn change (by_first x) (bit_and keep (2 ^ here.bit))
+      ∙ ap (λ n. bit_xor change (bit_xor (by_first x) n)) stepped ∙ ap (bit_xor change) (sym (change_is x)))
+      (highs.exchanged x a b l there picked)
+
+  where_same : (x : ℕ) (a b : NodeId) → x < 2 ^ 64 → is_changed w.store here x ≡ false → value w.maps map (onto w.store (take left writes) x x) ≡ Some a → value w.maps made x ≡ Some b
+      → IsTurned w (bit_xor change (change_by w.store keep (take left writes) x)) a b
+  where_same x a b l t f g =
+      let there : value w.maps off (before x) ≡ Some a =
+      offs (before x) ∙ ap (λ c. cond c (value w.maps other (before x)) (value w.maps map (before x))) (as_before x ∙ t)
+      ∙ ap (value w.maps map) (sym (put_same (has w.store here.set x) (before x) here.bit (bit_at x here.bit) (bit_before x) t) ∙ sym (after_is x)) ∙ f in
+      let picked : value w.maps low x ≡ Some b = sym (ap (λ c. cond c (value w.maps high x) (value w.maps low x)) t) ∙ sym (mades x) ∙ g in
+      let stepped : step w.store keep here x ≡ 0 = ap (λ c. cond (bit_at keep here.bit == 1) (cond c (2 ^ here.bit) 0) 0) t ∙ nothing 0 (bit_at keep here.bit == 1) in
+      subst (λ c. IsTurned w c a b)
+      (ap (bit_xor change) (sym (xor_zero_r (by_first x)) ∙ ap (bit_xor (by_first x)) (sym stepped) ∙ sym (change_is x)))
+      (lows.exchanged x a b l there picked)
+    where
+      nothing : (n : ℕ) (c : Bool) → cond c n n ≡ n
+      nothing n true = refl
+      nothing n false = refl
+
+  exchanged_step : IsExchanged w writes keep left change map made
+  exchanged_step = record {
+    exchanged = λ x a b l f g. ⊎_elim
+        (λ (t : is_changed w.store here x ≡ true). where_changed x a b l t f g)
+        (λ (t : is_changed w.store here x ≡ false). where_same x a b l t f g)
+        (cases_Bool (is_changed w.store here x));
+  }
+
+-- the worlds: at first, after the set, after the exchange, after each of the parts, after each part's turn, at the end
+pub exchanged_more : (u0 u1 u2 u3 u4 u5 u6 w : World) → Extends u0 u1 → Extends u1 u2 → Extends u2 u3 → Extends u3 u4 → Extends u4 u5 → Extends u5 u6 → Extends u6 w
+    → (writes : List Write) → AreWrites u0.store writes → AreDistinct writes → (keep place left change more : ℕ) (d : Write) (map other there on off high low made : MapId) (set : SetId)
+    → place < length writes → left ≡ suc place → IsFree u0.store (get_or writes place d) (take place writes)
+    → more ≡ bit_xor change (bit_and keep (2 ^ (get_or writes place d).bit))
+    → HasNodes u0 map → HasNodes u0 other
+    → IsSet u1.store set (is_changed u0.store (get_or writes place d))
+    → IsMap u2.maps there (λ x. value u1.maps map (turned x (get_or writes place d).bit))
+    → IsMap u3.maps on (λ x. cond (has u2.store set x) (value u2.maps there x) (value u2.maps other x)) → HasNodes u3 on
+    → IsMap u4.maps off (λ x. cond (has u3.store set x) (value u3.maps other x) (value u3.maps map x)) → HasNodes u4 off
+    → HasNodes u5 high → IsExchanged u5 writes keep place more on high
+    → HasNodes u6 low → IsExchanged u6 writes keep place change off low
+    → IsMap w.maps made (λ x. cond (has u6.store set x) (value u6.maps high x) (value u6.maps low x))
+    → IsExchanged w writes keep left change map made
+exchanged_more u0 u1 u2 u3 u4 u5 u6 w k0 k1 k2 k3 k4 k5 k6 writes are distinct keep place left change more d map other there on off high low made set h e free more_is hm ho is theres ons hon offs hoff hh highs hl lows mades =
+    exchanged_step w writes keep place left change more d map other on off high low made h e distinct
+    (free-keeps u0.store w.store from0.grows.stored here known (take place writes) free) more_is
+    (λ y. from3.maps.same on y hon.known ∙ ons.values y ∙ picks (has u2.store set y) (is_changed w.store here y) _ _ _ _ (sym (from2.grows.stored.same set y known2) ∙ member y)
+    (sym (from2.maps.same there y theres.known) ∙ there_is y) (sym (from2.maps.same other y (has_nodes-extends u0 u2 (extends_trans u0 u1 u2 k0 k1) other ho).known)))
+    (λ y. from4.maps.same off y hoff.known ∙ offs.values y ∙ picks (has u3.store set y) (is_changed w.store here y) _ _ _ _ (sym (from3.grows.stored.same set y known3) ∙ member y)
+    (sym (from3.maps.same other y (has_nodes-extends u0 u3 to3 other ho).known)) (sym (from3.maps.same map y (has_nodes-extends u0 u3 to3 map hm).known)))
+    (λ x. mades.values x ∙ picks (has u6.store set x) (is_changed w.store here x) _ _ _ _ (sym (k6.grows.stored.same set x known6) ∙ member x)
+    (sym (k6.maps.same high x (has_nodes-extends u5 u6 k5 high hh).known)) (sym (k6.maps.same low x hl.known)))
+    (exchanged-extends u5 w from5 writes (writes-extend u0 u5 to5 writes are) keep place more on high (has_nodes-extends u3 u5 (extends_trans u3 u4 u5 k3 k4) on hon) hh highs)
+    (exchanged-extends u6 w k6 writes (writes-extend u0 u6 (extends_trans u0 u5 u6 to5 k5) writes are) keep place change off low (has_nodes-extends u4 u6 (extends_trans u4 u5 u6 k4 k5) off hoff) hl lows)
+  where
+    here : Write
+    here = get_or writes place d
+
+    known : IsKnown u0.store here.set
+    known = (are place d h).known
+
+    from5 : Extends u5 w
+    from5 = extends_trans u5 u6 w k5 k6
+
+    from4 : Extends u4 w
+    from4 = extends_trans u4 u5 w k4 from5
+
+    from3 : Extends u3 w
+    from3 = extends_trans u3 u4 w k3 from4
+
+    from2 : Extends u2 w
+    from2 = extends_trans u2 u3 w k2 from3
+
+    from1 : Extends u1 w
+    from1 = extends_trans u1 u2 w k1 from2
+
+    from0 : Extends u0 w
+    from0 = extends_trans u0 u1 w k0 from1
+
+    to3 : Extends u0 u3
+    to3 = extends_trans u0 u2 u3 (extends_trans u0 u1 u2 k0 k1) k2
+
+    to5 : Extends u0 u5
+    to5 = extends_trans u0 u4 u5 (extends_trans u0 u3 u4 to3 k3) k4
+
+    known2 : IsKnown u2.store set
+    known2 = set-extends u1 u2 k1 set is.known
+
+    known3 : IsKnown u3.store set
+    known3 = set-extends u2 u3 k2 set known2
+
+    known6 : IsKnown u6.store set
+    known6 = set-extends u3 u6 (extends_trans u3 u5 u6 (extends_trans u3 u4 u5 k3 k4) k5) set known3
+
+    member : (x : ℕ) → has w.store set x ≡ is_changed w.store here x
+    member x = from1.grows.stored.same set x is.known ∙ is.members x ∙ sym (is_changed-keeps u0.store w.store from0.grows.stored here known x)
+
+    there_is : (y : ℕ) → value w.maps there y ≡ value w.maps map (turned y here.bit)
+    there_is y = from2.maps.same there y theres.known ∙ theres.values y ∙ sym (from1.maps.same map (turned y here.bit) (has_nodes-extends u0 u1 k0 map hm).known)
+
+    picks : (b c : Bool) (p q r s : Option NodeId) → b ≡ c → p ≡ r → q ≡ s → cond b p q ≡ cond c r s
+    picks b c p q r s i j l = λ n. cond (i n) (j n) (l n)
+
+pub exchanged_none : (w : World) (writes : List Write) (keep left change : ℕ) (map r : MapId) → left ≡ 0 → IsChanged w (λ x. change) map r → IsExchanged w writes keep left change map r
+exchanged_none w writes keep left change map r e is = subst (λ n. IsExchanged w writes keep n change map r) (sym e)
+    (record { exchanged = λ x a b h f g. subst (λ c. IsTurned w c a b) (sym (xor_zero_r change)) (is.changed x a b h f g) })
+
+pub set_still : (s t : Store) → Keeps s t → (set : SetId) (f : ℕ → Bool) → IsSet s set f → IsSet t set f
+set_still s t k set f is = record { known = known-keeps s t k set is.known; members = λ x. k.same set x is.known ∙ is.members x }
+
+pub exchanged_by : (w : World) (writes all : List Write) (keep left change : ℕ) (map r : MapId) → writes ≡ all → left ≡ length all → IsExchanged w writes keep left change map r → IsExchanged w all keep (length all) change map r
+exchanged_by w writes all keep left change map r e size is = subst (λ n. IsExchanged w all keep n change map r) size (subst (λ ws. IsExchanged w ws keep left change map r) e is)

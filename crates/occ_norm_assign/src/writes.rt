@@ -1,0 +1,308 @@
+ghost use Rattle.std.specs.Prelude.{◌≡◌, ℕ, ◌+◌, ◌++◌, ◌≤◌, ◌<◌, true, length, IfOk, OnOk};
+ghost use Rattle.std.specs.List.{All};
+ghost use Rattle.occ_bits.specs.Layout.{environment_in};
+ghost use Rattle.occ_dd.specs.Store.{IsKnown as IsSetKnown};
+ghost use Rattle.occ_dd.specs.declared.store.Store.{Store};
+ghost use Rattle.occ_follow.specs.Sequence.{HasNodes};
+ghost use Rattle.occ_norm_maps.specs.Maps.{Extends};
+ghost use Rattle.occ_syntax.specs.Scopes.{variable_width};
+ghost use Rattle.occ_syntax.specs.Types.{agree, pairs_kept, type_of};
+ghost use Rattle.occ_syntax.specs.View.{exp, exps, numbers};
+ghost use Rattle.occ_syntax.specs.Scopes.{Environment};
+ghost use Rattle.occ_syntax.specs.Tree.{assign};
+ghost use Rattle.occ_norm_frame.specs.After.{IsAfter, IsOver};
+ghost use Rattle.occ_norm_frame.specs.Changes.{IsChanged};
+ghost use Rattle.occ_norm_frame.specs.Placed.{IsAround};
+ghost use Rattle.occ_norm_assign.specs.Writes.{AreWrites, IsWrite};
+ghost use Rattle.occ_norm_assign.specs.Written.{Adds, AreAssigned, AreDistinct, AreFree, IsExchanged, IsFree, IsSubstituted, KeepSubstituted, digit_writes, step};
+
+use occ_base::{Memory, Name};
+use occ_dd::SetId;
+use occ_diagram::{Call, Memo};
+use occ_mdd::MapId;
+use occ_node::World;
+use occ_norm_frame::{Frame, changed, digits, has_bit, is_free, is_full, turned_on};
+use occ_norm_maps::{choose, cofactor, flip, shifted, stop};
+use occ_syntax::Expr;
+use std::alloc::Global;
+
+/// A bit that is assigned, with the set of the states in which it becomes 1.
+#[derive(Clone, Copy)]
+pub struct Write {
+    pub bit: u32,
+    pub set: SetId,
+}
+
+// Adds the writes of some digits, in a row from a bit on.
+fn add_digits(sets: &[SetId], first: u32, writes: &mut Vec<Write>) -> Result<(), Memory>
+    requires { first + length sets.now ≤ 64 }
+    ensures writes { OnOk result ((s : Store) → AreWrites s writes.old.items → All (IsSetKnown s) sets.now
+        → AreWrites s writes.new.items) }
+    ensures each { OnOk result (writes.new.items ≡ writes.old.items ++ digit_writes first sets.now) }
+{
+    for place in 0..sets.len() {
+        let bit = first + place as u32;
+        writes.push(Write {
+            bit,
+            set: sets[place],
+        })?;
+    }
+    Ok(())
+}
+
+// Adds the writes of an assignment to one variable.
+fn add_writes(
+    alloc: Global,
+    world: &mut World,
+    frame: &Frame,
+    var: Name,
+    value: &Expr,
+    writes: &mut Vec<Write>,
+) -> Result<(), Memory>
+    requires writes { AreWrites world.old.store writes.old.items }
+    requires agree { agree (variable_width (environment_in frame.now.layout) var.0) (type_of (environment_in frame.now.layout) (exp value.now)) ≡ true }
+    ensures extends { Extends world.old world.new }
+    ensures writes { OnOk result (AreWrites world.new.store writes.new.items) }
+    ensures adds { OnOk result (Adds world.new.store frame.now.layout var.0 (exp value.now)
+        writes.old.items writes.new.items) }
+{
+    let (_, first) = frame.slot(var);
+    let word = digits(alloc, world, frame, value)?;
+    add_digits(word.bits(), first, writes)?;
+    Ok(())
+}
+
+// The bits that an assignment writes.
+fn writes_of(
+    alloc: Global,
+    world: &mut World,
+    frame: &Frame,
+    vars: &[Name],
+    values: &[Expr],
+) -> Result<Vec<Write>, Memory>
+    requires pairs { pairs_kept (environment_in frame.now.layout) (numbers vars.now) (exps values.now) ≡ true }
+    requires same { length vars.now ≡ length values.now }
+    ensures extends { Extends world.old world.new }
+    ensures writes { IfOk result (λ r. AreWrites world.new.store r.items) }
+    ensures assigned { IfOk result (λ r. AreAssigned world.new.store frame.now.layout
+        (numbers vars.now) (exps values.now) r.items) }
+{
+    let mut writes = Vec::new(alloc);
+    for place in 0..vars.len() {
+        add_writes(
+            alloc,
+            world,
+            frame,
+            vars[place],
+            &values[place],
+            &mut writes,
+        )?;
+    }
+    Ok(writes)
+}
+
+// The map whose value at a state is this one's at the state that the first writes, so many, make of it.
+fn substituted(
+    world: &mut World,
+    writes: &[Write],
+    left: usize,
+    map: MapId,
+    memo: &mut Memo,
+) -> Result<MapId, Memory>
+    requires left { left ≤ length writes.now }
+    requires writes { AreWrites world.old.store writes.now }
+    requires map { HasNodes world.old map }
+    requires memo { KeepSubstituted world.old writes.now memo.old }
+    ensures extends { Extends world.old world.new }
+    ensures memo { KeepSubstituted world.new writes.now memo.new }
+    ensures substituted { IfOk result (IsSubstituted world.new writes.now left map) }
+{
+    if left == 0 {
+        return Ok(map);
+    }
+    let call = Call {
+        first: left,
+        second: map.0,
+        third: 0,
+    };
+    if let Some(known) = memo.get(call) {
+        return Ok(MapId(known));
+    }
+    let place = left - 1;
+    let write = writes[place];
+    let zero = cofactor(world, map, write.bit, false)?;
+    let one = cofactor(world, map, write.bit, true)?;
+    let low = substituted(world, writes, place, zero, memo)?;
+    let high = substituted(world, writes, place, one, memo)?;
+    let made = choose(world, write.set, high, low)?;
+    memo.insert(call, made.0)?;
+    Ok(made)
+}
+
+// The map of a write and then what another map has, as to final states.
+fn written(
+    alloc: Global,
+    world: &mut World,
+    keep: u64,
+    write: Write,
+    map: MapId,
+) -> Result<MapId, Memory>
+    requires write { IsWrite world.old.store write }
+    requires map { HasNodes world.old map }
+    ensures extends { Extends world.old world.new }
+    ensures nodes { IfOk result (HasNodes world.new) }
+    ensures changed { IfOk result (IsChanged world.new (step world.old.store keep write) map) }
+{
+    if !has_bit(keep, write.bit) {
+        return Ok(map);
+    }
+    let changed = changed(world, write.set, write.bit)?;
+    turned_on(alloc, world, changed, write.bit, map)
+}
+
+// Whether a set has the same states whatever the bits below a bit are.
+fn is_above(world: &mut World, set: SetId, bit: u32) -> Result<bool, Memory>
+    requires set { IsSetKnown world.old.store set }
+    requires bit { bit ≤ 64 }
+    ensures { Extends world.old world.new }
+{
+    for below in 0..bit {
+        let free = is_free(world, set, below)?;
+        if !free {
+            return Ok(false);
+        }
+    }
+    Ok(true)
+}
+
+// Whether what a write changes doesn't depend on the bits of some writes, nor on any bit below its own: parting a map by it
+// is quick then.
+fn is_apart(world: &mut World, write: Write, others: &[Write]) -> Result<bool, Memory>
+    requires write { IsWrite world.old.store write }
+    requires others { AreWrites world.old.store others.now }
+    ensures extends { Extends world.old world.new }
+    ensures free { IfOk result (λ answer. answer ≡ true → IsFree world.old.store write others.now) }
+{
+    let set = changed(world, write.set, write.bit)?;
+    let above = is_above(world, set, write.bit)?;
+    if !above {
+        return Ok(false);
+    }
+    for place in 0..others.len() {
+        let free = is_free(world, set, others[place].bit)?;
+        if !free {
+            return Ok(false);
+        }
+    }
+    Ok(true)
+}
+
+// Whether what each write changes doesn't depend on the bits of those before it.
+fn are_apart(world: &mut World, writes: &[Write]) -> Result<bool, Memory>
+    requires writes { AreWrites world.old.store writes.now }
+    ensures extends { Extends world.old world.new }
+    ensures free { IfOk result (λ answer. answer ≡ true → AreFree world.old.store writes.now (length writes.now)) }
+{
+    for place in 0..writes.len() {
+        let free = is_apart(world, writes[place], &writes[..place])?;
+        if !free {
+            return Ok(false);
+        }
+    }
+    Ok(true)
+}
+
+// Whether writes can be made all at once, and the map has so many nodes that this takes less time.
+fn are_joint(world: &mut World, writes: &[Write], map: MapId) -> Result<bool, Memory>
+    requires writes { AreWrites world.old.store writes.now }
+    requires map { HasNodes world.old map }
+    ensures extends { Extends world.old world.new }
+    ensures free { IfOk result (λ answer. answer ≡ true → AreFree world.new.store writes.now (length writes.now)) }
+{
+    if 16 < writes.len() {
+        return Ok(false);
+    }
+    let full = is_full(world, writes.len() as u32 + 6, map)?;
+    if !full {
+        return Ok(false);
+    }
+    are_apart(world, writes)
+}
+
+// The map of the first writes, so many, and then what a map has, where some more bits of final states are turned. What each
+// write changes doesn't depend on the bits of those before it. So the states are parted by what is changed, and in each part
+// those bits of the states are exchanged and all nodes turned once; outside the part stands any other map.
+fn exchanged(
+    alloc: Global,
+    world: &mut World,
+    keep: u64,
+    writes: &[Write],
+    left: usize,
+    change: u64,
+    map: MapId,
+    other: MapId,
+) -> Result<MapId, Memory>
+    requires left { left ≤ length writes.now }
+    requires writes { AreWrites world.old.store writes.now }
+    requires distinct { AreDistinct writes.now }
+    requires free { AreFree world.old.store writes.now (length writes.now) }
+    requires map { HasNodes world.old map }
+    requires other { HasNodes world.old other }
+    ensures extends { Extends world.old world.new }
+    ensures nodes { IfOk result (HasNodes world.new) }
+    ensures exchanged { IfOk result (IsExchanged world.new writes.now keep left change map) }
+{
+    if left == 0 {
+        return shifted(alloc, world, map, change);
+    }
+    let place = left - 1;
+    let Write { bit, set } = writes[place];
+    let turns = changed(world, set, bit)?;
+    let there = flip(world, map, bit)?;
+    let on = choose(world, turns, there, other)?;
+    let off = choose(world, turns, other, map)?;
+    let more = change ^ (keep & (1 << bit));
+    let high = exchanged(alloc, world, keep, writes, place, more, on, other)?;
+    let low = exchanged(alloc, world, keep, writes, place, change, off, other)?;
+    choose(world, turns, high, low)
+}
+
+/// The map of an assignment and then what another map has.
+pub fn assigned(
+    alloc: Global,
+    world: &mut World,
+    frame: &Frame,
+    vars: &[Name],
+    values: &[Expr],
+    rest: MapId,
+) -> Result<MapId, Memory>
+    requires pairs { pairs_kept (environment_in frame.now.layout) (numbers vars.now) (exps values.now) ≡ true }
+    requires rest { IsOver world.old frame.now.bits rest }
+    ensures extends { Extends world.old world.new }
+    ensures nodes { IfOk result (HasNodes world.new) }
+    ensures after { IfOk result (λ r. (Γ : Environment) → IsAround Γ frame.now.vars
+        → IsAfter world.new frame.now.layout frame.now.keep frame.now.closed.items Γ (assign (numbers vars.now) (exps values.now)) rest r) }
+{
+    let writes = writes_of(alloc, world, frame, vars, values)?;
+    let joint = are_joint(world, &writes, rest)?;
+    if joint {
+        let other = stop(alloc, world)?;
+        return exchanged(
+            alloc,
+            world,
+            frame.keep,
+            &writes,
+            writes.len(),
+            0,
+            rest,
+            other,
+        );
+    }
+    let mut memo = Memo::new(alloc);
+    let mut map = substituted(world, &writes, writes.len(), rest, &mut memo)?;
+    for write in &writes {
+        let next = written(alloc, world, frame.keep, *write, map)?;
+        map = next;
+    }
+    Ok(map)
+}

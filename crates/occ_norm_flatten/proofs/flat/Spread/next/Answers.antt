@@ -1,0 +1,19 @@
+use Rattle.std.proofs.Common.{ap, refl, sym, ◌∙◌, take, length, ◌-◌}
+use Rattle.occ_syntax.proofs.Views.{tree-Par}
+use Rattle.occ_syntax.specs.Tree.{connect, par}
+use Rattle.occ_syntax.specs.View.{tree, trees}
+use Rattle.occ_norm_flatten.proofs.Listed.{last_place, trees_last}
+use Rattle.occ_norm_flatten.specs.Spread.{channel, parts}
+use Rattle.occ_norm_flatten.proofs.flat.Spread.next.Goals as goal
+
+pub returns-in_ok-push-in-Chan : goal.returns-in_ok-push-in-Chan
+unfolding tree
+returns-in_ok-push-in-Chan c = channel c.in-Chan.name c.in-Chan.width (ap tree c.in-Chan.is ∙ ap (λ p. connect c.in-Chan.name.0 c.in-Chan.width (tree p)) (sym c.deref.ensures)) c.in_ok-push-in-Chan.ensures.ok refl
+
+pub returns-in_ok-push_all-in-Par : goal.returns-in_ok-push_all-in-Par
+returns-in_ok-push_all-in-Par c =
+    let items = c.items-items.result.now in
+    let last = last_place items (sym c.is_empty.ensures ∙ c.if-is_empty.false) in
+    parts (trees (take (length items - 1) items))
+    (ap tree c.in-Par.is ∙ tree-Par c.in-Par.parts ∙ ap (λ xs. par (trees xs)) (sym c.items-items.ensures) ∙ ap par (trees_last items (length items - 1) c.index-items-front.result last c.index-items-front.is))
+    c.in_ok-push_all-in-Par.ensures.parts c.in_ok-push_all-in-Par.ensures.chans

@@ -1,0 +1,240 @@
+ghost use Rattle.std.specs.Prelude.{◌≡◌, ℕ, ◌≤◌, ◌<◌, ◌+◌, ◌-◌, ◌^◌, IfOk, bit_and, bit_xor, if◌then◌else◌};
+ghost use Rattle.occ_dd.specs.Store.{IsKnown as IsSetKnown, has};
+ghost use Rattle.occ_follow.specs.Sequence.{HasNodes};
+ghost use Rattle.occ_mdd.specs.Maps.{IsKnown};
+ghost use Rattle.occ_norm_maps.specs.Maps.{Extends};
+ghost use Rattle.occ_norm_frame.specs.Changes.{IsChanged, IsFreed, IsSupport};
+
+use crate::frame::has_bit;
+use crate::sets::bit_set;
+use occ_base::Memory;
+use occ_dd::SetId;
+use occ_mdd::MapId;
+use occ_node::World;
+use occ_norm_maps::{choose, cofactor, depends, shifted, united};
+use std::alloc::Global;
+
+/// The map where, at the states of the set, a bit of all final states is turned.
+pub fn turned_on(
+    alloc: Global,
+    world: &mut World,
+    set: SetId,
+    bit: u32,
+    map: MapId,
+) -> Result<MapId, Memory>
+    requires set { IsSetKnown world.old.store set }
+    requires bit { bit < 64 }
+    requires map { HasNodes world.old map }
+    ensures extends { Extends world.old world.new }
+    ensures nodes { IfOk result (HasNodes world.new) }
+    ensures changed { IfOk result (IsChanged world.new (λ x. if has world.old.store set x then 2 ^ bit else 0) map) }
+{
+    let turned = shifted(alloc, world, map, 1 << bit)?;
+    choose(world, set, turned, map)
+}
+
+// The same where the bit is 1, if it is one of some bits.
+fn rebased_at(
+    alloc: Global,
+    world: &mut World,
+    bits: u64,
+    bit: u32,
+    map: MapId,
+) -> Result<MapId, Memory>
+    requires bit { bit < 64 }
+    requires map { HasNodes world.old map }
+    ensures extends { Extends world.old world.new }
+    ensures nodes { IfOk result (HasNodes world.new) }
+    ensures changed { IfOk result (IsChanged world.new (λ x. bit_and x (bit_and bits (2 ^ bit))) map) }
+{
+    if !has_bit(bits, bit) {
+        return Ok(map);
+    }
+    let set = bit_set(world, bit)?;
+    turned_on(alloc, world, set, bit, map)
+}
+
+// Those of some bits that don't stand below a bit.
+fn not_below(bits: u64, bit: u32) -> u64
+    requires { bit < 64 }
+    ensures { (x : ℕ) → bit_xor (bit_and x (bit_and bits (2 ^ bit - 1))) (bit_and x result) ≡ bit_and x bits }
+{
+    bits ^ (bits & ((1 << bit) - 1))
+}
+
+/// One more than the highest bit on which a map depends, or 0 where it depends on none.
+pub fn depth(world: &mut World, map: MapId) -> Result<u32, Memory>
+    requires { IsKnown world.old.maps map }
+    ensures { Extends world.old world.new }
+{
+    for place in 0..64 {
+        let bit = 63 - place;
+        let matters = depends(world, map, bit)?;
+        if matters {
+            return Ok(bit + 1);
+        }
+    }
+    Ok(0)
+}
+
+// How many nodes a map has.
+fn node_count(world: &mut World, map: MapId) -> Result<usize, Memory>
+    requires { IsKnown world.old.maps map }
+    ensures { Extends world.old world.new }
+{
+    let full = world.store.full();
+    let nodes = world.maps.leaves_under(&mut world.store, map, full)?;
+    Ok(nodes.len())
+}
+
+/// Whether a map has a node of its own for each fourth assignment of its bits, or of so many bits.
+pub fn is_full(world: &mut World, bits: u32, map: MapId) -> Result<bool, Memory>
+    requires { IsKnown world.old.maps map }
+    ensures { Extends world.old world.new }
+{
+    let deep = depth(world, map)?.max(bits).max(2);
+    if 24 < deep {
+        return Ok(false);
+    }
+    let nodes = node_count(world, map)?;
+    Ok(nodes >> (deep - 2) > 0)
+}
+
+// Whether turning each state once by all of some bits, from a bit on, takes less time than turning the map for each bit by
+// itself: so where it has about as many nodes as there are states, or half as many and more with each bit. `before` is how
+// many it had before the last bit, and becomes how many it has.
+fn is_quicker_at_once(
+    world: &mut World,
+    bits: u64,
+    bit: u32,
+    before: &mut usize,
+    map: MapId,
+) -> Result<bool, Memory>
+    requires bit { bit < 64 }
+    requires map { IsKnown world.old.maps map }
+    ensures { Extends world.old world.new }
+{
+    if !has_bit(bits, bit) || bits.count_ones() < 4 {
+        return Ok(false);
+    }
+    let highest = 64_u32.saturating_sub(bits.leading_zeros());
+    let deep = depth(world, map)?.max(highest).max(2);
+    if 24 < deep {
+        return Ok(false);
+    }
+    let nodes = node_count(world, map)?;
+    let was = *before;
+    *before = nodes;
+    let grows = 0 < was && was / 2 <= nodes / 3;
+    let many = if grows { deep - 2 } else { deep - 1 };
+    Ok(nodes >> many > 0)
+}
+
+// The map where some bits of all final states are turned, and those of `bits` below `left` that are 1 in the state: each
+// state's node is turned once, by all of them together.
+fn turned_by(
+    alloc: Global,
+    world: &mut World,
+    bits: u64,
+    left: u32,
+    change: u64,
+    map: MapId,
+) -> Result<MapId, Memory>
+    requires left { left ≤ 64 }
+    requires map { HasNodes world.old map }
+    ensures extends { Extends world.old world.new }
+    ensures nodes { IfOk result (HasNodes world.new) }
+    ensures changed { IfOk result (IsChanged world.new (λ x. bit_xor change (bit_and x (bit_and bits (2 ^ left - 1)))) map) }
+{
+    if left == 0 {
+        return shifted(alloc, world, map, change);
+    }
+    let bit = left - 1;
+    if !has_bit(bits, bit) {
+        return turned_by(alloc, world, bits, bit, change, map);
+    }
+    let zero = cofactor(world, map, bit, false)?;
+    let one = cofactor(world, map, bit, true)?;
+    let low = turned_by(alloc, world, bits, bit, change, zero)?;
+    let high = turned_by(alloc, world, bits, bit, change ^ (1 << bit), one)?;
+    let set = bit_set(world, bit)?;
+    choose(world, set, high, low)
+}
+
+/// The map where each of some bits is turned in all final states of the states in which it is 1: what was a change of these
+/// bits is then their final value, and what was their final value a change.
+// Bit by bit while the map is small, since many states can have one node then; each state by all that are left once it is large.
+pub fn rebased(alloc: Global, world: &mut World, bits: u64, map: MapId) -> Result<MapId, Memory>
+    requires { HasNodes world.old map }
+    ensures extends { Extends world.old world.new }
+    ensures nodes { IfOk result (HasNodes world.new) }
+    ensures changed { IfOk result (IsChanged world.new (λ x. bit_and x bits) map) }
+{
+    let mut rebased = map;
+    let mut before = 0;
+    for bit in 0..64 {
+        let rest = not_below(bits, bit);
+        let together = is_quicker_at_once(world, rest, bit, &mut before, rebased)?;
+        if together {
+            return turned_by(alloc, world, rest, 64, 0, rebased);
+        }
+        let next = rebased_at(alloc, world, bits, bit, rebased)?;
+        rebased = next;
+    }
+    Ok(rebased)
+}
+
+// The map in which a bit has any value.
+fn freed_at(alloc: Global, world: &mut World, bit: u32, map: MapId) -> Result<MapId, Memory>
+    requires bit { bit < 64 }
+    requires map { HasNodes world.old map }
+    ensures extends { Extends world.old world.new }
+    ensures nodes { IfOk result (HasNodes world.new) }
+    ensures freed { IfOk result (IsFreed world.new bit (bit + 1) map) }
+{
+    let matters = depends(world, map, bit)?;
+    if !matters {
+        return Ok(map);
+    }
+    let zero = cofactor(world, map, bit, false)?;
+    let one = cofactor(world, map, bit, true)?;
+    united(alloc, world, zero, one)
+}
+
+/// The map in which the bits from `first` on, up to the bit `end`, have any values.
+pub fn freed(
+    alloc: Global,
+    world: &mut World,
+    first: u32,
+    end: u32,
+    map: MapId,
+) -> Result<MapId, Memory>
+    requires order { first ≤ end }
+    requires end { end ≤ 24 }
+    requires map { HasNodes world.old map }
+    ensures extends { Extends world.old world.new }
+    ensures nodes { IfOk result (HasNodes world.new) }
+    ensures freed { IfOk result (IsFreed world.new first end map) }
+{
+    let mut freed = map;
+    for bit in first..end {
+        let next = freed_at(alloc, world, bit, freed)?;
+        freed = next;
+    }
+    Ok(freed)
+}
+
+/// Those of the lowest bits, so many, on which a map depends.
+pub fn support(world: &mut World, count: u32, map: MapId) -> Result<u64, Memory>
+    requires count { count ≤ 24 }
+    requires map { HasNodes world.old map }
+    ensures extends { Extends world.old world.new }
+    ensures support { IfOk result (IsSupport world.new count map) }
+{
+    let mut bits: u64 = 0;
+    for bit in 0..count {
+        let matters = depends(world, map, bit)?;
+        bits |= u64::from(matters) << bit;
+    }
+    Ok(bits)
+}

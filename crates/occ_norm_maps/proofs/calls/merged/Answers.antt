@@ -1,0 +1,13 @@
+use Rattle.std.proofs.lemmas.Result.{IfOk-weaker}
+use Rattle.occ_norm_maps.specs.Lifted.{IsMerged, IsPrefixed, IsTurned, IsWovenOf}
+use Rattle.occ_norm_maps.proofs.Worlds.{either_may, either_nodes, extends_refl, finish_nodes, has_nodes-extends, may_have, one_nodes, same_shifted, two_nodes}
+use Rattle.occ_norm_maps.proofs.calls.merged.Goals as goal
+
+pub lift-requires-clause-a : goal.lift-requires-clause-a
+lift-requires-clause-a c = may_have c.args.world.now c.args.a c.requires.a
+
+pub lift-requires-clause-b : goal.lift-requires-clause-b
+lift-requires-clause-b c = may_have c.args.world.now c.args.b c.requires.b
+
+pub returns-clause-nodes : goal.returns-clause-nodes
+returns-clause-nodes c = IfOk-weaker c.lift.result _ _ (λ r is. two_nodes c.lift.new.world c.args.a c.args.b r (IsMerged c.lift.new.world) (λ p q s k. k.merged.known) (has_nodes-extends c.args.world.now c.lift.new.world c.lift.ensures.extends c.args.a c.requires.a) (has_nodes-extends c.args.world.now c.lift.new.world c.lift.ensures.extends c.args.b c.requires.b) is) c.lift.ensures.lifted

@@ -1,0 +1,13 @@
+use Rattle.std.proofs.lemmas.Result.{IfOk-weaker}
+use Rattle.occ_norm_maps.specs.Lifted.{IsMerged, IsPrefixed, IsTurned, IsWovenOf}
+use Rattle.occ_norm_maps.proofs.Worlds.{either_may, either_nodes, extends_refl, finish_nodes, has_nodes-extends, may_have, one_nodes, same_shifted, two_nodes}
+use Rattle.occ_norm_maps.proofs.calls.prefixed.Goals as goal
+
+pub lift-requires-clause-a : goal.lift-requires-clause-a
+lift-requires-clause-a c = may_have c.args.world.now c.args.map c.requires
+
+pub lift-requires-clause-b : goal.lift-requires-clause-b
+lift-requires-clause-b c = may_have c.args.world.now c.args.map c.requires
+
+pub returns-clause-nodes : goal.returns-clause-nodes
+returns-clause-nodes c = IfOk-weaker c.lift.result _ _ (λ r is. one_nodes c.lift.new.world c.args.map r (IsPrefixed c.lift.new.world c.args.event) (λ p s k. k.prefixed.known) (has_nodes-extends c.args.world.now c.lift.new.world c.lift.ensures.extends c.args.map c.requires) is) c.lift.ensures.lifted

@@ -1,0 +1,13 @@
+pub mod Silent
+pub mod Using
+pub mod Assignments
+pub mod Alone
+pub mod Pair
+pub mod Spanning
+pub mod Writing
+pub mod Closing
+pub mod Together
+pub mod Words
+pub mod Steps
+pub mod Made
+pub mod Sequels

@@ -1,0 +1,340 @@
+-- What is known of maps of processes and what follows them: as the world grows, and one bit more.
+use Rattle.std.proofs.Common.{◌≡◌, ◌⊎◌, ◌<◌, ◌≤◌, ◌^◌, ◌==◌, ℕ, suc, Bool, true, false, cond, List, Some, None, Result, Ok, Err, ⊎_elim, inl, inr, refl, sym, ap, ◌∙◌, subst, arith, lit<, ◌≢◌}
+use Rattle.std.specs.Prelude.{◌↔◌}
+use Rattle.std.proofs.lemmas.Bool.{cond-true, cond-false, cases_lt}
+use Rattle.std.proofs.lemmas.Nat.{xor_lt}
+use Rattle.std.proofs.lemmas.Option.{same_Some}
+use Rattle.std.specs.Int.{bit_at}
+use Rattle.std.specs.Result.{IfOk}
+use Rattle.std.specs.Int.Bits.{bit_xor, xor_assoc, xor_zero_r}
+use Rattle.occ_base.specs.declared.event.Event.{Event}
+use Rattle.occ_diagram.specs.Assignment.{turned, with_bit}
+use Rattle.occ_diagram.specs.Memo.{Learns, recalled}
+use Rattle.occ_diagram.specs.declared.memo.Call.{Call}
+use Rattle.occ_diagram.specs.declared.memo.Memo.{Memo}
+use Rattle.occ_diagram.proofs.Bits.{bit_cases, is_one, is_zero, bit_at-with_bit_same, bit_at-with_bit_other, with_bit_lt, with_bit_same}
+use Rattle.occ_mdd.specs.Maps.{IsMap, value}
+use Rattle.occ_mdd.specs.declared.map.MapId.{MapId}
+use Rattle.occ_node.specs.World.{IsNode, fails, ends}
+use Rattle.occ_node.specs.declared.node.NodeId.{NodeId}
+use Rattle.occ_node.specs.declared.world.World.{World}
+use Rattle.occ_follow.specs.Sequence.{Continues, HasNodes}
+use Rattle.occ_weave.proofs.Growth.{trans_iff, iff_of_same}
+use Rattle.occ_norm_maps.specs.Growth.{turned_grow}
+use Rattle.occ_norm_maps.specs.Lifted.{IsTurned}
+use Rattle.occ_norm_maps.specs.Maps.{Extends, IsSequel, digit}
+use Rattle.occ_norm_maps.proofs.Worlds.{has_nodes-extends}
+use Rattle.occ_norm_frame.specs.After.{AgreeBelow, IsOver}
+use Rattle.occ_norm_frame.specs.Changes.{IsChanged}
+use Rattle.occ_norm_frame.specs.Kept.{map_id}
+use Rattle.occ_norm_frame.proofs.After.{map_node, value_is, value_was}
+use Rattle.occ_norm_frame.proofs.Changing.{turned_none}
+use Rattle.occ_norm_par.specs.Joints.{image, IsJoint, IsStepped, Joins, KeepJoints, kept_change, step_change, stepped, turn}
+use Rattle.occ_norm_par.specs.declared.joint.Joint.{Joint}
+use Rattle.occ_norm_par.proofs.Words.{change_free, change_same, change_written, image_lt, stepped_free, stepped_lt, stepped_same, stepped_written, turn_lt}
+
+pub or_iff : {P Q A B : Type 0} → P ↔ Q → A ↔ B → (P ⊎ A) ↔ (Q ⊎ B)
+or_iff f g = (λ s. ⊎_elim (λ p. inl (f.0 p)) (λ a. inr (g.0 a)) s, λ s. ⊎_elim (λ q. inl (f.1 q)) (λ b. inr (g.1 b)) s)
+
+pub ok_both : {X Y : Type 0} (r : Result X Y) (P Q R : X → Type 0) → ((x : X) → P x → Q x → R x) → IfOk r P → IfOk r Q → IfOk r R
+ok_both (Ok x) P Q R f p q = f x p q
+ok_both (Err e) P Q R f p q = tt
+
+-- ---- values of maps
+-- a map that was made of another by moving its values
+pub moved_values : (u v w : World) → Extends u v → Extends v w → (map r : MapId) (f : ℕ → ℕ) → HasNodes u map → IsMap v.maps r (λ x. value u.maps map (f x)) → (x : ℕ) → value w.maps r x ≡ value w.maps map (f x)
+moved_values u v w k l map r f has is x =
+    l.maps.same r x is.known ∙ is.values x ∙ sym (k.maps.same map (f x) has.known) ∙ sym (l.maps.same map (f x) (has_nodes-extends u v k map has).known)
+
+-- ---- growth
+module _ (v w : World) (k : Extends v w) (j : Joint) where
+  pub stepped_grow : (bit d : ℕ) (next r : MapId) → bit < 64 → IsStepped v j bit d next r → IsStepped w j bit d next r
+  stepped_grow bit d next r few is = record {
+    before = has_nodes-extends v w k next is.before;
+    after = has_nodes-extends v w k r is.after;
+    changed = λ z m n h e f. turned_grow v w k.grows (step_change j bit z) m n
+        (is.changed z m n h (value_was v w k next is.before (stepped j bit d z) _ e) (value_was v w k r is.after z _ f));
+  }
+
+  joins_grow : (left x : ℕ) (a : NodeId) (next : MapId) (A B : ℕ → NodeId → List Event → Bool) → left ≤ 64 → HasNodes v next → IsNode v a
+      → ((z : ℕ) (m : NodeId) (u : List Event) → IsNode v m → B z m u ≡ A z m u)
+      → (t : List Event) → Joins v j left x a next A t ↔ Joins w j left x a next B t
+  joins_grow left x a next A B few has known same t = (
+    λ s. record {
+      t1 = s.t1;
+      t2 = s.t2;
+      z = s.z;
+      m = s.m;
+      whole = s.whole;
+      below = s.below;
+      ended = k.grows.same_ends a s.t1 s.z known ∙ s.ended;
+      leads = value_is v w k next has (image j left x s.z) _ s.leads;
+      behaved = same s.z s.m s.t2 (map_node v next has (image j left x s.z) (image_lt j left x s.z few s.below) s.m s.leads) ∙ s.behaved;
+    },
+    λ s. let before : value v.maps next (image j left x s.z) ≡ Some s.m = value_was v w k next has (image j left x s.z) _ s.leads in record {
+      t1 = s.t1;
+      t2 = s.t2;
+      z = s.z;
+      m = s.m;
+      whole = s.whole;
+      below = s.below;
+      ended = sym (k.grows.same_ends a s.t1 s.z known) ∙ s.ended;
+      leads = before;
+      behaved = sym (same s.z s.m s.t2 (map_node v next has (image j left x s.z) (image_lt j left x s.z few s.below) s.m before)) ∙ s.behaved;
+    },
+  )
+
+  pub joint_grow : (left : ℕ) (map next r : MapId) → IsJoint v j left map next r → IsJoint w j left map next r
+  joint_grow left map next r is = record {
+    few = is.few;
+    first = has_nodes-extends v w k map is.first;
+    second = has_nodes-extends v w k next is.second;
+    known = has_nodes-extends v w k r is.known;
+    joint_fails = λ x a b h e f t X.
+        let ea : value v.maps map x ≡ Some a = value_was v w k map is.first x _ e in
+        let eb : value v.maps r x ≡ Some b = value_was v w k r is.known x _ f in
+        let na : IsNode v a = map_node v map is.first x h a ea in
+        let nb : IsNode v b = map_node v r is.known x h b eb in
+        trans_iff (iff_of_same _ _ (k.grows.same_fails b t X nb))
+        (trans_iff (is.joint_fails x a b h ea eb t X)
+        (or_iff (iff_of_same _ _ (sym (k.grows.same_fails a t X na)))
+        (joins_grow left x a next (λ z m u. fails v m u X) (λ z m u. fails w m u X) is.few is.second na (λ z m u n. k.grows.same_fails m u X n) t)));
+    joint_ends = λ x a b h e f t y l.
+        let ea : value v.maps map x ≡ Some a = value_was v w k map is.first x _ e in
+        let eb : value v.maps r x ≡ Some b = value_was v w k r is.known x _ f in
+        let na : IsNode v a = map_node v map is.first x h a ea in
+        let nb : IsNode v b = map_node v r is.known x h b eb in
+        trans_iff (iff_of_same _ _ (k.grows.same_ends b t y nb))
+        (trans_iff (is.joint_ends x a b h ea eb t y l)
+        (joins_grow left x a next (λ z m u. ends v m u (bit_xor y (turn j left x z))) (λ z m u. ends w m u (bit_xor y (turn j left x z))) is.few is.second na
+        (λ z m u n. k.grows.same_ends m u (bit_xor y (turn j left x z)) n) t));
+  }
+
+  pub joints_grow : (memo : Memo) → KeepJoints v j memo → KeepJoints w j memo
+  joints_grow memo keep = record { each = λ call r e. joint_grow call.first (map_id call.second) (map_id call.third) (map_id r) (keep.each call r e) }
+
+pub joints_learnt : (w : World) (j : Joint) (old new : Memo) (call : Call) (map : MapId) → KeepJoints w j old
+    → IsJoint w j call.first (map_id call.second) (map_id call.third) map → Learns old new call map.0 → KeepJoints w j new
+joints_learnt w j old new call map keep is learns = record {
+  each = λ k r e. ⊎_elim
+      (λ (h : recalled old k ≡ Some r). keep.each k r h)
+      (λ (h : (k ≡ call) × (r ≡ map.0)). subst (λ (c : Call). IsJoint w j c.first (map_id c.second) (map_id c.third) (map_id r)) (sym h.0)
+      (subst (λ (n : ℕ). IsJoint w j call.first (map_id call.second) (map_id call.third) (map_id n)) (sym h.1) is))
+      (learns k r e);
+}
+
+pub joints_none : (w : World) (j : Joint) (memo : Memo) → ((k : Call) → recalled memo k ≡ None) → KeepJoints w j memo
+joints_none w j memo none = record { each = λ k r e. absurd (let f : None ≡ Some r = sym (none k) ∙ e in cc) }
+
+-- ---- all bits are split on
+pub joint_ended : (v w : World) → Extends v w → (j : Joint) (map next r : MapId) (node : NodeId) → HasNodes v map → HasNodes v next
+    → ((x : ℕ) → x < 2 ^ 64 → value v.maps map x ≡ Some node) → IsSequel v w node next r → HasNodes w r → IsJoint w j 0 map next r
+unfolding image turn
+joint_ended v w k j map next r node has also all is known = record {
+  few = omega arith;
+  first = has_nodes-extends v w k map has;
+  second = has_nodes-extends v w k next also;
+  known = known;
+  joint_fails = λ x a b h e f t X.
+      let na : IsNode v a = map_node v map has x h a (value_was v w k map has x _ e) in
+      trans_iff (iff_of_same _ _ (ap (λ n. fails w n t X) (sym (next_is x b f))))
+      (trans_iff (is.followed.follow_fails t X)
+      (or_iff (iff_of_same _ _ (ap (λ n. fails v n t X) (node_is x a h e) ∙ sym (k.grows.same_fails a t X na)))
+      (continued x a na (node_is x a h e) (λ m u. fails v m u X) (λ z m u. fails w m u X) (λ z m u n. k.grows.same_fails m u X n) t)));
+  joint_ends = λ x a b h e f t y l.
+      let na : IsNode v a = map_node v map has x h a (value_was v w k map has x _ e) in
+      trans_iff (iff_of_same _ _ (ap (λ n. ends w n t y) (sym (next_is x b f))))
+      (trans_iff (is.followed.follow_ends t y l)
+      (continued x a na (node_is x a h e) (λ m u. ends v m u y) (λ z m u. ends w m u (bit_xor y 0))
+      (λ z m u n. ap (ends w m u) (xor_zero_r y) ∙ k.grows.same_ends m u y n) t));
+}
+  where
+    next_is : (x : ℕ) (b : NodeId) → value w.maps r x ≡ Some b → is.next ≡ b
+    next_is x b f = same_Some is.next b (sym (is.everywhere.values x) ∙ f)
+
+    node_is : (x : ℕ) (a : NodeId) → x < 2 ^ 64 → value w.maps map x ≡ Some a → node ≡ a
+    node_is x a h e = same_Some node a (sym (all x h) ∙ value_was v w k map has x _ e)
+
+    continued : (x : ℕ) (a : NodeId) → IsNode v a → node ≡ a → (A : NodeId → List Event → Bool) (B : ℕ → NodeId → List Event → Bool)
+        → ((z : ℕ) (m : NodeId) (u : List Event) → IsNode v m → B z m u ≡ A m u)
+        → (t : List Event) → Continues v node next A t ↔ Joins w j 0 x a next B t
+    continued x a na e A B same t = (
+      λ s. record {
+        t1 = s.t1;
+        t2 = s.t2;
+        z = s.x;
+        m = s.m;
+        whole = s.whole;
+        below = s.below;
+        ended = k.grows.same_ends a s.t1 s.x na ∙ ap (λ n. ends v n s.t1 s.x) (sym e) ∙ s.ended;
+        leads = value_is v w k next also s.x _ s.leads;
+        behaved = same s.x s.m s.t2 (map_node v next also s.x s.below s.m s.leads) ∙ s.behaved;
+      },
+      λ s. let before : value v.maps next s.z ≡ Some s.m = value_was v w k next also s.z _ s.leads in record {
+        t1 = s.t1;
+        t2 = s.t2;
+        x = s.z;
+        m = s.m;
+        whole = s.whole;
+        below = s.below;
+        ended = ap (λ n. ends v n s.t1 s.z) e ∙ sym (k.grows.same_ends a s.t1 s.z na) ∙ s.ended;
+        leads = before;
+        behaved = sym (same s.z s.m s.t2 (map_node v next also s.z s.below s.m before)) ∙ s.behaved;
+      },
+    )
+
+-- a map on which no bit matters has one node
+pub one_node : (w : World) (map : MapId) → IsOver w 0 map → (node : NodeId) → value w.maps map 0 ≡ Some node → (x : ℕ) → x < 2 ^ 64 → value w.maps map x ≡ Some node
+one_node w map over node e x h = over.same x 0 h (lit< tt) (λ k l. absurd (omega (arith, l))) ∙ e
+
+-- ---- one bit more
+module _ (w : World) (j : Joint) (bit : ℕ) (few : bit < 64) where
+  joins_more : (x d : ℕ) → bit_at x bit ≡ d → (a : NodeId) (next made : MapId) → IsStepped w j bit d next made
+      → (A B : ℕ → NodeId → List Event → Bool)
+      → ((z : ℕ) (m n : NodeId) (u : List Event) → IsTurned w (step_change j bit (image j bit x z)) m n → A z n u ≡ B z m u)
+      → (t : List Event) → Joins w j bit x a made A t ↔ Joins w j (suc bit) x a next B t
+  unfolding image
+  joins_more x d is_d a next made is A B same t = (
+    λ s.
+        let inside : image j bit x s.z < 2 ^ 64 = image_lt j bit x s.z (omega arith) s.below in
+        let found = is.before.nodes (stepped j bit d (image j bit x s.z)) (stepped_lt j bit d (image j bit x s.z) few inside) in
+        record {
+          t1 = s.t1;
+          t2 = s.t2;
+          z = s.z;
+          m = found.0;
+          whole = s.whole;
+          below = s.below;
+          ended = s.ended;
+          leads = ap (λ b. value w.maps next (stepped j bit b (image j bit x s.z))) is_d ∙ found.1;
+          behaved = sym (same s.z found.0 s.m s.t2 (is.changed (image j bit x s.z) found.0 s.m inside found.1 s.leads)) ∙ s.behaved;
+        },
+    λ s.
+        let inside : image j bit x s.z < 2 ^ 64 = image_lt j bit x s.z (omega arith) s.below in
+        let found = is.after.nodes (image j bit x s.z) inside in
+        record {
+          t1 = s.t1;
+          t2 = s.t2;
+          z = s.z;
+          m = found.0;
+          whole = s.whole;
+          below = s.below;
+          ended = s.ended;
+          leads = found.1;
+          behaved = same s.z s.m found.0 s.t2
+              (is.changed (image j bit x s.z) s.m found.0 inside (ap (λ b. value w.maps next (stepped j bit b (image j bit x s.z))) (sym is_d) ∙ s.leads) found.1) ∙ s.behaved;
+        },
+  )
+
+  -- one side of the bit
+  module _ (d x : ℕ) (h : x < 2 ^ 64) (is_d : bit_at x bit ≡ d) (map next part next_part side : MapId) (a b : NodeId)
+      (is : IsStepped w j bit d next next_part) (joint : IsJoint w j bit part next_part side)
+      (ea : value w.maps part x ≡ Some a) (eb : value w.maps side x ≡ Some b) where
+    side_fails : (t : List Event) (X : Event → Bool) → (fails w b t X ≡ true) ↔ ((fails w a t X ≡ true) ⊎ Joins w j (suc bit) x a next (λ z m u. fails w m u X) t)
+    side_fails t X = trans_iff (joint.joint_fails x a b h ea eb t X)
+        (or_iff (iff_of_same _ _ refl) (joins_more x d is_d a next next_part is (λ z m u. fails w m u X) (λ z m u. fails w m u X) (λ z m n u turned. turned.turned.same_fail u X) t))
+
+    side_ends : (t : List Event) (y : ℕ) → y < 2 ^ 64 → (ends w b t y ≡ true) ↔ Joins w j (suc bit) x a next (λ z m u. ends w m u (bit_xor y (turn j (suc bit) x z))) t
+    unfolding turn
+    side_ends t y l = trans_iff (joint.joint_ends x a b h ea eb t y l)
+        (joins_more x d is_d a next next_part is (λ z m u. ends w m u (bit_xor y (turn j bit x z)))
+        (λ z m u. ends w m u (bit_xor y (bit_xor (turn j bit x z) (step_change j bit (image j bit x z)))))
+        (λ z m n u turned. turned.turned.turned_end u (bit_xor y (turn j bit x z)) (xor_lt 64 y (turn j bit x z) l (turn_lt j bit x z (omega arith)))
+        ∙ ap (ends w m u) (xor_assoc y (turn j bit x z) (step_change j bit (image j bit x z)))) t)
+
+  -- both sides
+  module _ (map next zero_part one_part zero_next one_next low high made : MapId)
+      (zero_is : (x : ℕ) → value w.maps zero_part x ≡ value w.maps map (with_bit x bit 0)) (one_is : (x : ℕ) → value w.maps one_part x ≡ value w.maps map (with_bit x bit 1))
+      (to_zero : IsStepped w j bit 0 next zero_next) (to_one : IsStepped w j bit 1 next one_next)
+      (is_low : IsJoint w j bit zero_part zero_next low) (is_high : IsJoint w j bit one_part one_next high)
+      (has : HasNodes w map) (known : HasNodes w made)
+      (made_is : (x : ℕ) → value w.maps made x ≡ cond (bit_at x bit == 1) (value w.maps high x) (value w.maps low x)) where
+    low_at : (x : ℕ) (a b : NodeId) → bit_at x bit ≡ 0 → value w.maps map x ≡ Some a → value w.maps made x ≡ Some b → (value w.maps zero_part x ≡ Some a) × (value w.maps low x ≡ Some b)
+    low_at x a b e ea eb = (
+      zero_is x ∙ ap (value w.maps map) (with_bit_same x bit 0 e) ∙ ea,
+      sym (cond-false (bit_at x bit == 1) (value w.maps high x) (value w.maps low x) (is_zero x bit e)) ∙ sym (made_is x) ∙ eb,
+    )
+
+    high_at : (x : ℕ) (a b : NodeId) → bit_at x bit ≡ 1 → value w.maps map x ≡ Some a → value w.maps made x ≡ Some b → (value w.maps one_part x ≡ Some a) × (value w.maps high x ≡ Some b)
+    high_at x a b e ea eb = (
+      one_is x ∙ ap (value w.maps map) (with_bit_same x bit 1 e) ∙ ea,
+      sym (cond-true (bit_at x bit == 1) (value w.maps high x) (value w.maps low x) (is_one x bit e)) ∙ sym (made_is x) ∙ eb,
+    )
+
+    pub joint_more : IsJoint w j (suc bit) map next made
+    joint_more = record {
+      few = omega (arith, few);
+      first = has;
+      second = to_zero.before;
+      known = known;
+      joint_fails = λ x a b h ea eb t X. ⊎_elim
+          (λ (e : bit_at x bit ≡ 0). let at = low_at x a b e ea eb in side_fails 0 x h e map next zero_part zero_next low a b to_zero is_low at.0 at.1 t X)
+          (λ (e : bit_at x bit ≡ 1). let at = high_at x a b e ea eb in side_fails 1 x h e map next one_part one_next high a b to_one is_high at.0 at.1 t X)
+          (bit_cases x bit);
+      joint_ends = λ x a b h ea eb t y l. ⊎_elim
+          (λ (e : bit_at x bit ≡ 0). let at = low_at x a b e ea eb in side_ends 0 x h e map next zero_part zero_next low a b to_zero is_low at.0 at.1 t y l)
+          (λ (e : bit_at x bit ≡ 1). let at = high_at x a b e ea eb in side_ends 1 x h e map next one_part one_next high a b to_one is_high at.0 at.1 t y l)
+          (bit_cases x bit);
+    }
+
+-- ---- the bits of a map that is split on one
+pub over_part : (v w : World) → Extends v w → (n bit d : ℕ) (map r : MapId) → n ≡ suc bit → bit < 64 → d < 2 → IsOver v n map → IsMap w.maps r (λ x. value v.maps map (with_bit x bit d)) → HasNodes w r → IsOver w bit r
+over_part v w k n bit d map r e few small over is has = record {
+  has = has;
+  same = λ x y h l agree. is.values x ∙ over.same (with_bit x bit d) (with_bit y bit d) (with_bit_lt x bit d 64 few h) (with_bit_lt y bit d 64 few l) (agreeing x y agree) ∙ sym (is.values y);
+}
+  where
+    agreeing : (x y : ℕ) → AgreeBelow bit x y → AgreeBelow n (with_bit x bit d) (with_bit y bit d)
+    agreeing x y agree i h = ⊎_elim
+        (λ (l : i < bit). let ne : i ≢ bit = omega (arith, l) in bit_at-with_bit_other x bit d i ne ∙ agree i l ∙ sym (bit_at-with_bit_other y bit d i ne))
+        (λ (l : bit ≤ i). let same_bit : i ≡ bit = omega (arith, l, h, e) in
+        ap (bit_at (with_bit x bit d)) same_bit ∙ bit_at-with_bit_same x bit d small ∙ sym (bit_at-with_bit_same y bit d small) ∙ ap (bit_at (with_bit y bit d)) (sym same_bit))
+        (cases_lt i bit)
+
+-- ---- what follows, at one bit
+module _ (w : World) (j : Joint) (bit d : ℕ) (next r : MapId) (has : HasNodes w next) (known : HasNodes w r) where
+  -- a bit on which nothing depends
+  pub step_free : bit_at j.needed bit ≡ 0 → r ≡ next → IsStepped w j bit d next r
+  step_free e same = record {
+    before = has;
+    after = known;
+    changed = λ z m n h f g.
+        let at : value w.maps next z ≡ Some m = ap (value w.maps next) (sym (stepped_free j bit d z e)) ∙ f in
+        let also : value w.maps next z ≡ Some n = ap (λ i. value w.maps i z) (sym same) ∙ g in
+        subst (λ (c : ℕ). IsTurned w c m n) (sym (change_free j bit z e))
+        (subst (IsTurned w 0 m) (same_Some m n (sym at ∙ also)) (turned_none w m (map_node w next has z h m at)));
+  }
+
+  -- one that isn't written
+  pub step_same : bit_at j.needed bit ≡ 1 → bit_at j.written bit ≡ 0 → bit < 64 → ((z : ℕ) → value w.maps r z ≡ value w.maps next (with_bit z bit d)) → IsStepped w j bit d next r
+  step_same e k few is = record {
+    before = has;
+    after = known;
+    changed = λ z m n h f g.
+        let at : value w.maps next (with_bit z bit d) ≡ Some m = ap (value w.maps next) (sym (stepped_same j bit d z e k)) ∙ f in
+        let also : value w.maps next (with_bit z bit d) ≡ Some n = sym (is z) ∙ g in
+        subst (λ (c : ℕ). IsTurned w c m n) (sym (change_same j bit z e k))
+        (subst (IsTurned w 0 m) (same_Some m n (sym at ∙ also)) (turned_none w m (map_node w next has (with_bit z bit d) (with_bit_lt z bit d 64 few h) m at)));
+  }
+
+  -- one that is written
+  pub step_written : (there : MapId) → bit_at j.needed bit ≡ 1 → bit_at j.written bit ≡ 1 → ((z : ℕ) → value w.maps there z ≡ value w.maps next (cond (d == 1) (turned z bit) z))
+      → IsChanged w (kept_change j.keep bit) there r → IsStepped w j bit d next r
+  step_written there e k is change = record {
+    before = has;
+    after = known;
+    changed = λ z m n h f g.
+        subst (λ (c : ℕ). IsTurned w c m n) (sym (change_written j bit z e k))
+        (change.changed z m n h (is z ∙ ap (value w.maps next) (sym (stepped_written j bit d z e k)) ∙ f) g);
+  }
+
+-- the value that is chosen where the bit before is known
+pub step_from_zero : (w : World) (j : Joint) (bit : ℕ) (one : Bool) (next r : MapId) → one ≡ false → bit_at j.needed bit ≡ 1 → bit_at j.written bit ≡ 1 → HasNodes w next → HasNodes w r
+    → IsChanged w (kept_change j.keep bit) next r → IsStepped w j bit (digit one) next r
+step_from_zero w j bit one next r is e k has known change =
+    subst (λ (b : Bool). IsStepped w j bit (digit b) next r) (sym is) (step_written w j bit 0 next r has known next e k (λ z. refl) change)
+
+pub step_from_one : (w : World) (j : Joint) (bit : ℕ) (one : Bool) (next there r : MapId) → one ≡ true → bit_at j.needed bit ≡ 1 → bit_at j.written bit ≡ 1 → HasNodes w next → HasNodes w r
+    → ((z : ℕ) → value w.maps there z ≡ value w.maps next (turned z bit)) → IsChanged w (kept_change j.keep bit) there r → IsStepped w j bit (digit one) next r
+step_from_one w j bit one next there r is e k has known flips change =
+    subst (λ (b : Bool). IsStepped w j bit (digit b) next r) (sym is) (step_written w j bit 1 next r has known there e k flips change)

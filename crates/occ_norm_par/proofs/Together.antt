@@ -1,0 +1,338 @@
+-- Parts of a PAR side by side, half by half.
+use Rattle.std.proofs.Common.{◌≡◌, ℕ, zero, suc, ◌+◌, ◌-◌, ◌<◌, ◌≤◌, ◌||◌, Bool, true, false, List, [], ◌∷◌, length, get_or, take, drop, ⊎_elim, refl, sym, ap, ◌∙◌, subst, arith}
+use Rattle.std.specs.List.{All}
+use Rattle.std.proofs.lemmas.Bool.{and_from, and_parts, or_cases, or_left, or_right, or_parts, false≢true}
+use Rattle.std.proofs.Math.Seq.{take-length}
+use Rattle.std.proofs.lemmas.List.{get_or-drop, get_or-take, length-drop, length-take-le}
+use Rattle.occ_base.specs.declared.event.Dir.{Dir}
+use Rattle.occ_base.specs.declared.event.Event.{Event}
+use Rattle.occ_base.specs.declared.names.Name.{Name}
+use Rattle.occ_base.specs.declared.width.Width.{Width}
+use Rattle.occ_mdd.specs.declared.map.MapId.{MapId}
+use Rattle.occ_node.specs.declared.world.World.{World}
+use Rattle.occ_follow.specs.Sequence.{HasNodes}
+use Rattle.occ_norm_maps.specs.Maps.{Extends, IsSkip}
+use Rattle.occ_norm_maps.proofs.Worlds.{extends_trans, has_nodes-extends, map-keeps}
+use Rattle.occ_syntax.specs.Meaning.{Outcome, Together, meaning}
+use Rattle.occ_syntax.specs.Names.{end_in_some, free, free_in_some, uses_end, written, written_in_some}
+use Rattle.occ_syntax.specs.Scopes.{Environment, Trace, Values}
+use Rattle.occ_syntax.specs.Tree.{Tree, Trees, and_tree, no_tree, par}
+use Rattle.occ_syntax.specs.Types.{all_types_kept, types_kept}
+use Rattle.occ_syntax.specs.Usage.{AreSeparate, IsSeparate}
+use Rattle.occ_syntax.specs.View.{tree, trees}
+use Rattle.occ_syntax.specs.declared.proc.Proc.{Proc, Skip}
+use Rattle.occ_syntax.specs.declared.scope.Kind.{Kind}
+use Rattle.occ_weave.specs.Weave.{is_open}
+use Rattle.occ_norm_frame.specs.After.{IsAfter}
+use Rattle.occ_norm_frame.specs.Changes.{IsSupport}
+use Rattle.occ_diagram.specs.Assignment.{turned}
+use Rattle.occ_mdd.specs.Maps.{IsKnown}
+use Rattle.occ_norm_frame.specs.Placed.{IsAround, IsFrame}
+use Rattle.occ_meaning.proofs.Parts.{all_of_beside, beside_all_of}
+use Rattle.occ_meaning.specs.Parallel.{all_of}
+use Rattle.occ_norm_par.specs.Sides.{closed_in, crossing}
+use Rattle.occ_norm_par.specs.Joined.{AreBoth, AreOfParts, HaveNodes, IsJoined, IsSpread, no_map}
+use Rattle.occ_norm_par.specs.declared.users.Users.{Users}
+use Rattle.occ_norm_par.proofs.Alone.{IsPart, alone_from, alone_later, alone_to, skip_later}
+use Rattle.occ_norm_par.proofs.Pair.{beside_alone}
+use Rattle.occ_norm_par.proofs.Spanning.{uses_beyond}
+use Rattle.occ_norm_par.proofs.Using.{first_off, open_halves, others_off, some_end, spread_dropped, spread_each, spread_taken}
+
+or_grouped : (a b c : Bool) → (a || (b || c)) ≡ ((a || b) || c)
+or_grouped true b c = refl
+or_grouped false b c = refl
+
+-- ---- halves of the parts
+types_taken : (Γ : Environment) (ps : List Proc) (k : ℕ) → all_types_kept (trees ps) Γ ≡ true → all_types_kept (trees (take k ps)) Γ ≡ true
+types_taken Γ ps zero h = refl
+types_taken Γ [] (suc k) h = refl
+types_taken Γ (p ∷ ps) (suc k) h =
+    let a = and_parts (types_kept (tree p) Γ) (all_types_kept (trees ps) Γ) h in
+    and_from (types_kept (tree p) Γ) (all_types_kept (trees (take k ps)) Γ) a.0 (types_taken Γ ps k a.1)
+
+types_dropped : (Γ : Environment) (ps : List Proc) (k : ℕ) → all_types_kept (trees ps) Γ ≡ true → all_types_kept (trees (drop k ps)) Γ ≡ true
+types_dropped Γ ps zero h = h
+types_dropped Γ [] (suc k) h = refl
+types_dropped Γ (p ∷ ps) (suc k) h = types_dropped Γ ps k (and_parts (types_kept (tree p) Γ) (all_types_kept (trees ps) Γ) h).1
+
+trees_halves : (k : ℕ) (ps : List Proc) → trees ps ≡ all_of (trees (take k ps)) (trees (drop k ps))
+trees_halves zero ps = refl
+trees_halves (suc k) [] = refl
+trees_halves (suc k) (p ∷ ps) = ap (and_tree (tree p)) (trees_halves k ps)
+
+free_both : (ps qs : Trees) (x : ℕ) → free_in_some (all_of ps qs) x ≡ (free_in_some ps x || free_in_some qs x)
+free_both no_tree qs x = refl
+free_both (and_tree p ps) qs x = ap (λ b. free p x || b) (free_both ps qs x) ∙ or_grouped (free p x) (free_in_some ps x) (free_in_some qs x)
+
+written_both : (ps qs : Trees) (x : ℕ) → written_in_some (all_of ps qs) x ≡ (written_in_some ps x || written_in_some qs x)
+written_both no_tree qs x = refl
+written_both (and_tree p ps) qs x = ap (λ b. written p x || b) (written_both ps qs x) ∙ or_grouped (written p x) (written_in_some ps x) (written_in_some qs x)
+
+end_both : (ps qs : Trees) (c : ℕ) (d : Dir) → end_in_some (all_of ps qs) c d ≡ (end_in_some ps c d || end_in_some qs c d)
+end_both no_tree qs c d = refl
+end_both (and_tree p ps) qs c d = ap (λ b. uses_end p c d || b) (end_both ps qs c d) ∙ or_grouped (uses_end p c d) (end_in_some ps c d) (end_in_some qs c d)
+
+-- a part that is separate from two lists of parts together is so from the second, and so on
+separate_halves : (ps qs : Trees) → AreSeparate (all_of ps qs) → IsSeparate (par ps) (par qs)
+separate_halves no_tree qs h = record { first_writes = λ x k. absurd (false≢true k); second_writes = λ x k. refl; ends = λ c d k. absurd (false≢true k) }
+separate_halves (and_tree p ps) qs h =
+    let rest = separate_halves ps qs h.1 in
+    record {
+      first_writes = λ x k. ⊎_elim
+          (λ (m : written p x ≡ true). (or_parts (free_in_some ps x) (free_in_some qs x) (sym (free_both ps qs x) ∙ h.0.first_writes x m)).1)
+          (λ (m : written_in_some ps x ≡ true). rest.first_writes x m)
+          (or_cases (written p x) (written_in_some ps x) k);
+      second_writes = λ x k. (λ i. h.0.second_writes x (written_both ps qs x ∙ or_right (written_in_some ps x) (written_in_some qs x) k) i || rest.second_writes x k i);
+      ends = λ c d k. ⊎_elim
+          (λ (m : uses_end p c d ≡ true). (or_parts (end_in_some ps c d) (end_in_some qs c d) (sym (end_both ps qs c d) ∙ h.0.ends c d m)).1)
+          (λ (m : end_in_some ps c d ≡ true). rest.ends c d m)
+          (or_cases (uses_end p c d) (end_in_some ps c d) k);
+    }
+
+separate_first : (ps qs : Trees) → AreSeparate (all_of ps qs) → AreSeparate ps
+separate_first no_tree qs h = tt
+separate_first (and_tree p ps) qs h = (
+  record {
+    first_writes = λ x k. (or_parts (free_in_some ps x) (free_in_some qs x) (sym (free_both ps qs x) ∙ h.0.first_writes x k)).0;
+    second_writes = λ x k. h.0.second_writes x (written_both ps qs x ∙ or_left (written_in_some ps x) (written_in_some qs x) k);
+    ends = λ c d k. (or_parts (end_in_some ps c d) (end_in_some qs c d) (sym (end_both ps qs c d) ∙ h.0.ends c d k)).0;
+  },
+  separate_first ps qs h.1,
+)
+
+separate_second : (ps qs : Trees) → AreSeparate (all_of ps qs) → AreSeparate qs
+separate_second no_tree qs h = h
+separate_second (and_tree p ps) qs h = separate_second ps qs h.1
+
+-- ---- the maps of the parts
+taken_less : {A : Type 0} (k : ℕ) (xs : List A) (i : ℕ) → i < length (take k xs) → (i < k) × (i < length xs)
+taken_less zero xs i l = absurd (omega (arith, l))
+taken_less (suc k) [] i l = absurd (omega (arith, l))
+taken_less (suc k) (x ∷ xs) zero l = (omega arith, omega arith)
+taken_less (suc k) (x ∷ xs) (suc i) l = let s = taken_less k xs i (omega (arith, l)) in (omega (arith, s.0), omega (arith, s.1))
+
+pub nodes_taken : (w : World) (k : ℕ) (maps : List MapId) → HaveNodes w maps → HaveNodes w (take k maps)
+nodes_taken w k maps h i l =
+    let n = taken_less k maps i l in
+    subst (HasNodes w) (sym (get_or-take k maps i no_map n.0)) (h i n.1)
+
+pub nodes_dropped : (w : World) (k : ℕ) (maps : List MapId) → HaveNodes w maps → HaveNodes w (drop k maps)
+nodes_dropped w k maps h i l = subst (HasNodes w) (sym (get_or-drop k maps i no_map)) (h (k + i) (let n : length (drop k maps) ≡ length maps - k = length-drop k maps in omega (arith, n, l)))
+
+pub nodes_later : (u v : World) → Extends u v → (maps : List MapId) → HaveNodes u maps → HaveNodes v maps
+nodes_later u v grow maps h i l = has_nodes-extends u v grow (get_or maps i no_map) (h i l)
+
+module _ (layout : List (Name × Width × ℕ)) (keep : ℕ) (users : List Users) (Γ : Environment) (ended : MapId) where
+  parts_taken : (w : World) (place k : ℕ) (ps : List Proc) (maps : List MapId) → k ≤ length ps → AreOfParts w layout keep users Γ ended place ps maps → AreOfParts w layout keep users Γ ended place (take k ps) (take k maps)
+  parts_taken w place k ps maps low h i l =
+      let less : i < k = let n : length (take k ps) ≡ k = length-take-le k ps low in omega (arith, n, l) in
+      subst (λ (p : Proc). IsAfter w layout keep (closed_in (place + i) (place + i + 1) users) Γ (tree p) ended (get_or (take k maps) i no_map)) (sym (get_or-take k ps i Skip less))
+      (subst (λ (m : MapId). IsAfter w layout keep (closed_in (place + i) (place + i + 1) users) Γ (tree (get_or ps i Skip)) ended m) (sym (get_or-take k maps i no_map less)) (h i (omega (arith, less, low))))
+
+  parts_dropped : (w : World) (place k : ℕ) (ps : List Proc) (maps : List MapId) → k ≤ length ps → AreOfParts w layout keep users Γ ended place ps maps → AreOfParts w layout keep users Γ ended (place + k) (drop k ps) (drop k maps)
+  parts_dropped w place k ps maps low h i l =
+      let less : k + i < length ps = let n : length (drop k ps) ≡ length ps - k = length-drop k ps in omega (arith, n, l, low) in
+      let first : place + (k + i) ≡ place + k + i = omega arith in
+      let second : place + (k + i) + 1 ≡ place + k + i + 1 = omega arith in
+      subst (λ (p : Proc). IsAfter w layout keep (closed_in (place + k + i) (place + k + i + 1) users) Γ (tree p) ended (get_or (drop k maps) i no_map)) (sym (get_or-drop k ps i Skip))
+      (subst (λ (m : MapId). IsAfter w layout keep (closed_in (place + k + i) (place + k + i + 1) users) Γ (tree (get_or ps (k + i) Skip)) ended m) (sym (get_or-drop k maps i no_map))
+      (subst (λ (n : ℕ). IsAfter w layout keep (closed_in (place + k + i) n users) Γ (tree (get_or ps (k + i) Skip)) ended (get_or maps (k + i) no_map)) second
+      (subst (λ (n : ℕ). IsAfter w layout keep (closed_in n (place + (k + i) + 1) users) Γ (tree (get_or ps (k + i) Skip)) ended (get_or maps (k + i) no_map)) first (h (k + i) less))))
+
+  parts_later : (u v : World) → Extends u v → (place : ℕ) (ps : List Proc) (maps : List MapId) → length maps ≡ length ps → HaveNodes u maps → IsSkip u keep ended → AreOfParts u layout keep users Γ ended place ps maps → AreOfParts v layout keep users Γ ended place ps maps
+  parts_later u v grow place ps maps even has skip h i l =
+      let m = get_or maps i no_map in
+      let closed = closed_in (place + i) (place + i + 1) users in
+      let p = tree (get_or ps i Skip) in
+      alone_to v layout keep closed Γ p ended m (skip_later u v grow keep ended skip) (alone_later u v grow m (has i (omega (arith, even, l))) layout keep closed Γ p (alone_from u layout keep closed Γ p ended m skip (h i l)))
+
+drop_twice : {A : Type 0} (s k : ℕ) (xs : List A) → drop k (drop s xs) ≡ drop (s + k) xs
+drop_twice zero k xs = ap (λ n. drop n xs) (let e : k ≡ 0 + k = omega arith in e)
+drop_twice (suc s) k [] = drop_nothing k ∙ ap (λ n. drop n []) (let e : suc (s + k) ≡ suc s + k = omega arith in e)
+  where
+    drop_nothing : {A : Type 0} (k : ℕ) → drop {A = A} k [] ≡ []
+    drop_nothing zero = refl
+    drop_nothing (suc k) = refl
+drop_twice (suc s) k (x ∷ xs) = drop_twice s k xs ∙ ap (λ n. drop n (x ∷ xs)) (let e : suc (s + k) ≡ suc s + k = omega arith in e)
+
+pub rest_taken : {A : Type 0} (k : ℕ) (xs : List A) → take (length xs - k) (drop k xs) ≡ drop k xs
+rest_taken k xs = ap (λ n. take n (drop k xs)) (sym (length-drop k xs)) ∙ take-length (drop k xs)
+
+one_part : (ps : List Proc) → length ps ≡ 1 → ps ≡ get_or ps 0 Skip ∷ []
+one_part [] h = absurd (omega arith)
+one_part (p ∷ []) h = refl
+one_part (p ∷ q ∷ ps) h = absurd (omega arith)
+
+as_par : (w : World) (layout : List (Name × Width × ℕ)) (keep : ℕ) (closed : List Name) (Γ : Environment) (p : Tree) (m : MapId) → IsPart w layout keep closed Γ p m → IsPart w layout keep closed Γ (par (and_tree p no_tree)) m
+as_par w layout keep closed Γ p m a = record {
+  alone_fails = λ x n l v t X. a.alone_fails x n l v t X;
+  alone_ends = λ x n l v t z b. (
+    λ f. let s = (a.alone_ends x n l v t z b).0 f in record { y = s.y; below = s.below; silent = s.silent; ended = s.ended; changed = s.changed },
+    λ s. (a.alone_ends x n l v t z b).1 (record { y = s.y; below = s.below; silent = s.silent; ended = s.ended; changed = s.changed }),
+  );
+}
+
+-- one part alone
+pub joined_one : (vars : List (Name × Kind)) (layout : List (Name × Width × ℕ)) (keep : ℕ) (users : List Users) (ended : MapId) (place : ℕ) (ps : List Proc) (maps : List MapId) (w : World)
+    → length ps ≡ 1 → IsJoined vars layout keep users ended place ps maps w w (get_or maps 0 no_map)
+joined_one vars layout keep users ended place ps maps w one = record {
+  joined = λ Γ around types separate spread skip parts.
+      let closed = closed_in place (place + length ps) users in
+      let m = get_or maps 0 no_map in
+      let p = get_or ps 0 Skip in
+      let low : place + 0 ≡ place = omega arith in
+      let high : place + 0 + 1 ≡ place + length ps = omega (arith, one) in
+      let here : IsAfter w layout keep closed Γ (tree p) ended m =
+      subst (λ (n : ℕ). IsAfter w layout keep (closed_in place n users) Γ (tree p) ended m) high (subst (λ (n : ℕ). IsAfter w layout keep (closed_in n (place + 0 + 1) users) Γ (tree p) ended m) low (parts 0 (omega (arith, one)))) in
+      subst (λ (qs : List Proc). IsAfter w layout keep closed Γ (par (trees qs)) ended m) (sym (one_part ps one))
+      (alone_to w layout keep closed Γ (par (and_tree (tree p) no_tree)) ended m skip (as_par w layout keep closed Γ (tree p) m (alone_from w layout keep closed Γ (tree p) ended m skip here)));
+}
+
+-- ---- other worlds
+module _ (vars : List (Name × Kind)) (layout : List (Name × Width × ℕ)) (keep : ℕ) (users : List Users) (ended : MapId) (place : ℕ) (ps : List Proc) (maps : List MapId) where
+  -- the map in a later world
+  pub joined_later : (u v w : World) → Extends u v → Extends v w → (r : MapId) → HasNodes v r → IsJoined vars layout keep users ended place ps maps u v r → IsJoined vars layout keep users ended place ps maps u w r
+  joined_later u v w first grow r has is = record {
+    joined = λ Γ around types separate spread skip parts.
+        let closed = closed_in place (place + length ps) users in
+        let there = skip_later u v first keep ended skip in
+        alone_to w layout keep closed Γ (par (trees ps)) ended r (skip_later v w grow keep ended there)
+        (alone_later v w grow r has layout keep closed Γ (par (trees ps)) (alone_from v layout keep closed Γ (par (trees ps)) ended r there (is.joined Γ around types separate spread skip parts)));
+  }
+
+  -- the maps of the parts in an earlier world
+  pub joined_from : (u v w : World) → Extends u v → (r : MapId) → length maps ≡ length ps → HaveNodes u maps → IsJoined vars layout keep users ended place ps maps v w r → IsJoined vars layout keep users ended place ps maps u w r
+  joined_from u v w grow r even have is = record {
+    joined = λ Γ around types separate spread skip parts.
+        is.joined Γ around types separate spread (skip_later u v grow keep ended skip) (parts_later layout keep users Γ ended u v grow place ps maps even have skip parts);
+  }
+
+-- two neighbours side by side
+module _ (vars : List (Name × Kind)) (layout : List (Name × Width × ℕ)) (bits : ℕ) (frame : IsFrame vars layout bits) (keep : ℕ) (users : List Users) (ended : MapId) (place k : ℕ) (ps : List Proc) (maps : List MapId)
+    (low : k ≤ length ps) (u v w : World) (grow1 : Extends u v) (grow2 : Extends v w) (r1 r2 r : MapId) (has1 : HasNodes v r1) (has2 : HasNodes v r2)
+    (join1 : IsJoined vars layout keep users ended place (take k ps) (take k maps) u v r1) (join2 : IsJoined vars layout keep users ended (place + k) (drop k ps) (drop k maps) u v r2)
+    (are : AreBoth layout users place (place + k) (place + length ps) (trees (take k ps)) r1 r2 w r) where
+  abbrev first : Trees
+  first = trees (take k ps)
+
+  abbrev second : Trees
+  second = trees (drop k ps)
+
+  abbrev all : List Name
+  all = closed_in place (place + length ps) users
+
+  abbrev sole : List Name
+  sole = closed_in place (place + k) users
+
+  abbrev behind : List Name
+  behind = closed_in (place + k) (place + length ps) users
+
+  first_length : length (take k ps) ≡ k
+  first_length = length-take-le k ps low
+
+  second_length : length (drop k ps) ≡ length ps - k
+  second_length = length-drop k ps
+
+  module _ (Γ : Environment) (around : IsAround Γ vars) (types : all_types_kept (trees ps) Γ ≡ true) (separate : AreSeparate (trees ps)) (spread : All (IsSpread place (trees ps)) users) (skip : IsSkip u keep ended)
+      (parts : AreOfParts u layout keep users Γ ended place ps maps) where
+    apart : AreSeparate (all_of first second)
+    apart = subst AreSeparate (trees_halves k ps) separate
+
+    spread1 : All (IsSpread place first) users
+    spread1 = spread_each place place (trees ps) first users (spread_taken place k ps) spread
+
+    spread2 : All (IsSpread (place + k) second) users
+    spread2 = spread_each place (place + k) (trees ps) second users (spread_dropped place k ps) spread
+
+    skip1 : IsSkip v keep ended
+    skip1 = skip_later u v grow1 keep ended skip
+
+    part1 : IsPart v layout keep sole Γ (par first) r1
+    part1 = alone_from v layout keep sole Γ (par first) ended r1 skip1
+        (subst (λ (n : ℕ). IsAfter v layout keep (closed_in place (place + n) users) Γ (par first) ended r1) first_length
+        (join1.joined Γ around (types_taken Γ ps k types) (separate_first first second apart) spread1 skip (parts_taken layout keep users Γ ended u place k ps maps low parts)))
+
+    part2 : IsPart v layout keep behind Γ (par second) r2
+    part2 =
+        let high : place + k + length (drop k ps) ≡ place + length ps = omega (arith, second_length, low) in
+        alone_from v layout keep behind Γ (par second) ended r2 skip1
+        (subst (λ (n : ℕ). IsAfter v layout keep (closed_in (place + k) n users) Γ (par second) ended r2) high
+        (join2.joined Γ around (types_dropped Γ ps k types) (separate_second first second apart) spread2 skip (parts_dropped layout keep users Γ ended u place k ps maps low parts)))
+
+    sole_off : (e : Event) → is_open sole e ≡ false → (d : Dir) → end_in_some second e.chan.0 d ≡ false
+    sole_off e h d = some_end second e.chan.0 (first_off second users place (place + k) e spread2 h) d
+
+    behind_off : (e : Event) → is_open behind e ≡ false → (d : Dir) → end_in_some first e.chan.0 d ≡ false
+    behind_off e h d = some_end first e.chan.0 (others_off first users place (place + k) (place + length ps) e spread1 (λ j c l. uses_beyond (take k ps) j c (omega (arith, first_length, l))) h) d
+
+    into : (s : Values) (t : Trace) (o : Outcome) → Together (meaning (par first)) (meaning (par second)) Γ s t o → (meaning (par (trees ps))).does Γ s t o
+    into s t o d = subst (λ (qs : Trees). (meaning (par qs)).does Γ s t o) (sym (trees_halves k ps)) ((beside_all_of Γ first second).gives s t o d)
+
+    out : (s : Values) (t : Trace) (o : Outcome) → (meaning (par (trees ps))).does Γ s t o → Together (meaning (par first)) (meaning (par second)) Γ s t o
+    out s t o d = (all_of_beside Γ first second).gives s t o (subst (λ (qs : Trees). (meaning (par qs)).does Γ s t o) (trees_halves k ps) d)
+
+    both : IsAfter w layout keep all Γ (par (trees ps)) ended r
+    both = alone_to w layout keep all Γ (par (trees ps)) ended r (skip_later v w grow2 keep ended skip1)
+        (beside_alone vars layout bits frame Γ around (par first) (par second) (types_taken Γ ps k types) (types_dropped Γ ps k types)
+        all sole (crossing place (place + k) (place + length ps) users) behind (open_halves place (place + k) (place + length ps) (omega arith) (omega (arith, low)) users) sole_off behind_off
+        w keep are.mask are.small are.written (separate_halves first second apart) r1 r2
+        (alone_later v w grow2 r1 has1 layout keep sole Γ (par first) part1)
+        (alone_later v w grow2 r2 has2 layout keep behind Γ (par second) part2)
+        (par (trees ps)) into out
+        r (has_nodes-extends v w grow2 r1 has1) (has_nodes-extends v w grow2 r2 has2) are.lifts)
+
+  pub joined_halves : IsJoined vars layout keep users ended place ps maps u w r
+  joined_halves = record { joined = both }
+
+module _ (vars : List (Name × Kind)) (layout : List (Name × Width × ℕ)) (bits : ℕ) (frame : IsFrame vars layout bits) (keep : ℕ) (users : List Users) (ended : MapId) where
+  -- the two halves, of which the first was made before the other
+  pub halves_joined : (place k : ℕ) (ps : List Proc) (maps : List MapId) → k ≤ length ps → length maps ≡ length ps → (u v1 v2 w : World) → Extends u v1 → Extends v1 v2 → Extends v2 w → HaveNodes u maps
+      → (r1 r2 r : MapId) → HasNodes v1 r1 → HasNodes v2 r2 → IsJoined vars layout keep users ended place (take k ps) (take k maps) u v1 r1 → IsJoined vars layout keep users ended (place + k) (drop k ps) (drop k maps) v1 v2 r2
+      → AreBoth layout users place (place + length (take k ps)) (place + length ps) (trees (take k ps)) r1 r2 w r → IsJoined vars layout keep users ended place ps maps u w r
+  halves_joined place k ps maps low even u v1 v2 w g1 g2 g3 have r1 r2 r has1 has2 join1 join2 are =
+      let dropped : length (drop k maps) ≡ length (drop k ps) = length-drop k maps ∙ ap (λ n. n - k) even ∙ sym (length-drop k ps) in
+      joined_halves vars layout bits frame keep users ended place k ps maps low u v2 w (extends_trans u v1 v2 g1 g2) g3 r1 r2 r (has_nodes-extends v1 v2 g2 r1 has1) has2
+      (joined_later vars layout keep users ended place (take k ps) (take k maps) u v1 v2 g1 g2 r1 has1 join1)
+      (joined_from vars layout keep users ended (place + k) (drop k ps) (drop k maps) u v1 v2 g1 r2 dropped (nodes_dropped u k maps have) join2)
+      (subst (λ (n : ℕ). AreBoth layout users place (place + n) (place + length ps) (trees (take k ps)) r1 r2 w r) (length-take-le k ps low) are)
+
+  -- a row in front of what is joined already
+  pub row_joined : (s e : ℕ) (parts : List Proc) (maps : List MapId) → s < e → e ≤ length parts → length maps ≡ length parts → (u v w x : World) → Extends u v → Extends v w → Extends w x → HaveNodes u maps
+      → (r1 others r : MapId) → HasNodes w r1 → HasNodes v others → IsJoined vars layout keep users ended s (take (e - s) (drop s parts)) (take (e - s) (drop s maps)) v w r1 → IsJoined vars layout keep users ended e (drop e parts) (drop e maps) u v others
+      → AreBoth layout users s (s + length (take (e - s) (drop s parts))) (length parts) (trees (take (e - s) (drop s parts))) r1 others x r → IsJoined vars layout keep users ended s (drop s parts) (drop s maps) u x r
+  row_joined s e parts maps se ep even u v w x g0 g1 g2 have r1 others r has1 has2 join1 join2 are =
+      let k = e - s in
+      let ps = drop s parts in
+      let ms = drop s maps in
+      let left : length ps ≡ length parts - s = length-drop s parts in
+      let left_maps : length ms ≡ length maps - s = length-drop s maps in
+      let low : k ≤ length ps = omega (arith, left, se, ep) in
+      let low_maps : k ≤ length ms = omega (arith, left_maps, even, se, ep) in
+      let back : s + k ≡ e = omega (arith, se) in
+      let high : length parts ≡ s + length ps = omega (arith, left, se, ep) in
+      let taken : length (take k ms) ≡ length (take k ps) = length-take-le k ms low_maps ∙ sym (length-take-le k ps low) in
+      let behind : drop k ps ≡ drop e parts = drop_twice s k parts ∙ ap (λ n. drop n parts) back in
+      let behind_maps : drop k ms ≡ drop e maps = drop_twice s k maps ∙ ap (λ n. drop n maps) back in
+      let second : IsJoined vars layout keep users ended (s + k) (drop k ps) (drop k ms) u v others =
+      subst (λ (n : ℕ). IsJoined vars layout keep users ended n (drop k ps) (drop k ms) u v others) (sym back)
+      (subst (λ (qs : List Proc). IsJoined vars layout keep users ended e qs (drop k ms) u v others) (sym behind)
+      (subst (λ (qs : List MapId). IsJoined vars layout keep users ended e (drop e parts) qs u v others) (sym behind_maps) join2)) in
+      joined_halves vars layout bits frame keep users ended s k ps ms low u w x (extends_trans u v w g0 g1) g2 r1 others r has1 (has_nodes-extends v w g1 others has2)
+      (joined_from vars layout keep users ended s (take k ps) (take k ms) u v w g0 r1 taken (nodes_taken u k ms (nodes_dropped u s maps have)) join1)
+      (joined_later vars layout keep users ended (s + k) (drop k ps) (drop k ms) u v w g0 g1 others has2 second)
+      (subst (λ (n : ℕ). AreBoth layout users s (s + k) n (trees (take k ps)) r1 others x r) high
+      (subst (λ (n : ℕ). AreBoth layout users s (s + n) (length parts) (trees (take k ps)) r1 others x r) (length-take-le k ps low) are))
+
+-- all parts
+pub all_joined : (vars : List (Name × Kind)) (layout : List (Name × Width × ℕ)) (keep : ℕ) (users : List Users) (ended : MapId) (s : ℕ) (parts : List Proc) (maps : List MapId) (u w : World) (r : MapId) → s ≡ 0
+    → IsJoined vars layout keep users ended s (drop s parts) (drop s maps) u w r → IsJoined vars layout keep users ended 0 parts maps u w r
+all_joined vars layout keep users ended s parts maps u w r none is = subst (λ (n : ℕ). IsJoined vars layout keep users ended n (drop n parts) (drop n maps) u w r) none is
+
+-- the bits that matter to a map of the first world are the same in later worlds
+pub support_later : (u v w : World) → Extends u v → Extends v w → (count : ℕ) (map : MapId) (bits : ℕ) → IsKnown u.maps map → IsSupport v count map bits → IsSupport w count map bits
+support_later u v w first grow count map bits known is =
+    let still : IsKnown v.maps map = map-keeps u v first.maps map known in
+    record {
+      within = is.within;
+      others = λ k l z x. grow.maps.same map (turned x k) still ∙ is.others k l z x ∙ sym (grow.maps.same map x still);
+    }

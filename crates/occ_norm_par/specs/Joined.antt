@@ -1,0 +1,49 @@
+-- Maps of parts of a PAR that stand in a row, and the map of all of them together.
+use Rattle.std.specs.Prelude.{ℕ, ◌+◌, ◌<◌, ◌≤◌, ◌≡◌, ◌^◌, true, List, length, get_or}
+use Rattle.std.specs.List.{All}
+use Rattle.occ_base.specs.declared.names.Name.{Name}
+use Rattle.occ_base.specs.declared.width.Width.{Width}
+use Rattle.occ_mdd.specs.declared.map.MapId.{MapId}
+use Rattle.occ_node.specs.declared.world.World.{World}
+use Rattle.occ_follow.specs.Sequence.{HasNodes}
+use Rattle.occ_norm_maps.specs.Maps.{IsSkip, Lifts}
+use Rattle.occ_norm_maps.specs.Lifted.{IsWovenOf, OnTwo}
+use Rattle.occ_syntax.specs.Scopes.{Environment}
+use Rattle.occ_syntax.specs.Tree.{Trees, par}
+use Rattle.occ_syntax.specs.Types.{all_types_kept}
+use Rattle.occ_syntax.specs.Usage.{AreSeparate}
+use Rattle.occ_syntax.specs.View.{tree, trees}
+use Rattle.occ_syntax.specs.declared.proc.Proc.{Proc, Skip}
+use Rattle.occ_syntax.specs.declared.scope.Kind.{Kind}
+use Rattle.occ_norm_frame.specs.After.{IsAfter}
+use Rattle.occ_norm_frame.specs.Placed.{IsAround}
+use Rattle.occ_norm_par.specs.Sides.{AreWritten, closed_in, crossing, uses_at}
+use Rattle.occ_norm_par.specs.declared.users.Users.{Users}
+
+abbrev pub no_map : MapId
+no_map = record { 0 = 0 }
+
+-- each map has nodes
+abbrev pub HaveNodes : World → List MapId → Type 0
+HaveNodes w maps = (i : ℕ) → i < length maps → HasNodes w (get_or maps i no_map)
+
+-- which of the parts, of which the first stands in that place, use the channel lies between its first and its last user
+abbrev pub IsSpread : ℕ → Trees → Users → Type 0
+IsSpread place ps u = (j : ℕ) → uses_at ps j u.chan.0 ≡ true → (u.first ≤ place + j) × (place + j ≤ u.last)
+
+-- each map is that of the part in its place, where the channels that it alone uses are closed
+abbrev pub AreOfParts : World → List (Name × Width × ℕ) → ℕ → List Users → Environment → MapId → ℕ → List Proc → List MapId → Type 0
+AreOfParts w layout keep users Γ ended place ps maps = (i : ℕ) → i < length ps → IsAfter w layout keep (closed_in (place + i) (place + i + 1) users) Γ (tree (get_or ps i Skip)) ended (get_or maps i no_map)
+
+-- r is the map of the parts side by side, where the channels that they alone use are closed
+pub record IsJoined (vars : List (Name × Kind)) (layout : List (Name × Width × ℕ)) (keep : ℕ) (users : List Users) (ended : MapId) (place : ℕ) (ps : List Proc) (maps : List MapId) (u w : World) (r : MapId) : Type 0 where
+  pub joined : (Γ : Environment) → IsAround Γ vars → all_types_kept (trees ps) Γ ≡ true → AreSeparate (trees ps) → All (IsSpread place (trees ps)) users → IsSkip u keep ended
+      → AreOfParts u layout keep users Γ ended place ps maps → IsAfter w layout keep (closed_in place (place + length ps) users) Γ (par (trees ps)) ended r
+
+-- r is the first map beside the other: final states take the bits from the first that its parts write, and the channels are
+-- closed that both use and no other part
+pub record AreBoth (layout : List (Name × Width × ℕ)) (users : List Users) (low mid high : ℕ) (ps : Trees) (first others : MapId) (w : World) (r : MapId) : Type 0 where
+  pub mask : ℕ
+  pub small : mask < 2 ^ 64
+  pub written : AreWritten layout (par ps) mask
+  pub lifts : Lifts w first others r (OnTwo (IsWovenOf w mask (crossing low mid high users)))

@@ -1,0 +1,4 @@
+pub mod Sides
+pub mod Spans
+pub mod Joined
+pub mod Joints

@@ -1,0 +1,11 @@
+//! The PAR of a normalisation: the maps of its parts side by side, which of the parts closes which channel, and what follows a
+//! PAR whose parts say what they change.
+#![tactic(auto)]
+
+mod joint;
+mod parallel;
+mod users;
+
+pub use joint::sequel;
+pub use parallel::{Sides, joined, side_frame};
+pub use users::Users;

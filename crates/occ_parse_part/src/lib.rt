@@ -1,0 +1,24 @@
+//! Parts of scripts: the lines of one process, without replicators. A part is read once, and then resolved in the scope in
+//! which it stands. What a part reads as is defined in specs/Parts.antt, and what it is in a scope in specs/Resolving.antt.
+#![tactic(auto)]
+
+mod arrays;
+mod elements;
+mod expression;
+mod faults;
+mod forming;
+mod laws;
+mod line;
+mod naming;
+mod process;
+mod raw;
+mod resolving;
+mod rows;
+#[cfg(test)]
+mod tests;
+
+pub use forming::form;
+pub use laws::one_reading_of_a_part;
+pub use occ_parse_reading::ParseFault;
+pub use raw::Raw;
+pub use resolving::resolve;

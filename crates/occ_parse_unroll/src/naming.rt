@@ -1,0 +1,144 @@
+ghost use Rattle.std.specs.Prelude.{◌≡◌, ◌<◌, ◌++◌, ℕ, List, Some, length, OnOk, OnErr, IfOk};
+ghost use Rattle.std.specs.List.{AllByRecursion};
+ghost use Rattle.occ_lex_symbols.specs.Symbols.{Extends};
+ghost use Rattle.occ_parse_rules.specs.Places.{declared_in, entries_of, places, sort_of as sort_of_kind};
+ghost use Rattle.occ_parse_rules.specs.Unrolled.{all_named, item_number, named};
+ghost use Rattle.occ_parse_unroll.specs.Elements.{all_places, item_places, with_place, with_places};
+ghost use Rattle.occ_parse_unroll.specs.Known.{IsKnownDeclared, IsKnownItem};
+ghost use Rattle.occ_parse_unroll.specs.Numbers.{element_text as element_text_of, number_in};
+ghost use Rattle.occ_parse_unroll.specs.Present.{values_of};
+
+use crate::context::Context;
+use itoa::Buffer;
+use occ_base::{Memory, Name, Names};
+use occ_parse_forms::{Declared, Item};
+use occ_parse_rules::{Entry, Sort};
+use occ_syntax::{Kind, Scope};
+use std::alloc::Global;
+
+fn element_text(alloc: Global, array: &[u8], k: u16) -> Result<Vec<u8>, Memory>
+    ensures { IfOk result (λ text. text.items ≡ element_text_of array.now k) }
+{
+    let mut buffer = Buffer::new();
+    let mut text = Vec::from_slice(alloc, array)?;
+    text.push(b'[')?;
+    text.extend_from_slice(buffer.format(k).as_bytes())?;
+    text.push(b']')?;
+    Ok(text)
+}
+
+/// The number of an array's element, whose text is in the table from then on. It stays the same in every table that goes on
+/// from the table behind it. After want of memory the table is as before.
+pub fn element(alloc: Global, names: &mut Names, array: Name, k: u16) -> Result<Name, Memory>
+    requires { array.0 < length names.old }
+    ensures number { IfOk result (λ name. (t : List (List ℕ)) → Extends names.new t → name.0 ≡ number_in t array.0 (Some k)) }
+    ensures table { OnOk result (names.new ≡ with_place names.old array.0 (Some k)) }
+    ensures err { OnErr result (names.new ≡ names.old) }
+    ensures extends { Extends names.old names.new }
+{
+    let text = element_text(alloc, names.text(array), k)?;
+    names.intern(text.as_slice())
+}
+
+/// The number of what an item names, and 0 where its index is below 0.
+pub fn item_name(
+    alloc: Global,
+    names: &mut Names,
+    context: &Context,
+    item: Item,
+) -> Result<Name, Memory>
+    requires { IsKnownItem (length names.old) item }
+    ensures number { IfOk result (λ name. (t : List (List ℕ)) → Extends names.new t
+        → name.0 ≡ item_number (number_in t) (values_of context.now.values) item) }
+    ensures table { OnOk result (names.new ≡ with_places names.old (item_places (values_of context.now.values) item)) }
+    ensures extends { Extends names.old names.new }
+{
+    match item.index {
+        None => Ok(item.name),
+        Some(index) => match context.values.at(index) {
+            Some(k) => element(alloc, names, item.name, k),
+            None => Ok(Name(0)),
+        },
+    }
+}
+
+/// Brings what a line declares into scope, and adds its names with their kind at the end of those that wait for their
+/// process.
+pub fn declare(
+    alloc: Global,
+    names: &mut Names,
+    context: &mut Context,
+    kind: Kind,
+    declared: &[Declared],
+    waiting: &mut Scope,
+) -> Result<(), Memory>
+    requires { AllByRecursion (IsKnownDeclared (length names.old)) declared.now }
+    ensures scopes { OnOk result (context.new.scopes ≡ declared_in context.old.scopes (entries_of kind declared.now)) }
+    ensures values { OnOk result (context.new.values ≡ context.old.values) }
+    ensures waiting { OnOk result ((t : List (List ℕ)) → Extends names.new t
+        → waiting.new ≡ waiting.old ++ all_named (number_in t) kind declared.now) }
+    ensures table { OnOk result (names.new ≡ with_places names.old (all_places declared.now)) }
+    ensures extends { Extends names.old names.new }
+{
+    for d in declared {
+        context.scopes.declare(Entry {
+            declared: *d,
+            sort: sort_of(kind),
+        })?;
+        name_places(alloc, names, kind, *d, waiting)?;
+    }
+    Ok(())
+}
+
+/// What a kind is as a sort.
+pub fn sort_of(kind: Kind) -> Sort
+    ensures { result ≡ sort_of_kind kind }
+{
+    match kind {
+        Kind::Var(width) => Sort::Variable(width),
+        Kind::Chan(width, mark) => Sort::Channel(width, mark),
+    }
+}
+
+/// Adds the names that a declaration declares, with their kind.
+pub fn name_places(
+    alloc: Global,
+    names: &mut Names,
+    kind: Kind,
+    declared: Declared,
+    waiting: &mut Scope,
+) -> Result<(), Memory>
+    requires { IsKnownDeclared (length names.old) declared }
+    ensures waiting { OnOk result ((t : List (List ℕ)) → Extends names.new t → waiting.new ≡ waiting.old ++ named (number_in t) kind declared) }
+    ensures table { OnOk result (names.new ≡ with_places names.old (places declared)) }
+    ensures extends { Extends names.old names.new }
+{
+    match declared {
+        Declared::Plain(name) => waiting.push((name, kind)),
+        Declared::Element(array, k) => {
+            waiting.push((element(alloc, names, array, u16::from(k))?, kind))
+        }
+        Declared::Array(array, count) => name_elements(alloc, names, kind, array, count, waiting),
+    }
+}
+
+fn name_elements(
+    alloc: Global,
+    names: &mut Names,
+    kind: Kind,
+    array: Name,
+    count: u8,
+    waiting: &mut Scope,
+) -> Result<(), Memory>
+    requires { array.0 < length names.old }
+    ensures waiting { OnOk result ((t : List (List ℕ)) → Extends names.new t
+        → waiting.new ≡ waiting.old ++ named (number_in t) kind (Declared.Array array count)) }
+    ensures table { OnOk result (names.new ≡ with_places names.old (places (Declared.Array array count))) }
+    ensures extends { Extends names.old names.new }
+{
+    for k in 0..count {
+        let name = element(alloc, names, array, u16::from(k))?;
+        waiting.push((name, kind))?;
+    }
+    Ok(())
+}

@@ -1,6 +1,0 @@
-use Rattle.occ_form.specs.Shape.{said}
-use Rattle.occ_unroll.proofs.Words.{words}
-use Rattle.occ_part.proofs.arrays.+add_phrase.Given as goal
-
-abbrev pub decreases-add_phrase : goal.decreases-add_phrase
-decreases-add_phrase l = words (said l.phrase.now)

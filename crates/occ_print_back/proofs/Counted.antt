@@ -1,0 +1,63 @@
+-- The rows of a printed text are within the limits of a script, and have the forms of what they say.
+use Rattle.std.proofs.Common.{◌≡◌, ℕ, ◌≤◌, ◌+◌, Bool, true, false, List, [], ◌∷◌, ◌++◌, length, Option, None, Some, refl, ap, sym, ◌∙◌, arith}
+use Rattle.std.specs.Prelude.{if◌then◌else◌, nat_lt}
+use Rattle.std.proofs.lemmas.Bool.{le-ltb}
+use Rattle.occ_lex_symbols.specs.declared.symbol.Row.{Row}
+use Rattle.occ_lex_symbols.specs.declared.symbol.Symbol.{Symbol}
+use Rattle.occ_lex_symbols.specs.declared.symbol.Symbol.TheVariants as symbol
+use Rattle.occ_parse_forms.specs.Written.{item_words}
+use Rattle.occ_parse_rules.specs.Forest.{Laid}
+use Rattle.occ_parse_rules.specs.Places.{Place}
+use Rattle.occ_print.specs.Lines.{TextLine, most_symbols}
+use Rattle.occ_parse_reading.specs.declared.bound.Bound.TheVariants as bound
+use Rattle.occ_parse_reading.specs.declared.fault.ParseFault.{ParseFault}
+use Rattle.occ_parse_reading.specs.declared.fault.Which.TheVariants as which
+use Rattle.occ_parse_reading.specs.Limits.{counts_nothing, weight, opens, counted_from, counted, stop_at, stopped}
+use Rattle.occ_parse_reading.specs.Reading.{AreForms}
+use Rattle.occ_print_back.specs.Said.{item_of}
+use Rattle.occ_print_back.specs.Read.{symbols_read, line_rows}
+use Rattle.occ_print_back.specs.Formed.{AreFormed}
+
+zero_or_one : (b : Bool) → (if b then 0 else 1) ≤ 1
+zero_or_one true = omega arith
+zero_or_one false = omega arith
+
+weight_less : (b : Bool) (s : Symbol) → weight b s ≤ weight false s
+weight_less true (symbol.Numeral v) = omega arith
+weight_less false (symbol.Numeral v) = omega arith
+weight_less b (symbol.Name n) = omega arith
+weight_less b (symbol.Keyword k) = omega arith
+weight_less b (symbol.Sign s) = omega arith
+
+counted_less : (b : Bool) (ss : List Symbol) → counted_from b ss ≤ counted_from false ss
+counted_less b [] = omega arith
+counted_less b (s ∷ ss) = omega (arith, weight_less b s)
+
+item_counted : (y : ℕ) (k : Option ℕ) (rest : List Symbol) → counted_from false (item_words (item_of (record { name = y; element = k })) ++ rest) ≡ 1 + counted_from false rest
+item_counted y None rest = refl
+item_counted y (Some k) rest = omega arith
+
+count_read : (P : ℕ → Place) (ss : List Symbol) → counted (symbols_read P ss) ≤ length ss
+count_read P [] = omega arith
+count_read P (symbol.Name name ∷ ss) = omega (arith, item_counted (P name.0).name (P name.0).element (symbols_read P ss), count_read P ss)
+count_read P (symbol.Numeral v ∷ ss) = omega (arith, count_read P ss)
+count_read P (symbol.Keyword k ∷ ss) = omega (arith, count_read P ss)
+count_read P (symbol.Sign s ∷ ss) = omega (arith, zero_or_one (counts_nothing s), counted_less (opens (symbol.Sign s)) (symbols_read P ss), count_read P ss)
+
+abbrev line_row : (ℕ → Place) → ℕ → TextLine → Row
+line_row P n l = record { number = n; level = l.level; symbols = symbols_read P l.symbols }
+
+pub none_stopped : (P : ℕ → Place) (n : ℕ) (ls : List TextLine) → most_symbols ls ≤ 4096 → stopped bound.Script (line_rows P n ls) None ≡ (line_rows P n ls, None)
+none_stopped P n [] h = refl
+none_stopped P n (l ∷ ls) h =
+    let row = line_row P n l in
+    let small : counted (symbols_read P l.symbols) ≤ 4096 = omega (arith, h, count_read P l.symbols) in
+    let within : nat_lt 4096 (counted (symbols_read P l.symbols)) ≡ false = le-ltb _ _ small in
+    ap (λ b. stop_at row (if b then Some which.Tokens else None) (stopped bound.Script (line_rows P (n + 1) ls) None)) within
+    ∙ ap (λ (others : List Row × Option ParseFault). (row ∷ others.0, others.1)) (none_stopped P (n + 1) ls (omega (arith, h)))
+
+pub all_said : (P : ℕ → Place) (n : ℕ) (ts : List TextLine) (ls : List Laid) → AreFormed P n ts ls → AreForms (line_rows P n ts) ls
+all_said P n [] [] h = tt
+all_said P n [] (l ∷ ls) h = h
+all_said P n (t ∷ ts) [] h = h
+all_said P n (t ∷ ts) (l ∷ ls) h = (record { number = sym h.0; level = sym h.1; form = h.2 }, all_said P (n + 1) ts ls h.3)

@@ -1,0 +1,15 @@
+pub mod Widths
+pub mod Standing
+pub mod Phrases
+pub mod Forms
+pub mod Tokens
+pub mod Spacing
+pub mod Rows
+pub mod Saying
+pub mod Laying
+pub mod Programs
+pub mod Clashing
+pub mod Ordering
+pub mod Stable
+pub mod Counted
+pub mod Backs

@@ -1,0 +1,25 @@
+-- A printed program reads back.
+use Rattle.std.specs.Prelude.{ℕ, ◌≤◌, List}
+use Rattle.occ_base.specs.declared.names.Name.{Name}
+use Rattle.occ_syntax.specs.declared.scope.Kind.{Kind}
+use Rattle.occ_syntax.specs.Tree.{Tree}
+use Rattle.occ_parse_rules.specs.Places.{Place}
+use Rattle.occ_parse_rules.specs.Unrolled.{lined}
+use Rattle.occ_print.specs.Lines.{most_symbols, program_lines}
+use Rattle.occ_print.specs.Spelled.{program_text}
+use Rattle.occ_parse_reading.specs.declared.bound.Bound.TheVariants as bound
+use Rattle.occ_parse_reading.specs.Reading.{IsRead}
+use Rattle.occ_print_back.specs.Program.{body_forest}
+
+-- no line has more tokens than a line of a text may have
+abbrev pub IsNarrow : ℕ → List (Name × Kind) → Tree → Type 0
+IsNarrow name params body = most_symbols (program_lines name params body) ≤ 4096
+
+-- the lines of the processes, where each line is printed
+abbrev pub printed_numbers : (ℕ → Place) → Tree → List ℕ
+printed_numbers P body = (lined (body_forest P body)).parts
+
+-- The text of the program reads as that program, with the same table of names.
+abbrev pub ReadsBack : List (List ℕ) → (ℕ → Place) → ℕ → List (Name × Kind) → Tree → Type 0
+ReadsBack names P name params body =
+    IsRead bound.Script (program_text names name params body) names names (record { 0 = name }) params body (printed_numbers P body)

@@ -1,0 +1,46 @@
+-- A printed program: its lines as a forest, and what is asked of it and of its names.
+use Rattle.std.specs.Prelude.{ℕ, ◌≡◌, ◌+◌, true, List, [], map, None}
+use Rattle.std.specs.List.{AllByRecursion}
+use Rattle.occ_base.specs.declared.names.Name.{Name}
+use Rattle.occ_syntax.specs.declared.scope.Kind.{Kind}
+use Rattle.occ_syntax.specs.Scopes.{environment}
+use Rattle.occ_syntax.specs.Tree.{Tree}
+use Rattle.occ_syntax.specs.Types.{scope_kept, types_kept}
+use Rattle.occ_parse_forms.specs.declared.form.Param.{Param}
+use Rattle.occ_parse_forms.specs.Lines.{IsMarked}
+use Rattle.occ_parse_forms.specs.Shape as line
+use Rattle.occ_parse_rules.specs.Forest.{Forest, no_line, and_line}
+use Rattle.occ_parse_rules.specs.Places.{Place, Sorts, declared_in, param_entries}
+use Rattle.occ_print.specs.Known.{ProgramIsKnown}
+use Rattle.occ_print_back.specs.Said.{declared_of}
+use Rattle.occ_print_back.specs.Forest.{height, part_forest}
+use Rattle.occ_print_back.specs.Placed.{IsTable}
+
+abbrev pub param_said : (ℕ → Place) → Name × Kind → Param
+param_said P p = record { declared = declared_of (P p.0.0); kind = p.1 }
+
+abbrev pub params_said : (ℕ → Place) → List (Name × Kind) → List Param
+params_said P params = map (param_said P) params
+
+-- the scope below the header
+abbrev pub header_scope : (ℕ → Place) → List (Name × Kind) → Sorts
+header_scope P params = declared_in [] (param_entries (params_said P params))
+
+-- the lines below the header
+abbrev pub body_forest : (ℕ → Place) → Tree → Forest
+body_forest P body = part_forest P 2 body no_line
+
+-- the header on line 1, the body below it, and the closing line
+abbrev pub program_forest : (ℕ → Place) → ℕ → List (Name × Kind) → Tree → Forest
+program_forest P name params body =
+    and_line 1 (line.header (record { 0 = (P name).name }) (params_said P params)) (body_forest P body) (and_line (2 + height body) line.close no_line no_line)
+
+-- A program that keeps names, types and directions, whose channel parameters are marked, and whose names are those of the
+-- table. Its own name has no index.
+pub record IsPrintable (names : List (List ℕ)) (P : ℕ → Place) (name : ℕ) (params : List (Name × Kind)) (body : Tree) : Type 0 where
+  pub table : IsTable names P
+  pub known : ProgramIsKnown names name params body
+  pub plain : (P name).element ≡ None
+  pub marked : AllByRecursion (λ (p : Name × Kind). IsMarked p.1) params
+  pub scope : scope_kept params ≡ true
+  pub types : types_kept body (environment params) ≡ true

@@ -1,0 +1,53 @@
+ghost use Rattle.std.specs.Prelude.{◌≡◌, ℕ, List, None, [], false, length};
+ghost use Rattle.occ_base.specs.declared.names.Name.{Name};
+ghost use Rattle.occ_parse_rules.specs.Forest.{lines_at};
+ghost use Rattle.occ_parse_rules.specs.Judging.{first_fault};
+ghost use Rattle.occ_parse_rules.specs.Names.{name_fault};
+ghost use Rattle.occ_parse_rules.specs.Places.{Place};
+ghost use Rattle.occ_parse_rules.specs.Types.{direction_fault, type_fault};
+ghost use Rattle.occ_parse_rules.specs.Unrolled.{Numbers, params_named, slot_process};
+ghost use Rattle.occ_parse_layout.specs.Layout.{least_bad};
+ghost use Rattle.occ_parse_layout.specs.declared.placed.Frame.TheVariants.{Plain};
+ghost use Rattle.occ_print.specs.Lines.{program_lines};
+ghost use Rattle.occ_print.specs.Spelled.{program_text};
+ghost use Rattle.occ_print_back.specs.Formed.{AreFormed};
+ghost use Rattle.occ_print_back.specs.Program.{IsPrintable, body_forest, header_scope, params_said, program_forest};
+ghost use Rattle.occ_print_back.specs.Read.{ReadsAs};
+ghost use Rattle.occ_print_back.specs.Scoped.{IsNumbered};
+ghost use Rattle.occ_syntax.specs.Tree.{Tree};
+ghost use Rattle.occ_syntax.specs.declared.scope.Kind.{Kind};
+
+/// The text of a printed program reads as its lines, each with its symbols, and leaves the table of names as it is.
+pub fn printed_text_has_its_lines()
+    ensures { (names : List (List ℕ)) (P : ℕ → Place) (name : ℕ) (params : List (Name × Kind)) (body : Tree) → IsPrintable names P name params body
+        → ReadsAs (program_text names name params body) names P (program_lines name params body) }
+{}
+
+/// Each line of a printed program is spelled as the form of what it says.
+pub fn printed_lines_have_their_forms()
+    ensures { (names : List (List ℕ)) (P : ℕ → Place) (N : Numbers) (name : ℕ) (params : List (Name × Kind)) (body : Tree) → IsNumbered (length names) P N
+        → IsPrintable names P name params body → AreFormed P 1 (program_lines name params body) (lines_at 0 (program_forest P name params body)) }
+{}
+
+/// No line of a printed program stands where it may not, or lacks what it needs.
+pub fn printed_lines_are_well_laid_out()
+    ensures { (P : ℕ → Place) (name : ℕ) (params : List (Name × Kind)) (body : Tree) → least_bad Plain false (lines_at 0 (program_forest P name params body)) ≡ None }
+{}
+
+/// The lines of a printed program stand for it: its parameters and its body.
+pub fn printed_lines_stand_for_their_program()
+    ensures params { (names : List (List ℕ)) (P : ℕ → Place) (N : Numbers) (name : ℕ) (params : List (Name × Kind)) (body : Tree) → IsNumbered (length names) P N
+        → IsPrintable names P name params body → params_named N (params_said P params) ≡ params }
+    ensures body { (names : List (List ℕ)) (P : ℕ → Place) (N : Numbers) (name : ℕ) (params : List (Name × Kind)) (body : Tree) → IsNumbered (length names) P N
+        → IsPrintable names P name params body → slot_process N (header_scope P params) (body_forest P body) ≡ body }
+{}
+
+/// No line of a printed program has a fault of names, types or directions.
+pub fn printed_lines_are_in_order()
+    ensures names { (names : List (List ℕ)) (P : ℕ → Place) (N : Numbers) (name : ℕ) (params : List (Name × Kind)) (body : Tree) → IsNumbered (length names) P N
+        → IsPrintable names P name params body → first_fault name_fault [] [] (program_forest P name params body) ≡ None }
+    ensures types { (names : List (List ℕ)) (P : ℕ → Place) (N : Numbers) (name : ℕ) (params : List (Name × Kind)) (body : Tree) → IsNumbered (length names) P N
+        → IsPrintable names P name params body → first_fault type_fault [] [] (program_forest P name params body) ≡ None }
+    ensures directions { (names : List (List ℕ)) (P : ℕ → Place) (N : Numbers) (name : ℕ) (params : List (Name × Kind)) (body : Tree) → IsNumbered (length names) P N
+        → IsPrintable names P name params body → first_fault direction_fault [] [] (program_forest P name params body) ≡ None }
+{}

@@ -1,3 +1,0 @@
-pub mod Stable
-pub mod Counted
-pub mod Backs

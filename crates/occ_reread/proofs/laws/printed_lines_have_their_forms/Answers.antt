@@ -1,5 +1,0 @@
-use Rattle.occ_reread.proofs.Programs.{program_formed}
-use Rattle.occ_reread.proofs.laws.printed_lines_have_their_forms.Goals as goal
-
-pub returns : goal.returns
-returns c = program_formed

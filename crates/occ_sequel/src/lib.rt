@@ -1,6 +1,0 @@
-//! What follows processes that say what they change.
-#![tactic(auto)]
-
-mod joint;
-
-pub use joint::sequel;

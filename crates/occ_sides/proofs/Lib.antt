@@ -1,9 +1,0 @@
-pub mod Silent
-pub mod Using
-pub mod Assignments
-pub mod Alone
-pub mod Pair
-pub mod Spanning
-pub mod Writing
-pub mod Closing
-pub mod Together

@@ -1,8 +1,0 @@
-use Rattle.indexmap.specs.IndexMap.{get}
-use Rattle.occ_base.specs.declared.names.Name.{Name}
-use Rattle.occ_syntax.specs.View.{trees}
-use Rattle.occ_sides.specs.Spans.{IsSpan, same_name}
-use Rattle.occ_sides.proofs.users.places_of.Given as goal
-
-abbrev pub invariant-loop-place : goal.invariant-loop-place
-invariant-loop-place l = (c : Name) → IsSpan (trees l.parts) l.place c.0 (get same_name l.used c)

@@ -1,3 +1,0 @@
-pub mod Sides
-pub mod Spans
-pub mod Joined

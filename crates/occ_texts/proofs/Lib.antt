@@ -1,9 +1,0 @@
-pub mod Words
-pub mod Numerals
-pub mod States
-pub mod Events
-pub mod Params
-pub mod Names
-pub mod Sections
-pub mod Header
-pub mod Whole

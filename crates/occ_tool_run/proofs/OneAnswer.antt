@@ -1,0 +1,316 @@
+-- A command line over the same files has one answer.
+use Rattle.std.proofs.Common.{◌≡◌, ◌↔◌, ◌<◌, ◌^◌, ℕ, Bool, true, false, IsTrue, List, [], ◌∷◌, length, Option, Some, None, Result, Ok, Err, Vec, Global, refl, sym, ◌∙◌, ap, ap₂, subst, arith, slice_index_or}
+use Rattle.occ_base.specs.Names.{IsDistinct}
+use Rattle.occ_base.specs.declared.names.Name.{Name}
+use Rattle.occ_syntax.specs.declared.scope.Program.{Program}
+use Rattle.occ_syntax.specs.declared.scope.Kind.{Kind}
+use Rattle.occ_syntax.specs.Scopes.{environment}
+use Rattle.occ_syntax.specs.Same.{SAME}
+use Rattle.occ_syntax.specs.Tree.{Tree}
+use Rattle.occ_syntax.specs.Types.{scope_kept, types_kept}
+use Rattle.occ_syntax.specs.View.{tree}
+use Rattle.occ_syntax.specs.Usage.{KeepsUsage}
+use Rattle.occ_parse_reading.specs.Reading.{IsRefused as IsRefusedText}
+use Rattle.occ_parse_reading.specs.declared.bound.Bound.TheVariants as bound
+use Rattle.occ_parse_reading.specs.declared.fault.ParseFault.{ParseFault}
+use Rattle.occ_usage.specs.Accepted.{usage_faults}
+use Rattle.occ_usage.specs.Faults.{faults, names_of}
+use Rattle.occ_usage.specs.declared.fault.UsageFault.{UsageFault}
+use Rattle.occ_behaviour.specs.declared.behaviour.Behaviour.{Behaviour}
+use Rattle.occ_behaviour.specs.declared.behaviour.Side.{Side}
+use Rattle.occ_behaviour.specs.declared.behaviour.Side.TheVariants.{First, Second}
+use Rattle.occ_behaviour.specs.declared.behaviour.Verdict.{Verdict}
+use Rattle.occ_behaviour.specs.Members.{IsMember}
+use Rattle.occ_verdict.specs.Verdict.{IsVerdictOf}
+use Rattle.occ_nform_table.specs.Normal.{Parts, text_read}
+use Rattle.occ_nform_table.specs.declared.table.TableFault.{TableFault}
+use Rattle.occ_behaviour_read.specs.Claims.{claim_read}
+use Rattle.occ_gen.specs.declared.shape.Shape.{Shape}
+use Rattle.occ_gen.specs.Programs.{program_text}
+use Rattle.occ_nform.specs.Written.{IsNormalText}
+use Rattle.occ_nform_program.specs.Counted.{HasCounts, counts_of}
+use Rattle.occ_tool_words.specs.Words.{Job, same, normalise, normal, belongs, stress, job_of}
+use Rattle.occ_tool_run.specs.declared.answer.Answer.{Answer}
+use Rattle.occ_tool_run.specs.declared.answer.Answer.TheVariants.{Usage, Refused, Unusable, TooLong, RefusedTable, RefusedClaim, InterfacesDiffer, Compared, Written, Counted, Member, Stressed}
+use Rattle.occ_tool_run.specs.Files.{Files}
+use Rattle.occ_tool_run.specs.Texts.{status_of, text_of}
+use Rattle.occ_tool_run.specs.Accepts.{ReadsAs, IsAccepted, IsRefused, IsUnusable, node_of}
+use Rattle.occ_tool_run.specs.Answers.{Takes, refused, unusable, accepted, Compares, apart, compared, Settles, IsNormalised, Normalises, IsChecked, too_long_table, faulty_table, normal_table, Checks, IsJudged, too_long_claim, faulty_claim, judged_claim, Judges, IsStressed, Stresses, IsAnswer, usage, comparison, normalisation, checking, membership, stressing, Answers}
+use Rattle.occ_tool_run.proofs.Once.{IsOneReading, IsOnce, IsOneText, faultless}
+
+some_is : {X : Type 0} (x y : X) → Some x ≡ Some y → x ≡ y
+some_is x y e = cc
+
+ok_is : {X E : Type 0} (x y : X) (r : Result X E) → r ≡ Ok x → r ≡ Ok y → x ≡ y
+ok_is x y r e f = cc
+
+err_is : {X E : Type 0} (x y : E) (r : Result X E) → r ≡ Err x → r ≡ Err y → x ≡ y
+err_is x y r e f = cc
+
+not_both : {X E : Type 0} (x : X) (y : E) (r : Result X E) → r ≡ Ok x → r ≡ Err y → ⊥
+not_both x y r e f = cc
+
+-- the bytes of a file are one list
+same_bytes : (file : Option (List ℕ)) (a b : List ℕ) → file ≡ Some a → file ≡ Some b → a ≡ b
+same_bytes file a b e f = some_is a b (sym e ∙ f)
+
+same_truth : (x y : Bool) → (IsTrue x → IsTrue y) → (IsTrue y → IsTrue x) → x ≡ y
+same_truth true true f g = refl
+same_truth true false f g = sym (f refl)
+same_truth false true f g = g refl
+same_truth false false f g = refl
+
+-- a text in memory is shorter than numerals are long
+short : (text : Vec ℕ Global) → length text.items < 2 ^ 64
+short text = omega (arith, text.ok, text.small)
+
+-- ---- answers that are written alike
+
+record AreAlike (a b : Answer) : Type 0 where
+  status : status_of a ≡ status_of b
+  text : text_of a ≡ text_of b
+
+alike : (a b c d : Answer) → a ≡ c → c ≡ d → b ≡ d → AreAlike a b
+alike a b c d e f g = let h : a ≡ b = e ∙ f ∙ sym g in record { status = ap status_of h; text = ap text_of h }
+
+-- ---- what becomes of one text
+
+data Outcome : Type 0 where
+  as_taken : List (List ℕ) → Program → Outcome
+  as_refused : ParseFault → Outcome
+  as_unusable : List (List ℕ) → ℕ → UsageFault → Outcome
+
+abbrev Comes : Option (List ℕ) → List (List ℕ) → Outcome → Type 0
+Comes file old (as_taken new program) = IsAccepted file old new program
+Comes file old (as_refused fault) = IsRefused file old fault
+Comes file old (as_unusable new line fault) = IsUnusable file old new line fault
+
+record AreOne (m n : List (List ℕ)) (p q : Program) : Type 0 where
+  names : m ≡ n
+  params : p.params ≡ q.params
+  body : tree p.body ≡ tree q.body
+
+record AreOneFault (m n : List (List ℕ)) (k l : ℕ) (f g : UsageFault) : Type 0 where
+  names : m ≡ n
+  lines : k ≡ l
+  faults : f ≡ g
+
+abbrev Agree : Outcome → Outcome → Type 0
+Agree (as_taken m p) (as_taken n q) = AreOne m n p q
+Agree (as_taken m p) (as_refused g) = ⊥
+Agree (as_taken m p) (as_unusable n l g) = ⊥
+Agree (as_refused f) (as_taken n q) = ⊥
+Agree (as_refused f) (as_refused g) = f ≡ g
+Agree (as_refused f) (as_unusable n l g) = ⊥
+Agree (as_unusable m k f) (as_taken n q) = ⊥
+Agree (as_unusable m k f) (as_refused g) = ⊥
+Agree (as_unusable m k f) (as_unusable n l g) = AreOneFault m n k l f g
+
+head_is : {X : Type 0} (x y : X) (xs ys : List X) → x ∷ xs ≡ y ∷ ys → x ≡ y
+head_is x y xs ys e = cc
+
+-- two programs have one verdict
+pub record IsOneVerdict : Type 0 where
+  pub one : (params : List (Name × Kind)) (p q : Tree) (v w : Verdict) → IsVerdictOf params p q v → IsVerdictOf params p q w → v ≡ w
+
+back : {A B C : Type 0} (P : A → B → C → Type 0) (x y : A) (z u : B) (v w : C) → x ≡ y → z ≡ u → v ≡ w → P y u w → P x z v
+back {A} {B} {C} P x y z u v w e f g h =
+    let F : A → Type 0 = λ t. P t z v in
+    let G : B → Type 0 = λ t. P y t v in
+    let H : C → Type 0 = λ t. P y u t in
+    subst F (sym e) (subst G (sym f) (subst H (sym g) h))
+
+itself : (params : List (Name × Kind)) (p : Tree) → SAME (environment params) p p
+itself params p = record { same_failures = λ s t X i w. (λ h. h, λ h. h); same_ends = λ s t u i. (λ h. h, λ h. h) }
+
+-- what follows stands on the reading of a text being one, on the verdict being one, and on the normal text being one
+module _ (once : IsOnce) (only : IsOneVerdict) (single : IsOneText) where
+  reads : (a b : List ℕ) (old m n : List (List ℕ)) (p q : Program) (ls ks : List ℕ) → b ≡ a → ReadsAs a old m p ls → ReadsAs b old n q ks → IsOneReading m n p q ls ks
+  reads a b old m n p q ls ks alike r s =
+      let P : List ℕ → Type 0 = λ t. ReadsAs t old n q ks in
+      once.one_reading a old m n p q ls ks r (subst P alike s)
+
+  not_refused : (a b : List ℕ) (old m : List (List ℕ)) (p : Program) (ls : List ℕ) (f : ParseFault) → b ≡ a → ReadsAs a old m p ls → IsRefusedText bound.Program b old f → ⊥
+  not_refused a b old m p ls f alike r s =
+      let P : List ℕ → Type 0 = λ t. IsRefusedText bound.Program t old f in
+      once.not_both a old m p ls f r (subst P alike s)
+
+  one_fault_of : (p q : Program) (f g : UsageFault) (fs gs : List UsageFault) → p.params ≡ q.params → tree p.body ≡ tree q.body → usage_faults p ≡ f ∷ fs → usage_faults q ≡ g ∷ gs → f ≡ g
+  one_fault_of p q f g fs gs params body x y =
+      let alike : usage_faults p ≡ usage_faults q = λ i. faults (body i) 0 (names_of (params i)) in
+      head_is f g fs gs (sym x ∙ alike ∙ y)
+
+  no_fault : (p q : Program) (f : UsageFault) (fs : List UsageFault) → p.params ≡ q.params → tree p.body ≡ tree q.body → KeepsUsage (tree p.body) → usage_faults q ≡ f ∷ fs → ⊥
+  no_fault p q f fs params body keeps found =
+      let P : Tree → Type 0 = KeepsUsage in
+      faultless q f fs (subst P body keeps) found
+
+  agree : (file : Option (List ℕ)) (old : List (List ℕ)) (x y : Outcome) → Comes file old x → Comes file old y → Agree x y
+  agree file old (as_taken m p) (as_taken n q) a b =
+      let e = reads a.bytes b.bytes old m n p q a.text.numbers b.text.numbers (same_bytes file b.bytes a.bytes b.there a.there) a.text.read b.text.read in
+      record { names = e.names; params = e.params; body = e.body }
+  agree file old (as_taken m p) (as_refused g) a b =
+      not_refused a.bytes b.bytes old m p a.text.numbers g (same_bytes file b.bytes a.bytes b.there a.there) a.text.read b.text
+  agree file old (as_taken m p) (as_unusable n l g) a b =
+      let e = reads a.bytes b.bytes old m n p b.text.program a.text.numbers b.text.numbers (same_bytes file b.bytes a.bytes b.there a.there) a.text.read b.text.read in
+      no_fault p b.text.program g b.text.later e.params e.body a.text.usage b.text.found
+  agree file old (as_refused f) (as_taken n q) a b =
+      not_refused b.bytes a.bytes old n q b.text.numbers f (same_bytes file a.bytes b.bytes a.there b.there) b.text.read a.text
+  agree file old (as_refused f) (as_refused g) a b =
+      let P : List ℕ → Type 0 = λ t. IsRefusedText bound.Program t old g in
+      once.one_fault a.bytes old f g a.text (subst P (same_bytes file b.bytes a.bytes b.there a.there) b.text)
+  agree file old (as_refused f) (as_unusable n l g) a b =
+      not_refused b.bytes a.bytes old n b.text.program b.text.numbers f (same_bytes file a.bytes b.bytes a.there b.there) b.text.read a.text
+  agree file old (as_unusable m k f) (as_taken n q) a b =
+      let e = reads b.bytes a.bytes old n m q a.text.program b.text.numbers a.text.numbers (same_bytes file a.bytes b.bytes a.there b.there) b.text.read a.text.read in
+      no_fault q a.text.program f a.text.later e.params e.body b.text.usage a.text.found
+  agree file old (as_unusable m k f) (as_refused g) a b =
+      not_refused a.bytes b.bytes old m a.text.program a.text.numbers g (same_bytes file b.bytes a.bytes b.there a.there) a.text.read b.text
+  agree file old (as_unusable m k f) (as_unusable n l g) a b =
+      let e = reads a.bytes b.bytes old m n a.text.program b.text.program a.text.numbers b.text.numbers (same_bytes file b.bytes a.bytes b.there a.there) a.text.read b.text.read in
+      let alike : f ≡ g = one_fault_of a.text.program b.text.program f g a.text.later b.text.later e.params e.body a.text.found b.text.found in
+      let at : slice_index_or a.text.numbers (node_of f) 1 ≡ slice_index_or b.text.numbers (node_of g) 1 = λ i. slice_index_or (e.numbers i) (node_of (alike i)) 1 in
+      record { names = e.names; lines = a.text.line_is ∙ at ∙ sym b.text.line_is; faults = alike }
+
+  -- two answers where a text is taken, and where so are those of the rest
+  takes_alike : (place : Side) (file : Option (List ℕ)) (old : List (List ℕ)) (R S : List (List ℕ) → Program → Answer → Type 0) (a b : Answer)
+      → ((m n : List (List ℕ)) (p q : Program) → IsAccepted file old m p → AreOne m n p q → R m p a → S n q b → AreAlike a b)
+      → Takes place file old R a → Takes place file old S b → AreAlike a b
+  takes_alike place file old R S a b rest (refused f r e) (refused g s h) = alike a b (Refused place f) (Refused place g) e (ap (Refused place) (agree file old (as_refused f) (as_refused g) r s)) h
+  takes_alike place file old R S a b rest (refused f r e) (unusable n l g s h) = absurd (agree file old (as_refused f) (as_unusable n l g) r s)
+  takes_alike place file old R S a b rest (refused f r e) (accepted n q s y) = absurd (agree file old (as_refused f) (as_taken n q) r s)
+  takes_alike place file old R S a b rest (unusable m k f r e) (refused g s h) = absurd (agree file old (as_unusable m k f) (as_refused g) r s)
+  takes_alike place file old R S a b rest (unusable m k f r e) (unusable n l g s h) =
+      let d = agree file old (as_unusable m k f) (as_unusable n l g) r s in
+      alike a b (Unusable m place k f) (Unusable n place l g) e (λ i. Unusable (d.names i) place (d.lines i) (d.faults i)) h
+  takes_alike place file old R S a b rest (unusable m k f r e) (accepted n q s y) = absurd (agree file old (as_unusable m k f) (as_taken n q) r s)
+  takes_alike place file old R S a b rest (accepted m p r x) (refused g s h) = absurd (agree file old (as_taken m p) (as_refused g) r s)
+  takes_alike place file old R S a b rest (accepted m p r x) (unusable n l g s h) = absurd (agree file old (as_taken m p) (as_unusable n l g) r s)
+  takes_alike place file old R S a b rest (accepted m p r x) (accepted n q s y) = rest m n p q r (agree file old (as_taken m p) (as_taken n q) r s) x y
+
+  -- ---- two programs
+
+  decided_alike : (p q r s : Program) (v w : Verdict) → p.params ≡ r.params → tree p.body ≡ tree r.body → tree q.body ≡ tree s.body
+      → IsVerdictOf p.params (tree p.body) (tree q.body) v → IsVerdictOf r.params (tree r.body) (tree s.body) w → v ≡ w
+  decided_alike p q r s v w e f g fv fw =
+      let F : List (Name × Kind) → Tree → Tree → Type 0 = λ x y z. IsVerdictOf x y z w in
+      only.one p.params (tree p.body) (tree q.body) v w fv (back F _ _ _ _ _ _ e f g fw)
+
+  compares_alike : (j k m n : List (List ℕ)) (p q r s : Program) (a b : Answer) → AreOne j k p r → AreOne m n q s → Compares p m q a → Compares r n s b → AreAlike a b
+  compares_alike j k m n p q r s a b first second (apart d e) (apart c h) = alike a b InterfacesDiffer InterfacesDiffer e refl h
+  compares_alike j k m n p q r s a b first second (apart d e) (compared w y h) = absurd (d (first.params ∙ y.one_interface ∙ sym second.params))
+  compares_alike j k m n p q r s a b first second (compared v x e) (apart c h) = absurd (c (sym first.params ∙ x.one_interface ∙ second.params))
+  compares_alike j k m n p q r s a b first second (compared v x e) (compared w y h) =
+      alike a b (Compared m v) (Compared n w) e (ap₂ Compared second.names (decided_alike p q r s v w first.params first.body second.body x.first y.first)) h
+
+  settles_alike : (one two : Option (List ℕ)) (a b : Answer) → Settles one two a → Settles one two b → AreAlike a b
+  settles_alike one two a b s t =
+      takes_alike First one [] (λ names p. Takes Second two names (Compares p)) (λ names p. Takes Second two names (Compares p)) a b
+      (λ m n p q x first f g.
+      let P : List (List ℕ) → Type 0 = λ o. Takes Second two o (Compares q) b in
+      takes_alike Second two m (Compares p) (Compares q) a b (λ j k r u y second. compares_alike m n j k p r q u a b first second) f (subst P (sym first.names) g))
+      s.judged t.judged
+
+  -- ---- normal texts
+
+  one_text : (file : Option (List ℕ)) (m : List (List ℕ)) (p : Program) (s t : List ℕ) → IsAccepted file [] m p → length s < 2 ^ 64 → length t < 2 ^ 64
+      → IsNormalText m p.params (tree p.body) s → IsNormalText m p.params (tree p.body) t → s ≡ t
+  one_text file m p s t x f g a b =
+      (single.one m p.params (tree p.body) (tree p.body) s t (single.distinct x.bytes m p x.text.numbers x.text.read) x.text.typed.scope x.text.typed.types x.text.typed.types f g a b).1
+      (itself p.params (tree p.body))
+
+  normalised_alike : (file : Option (List ℕ)) (m n : List (List ℕ)) (p q : Program) (a b : Answer) → IsAccepted file [] m p → AreOne m n p q → IsNormalised m p a → IsNormalised n q b → AreAlike a b
+  normalised_alike file m n p q a b x d f g =
+      let P : List (List ℕ) → List (Name × Kind) → Tree → Type 0 = λ ns ps t. IsNormalText ns ps t g.text.items in
+      let e : f.text.items ≡ g.text.items = one_text file m p f.text.items g.text.items x (short f.text) (short g.text) f.is (back P m n p.params q.params (tree p.body) (tree q.body) d.names d.params d.body g.is) in
+      record { status = ap status_of f.answer_is ∙ sym (ap status_of g.answer_is); text = ap text_of f.answer_is ∙ e ∙ sym (ap text_of g.answer_is) }
+
+  stressed_alike : (file : Option (List ℕ)) (shape : Shape) (stages : ℕ) (m n : List (List ℕ)) (p q : Program) (a b : Answer) → IsAccepted file [] m p → AreOne m n p q
+      → IsStressed shape stages m p a → IsStressed shape stages n q b → AreAlike a b
+  stressed_alike file shape stages m n p q a b x d f g =
+      let P : List (List ℕ) → List (Name × Kind) → Tree → Type 0 = λ ns ps t. HasCounts ns ps t g.counts in
+      let y = f.has in
+      let z : HasCounts m p.params (tree p.body) g.counts = back P m n p.params q.params (tree p.body) (tree q.body) d.names d.params d.body g.has in
+      let e : y.text ≡ z.text = one_text file m p y.text z.text x y.short z.short y.is z.is in
+      let tables : y.is.table ≡ z.is.table = ok_is y.is.table z.is.table (text_read m y.text) y.is.reads (ap (text_read m) e ∙ z.is.reads) in
+      alike a b (Stressed shape stages f.counts) (Stressed shape stages g.counts) f.answer_is (ap (Stressed shape stages) (y.counts_are ∙ ap counts_of tables ∙ sym z.counts_are)) g.answer_is
+
+  -- ---- a text that may be a normal one
+
+  checked_alike : (bytes : List ℕ) (a b : Answer) → IsChecked bytes a → IsChecked bytes b → AreAlike a b
+  checked_alike bytes a b (too_long_table l e) (too_long_table k h) = alike a b (TooLong First) (TooLong First) e refl h
+  checked_alike bytes a b (too_long_table l e) (faulty_table g k s h) = absurd (omega (arith, l, k))
+  checked_alike bytes a b (too_long_table l e) (normal_table u k s h) = absurd (omega (arith, l, k))
+  checked_alike bytes a b (faulty_table f l r e) (too_long_table k h) = absurd (omega (arith, l, k))
+  checked_alike bytes a b (faulty_table f l r e) (faulty_table g k s h) = alike a b (RefusedTable f) (RefusedTable g) e (ap RefusedTable (err_is f g (text_read [] bytes) r s)) h
+  checked_alike bytes a b (faulty_table f l r e) (normal_table u k s h) = absurd (not_both u f (text_read [] bytes) s r)
+  checked_alike bytes a b (normal_table t l r e) (too_long_table k h) = absurd (omega (arith, l, k))
+  checked_alike bytes a b (normal_table t l r e) (faulty_table g k s h) = absurd (not_both t g (text_read [] bytes) r s)
+  checked_alike bytes a b (normal_table t l r e) (normal_table u k s h) =
+      alike a b (Counted (length t.rows)) (Counted (length u.rows)) e (ap (λ (v : Parts). Counted (length v.rows)) (ok_is t u (text_read [] bytes) r s)) h
+
+  checks_alike : (file : Option (List ℕ)) (a b : Answer) → Checks file a → Checks file b → AreAlike a b
+  checks_alike file a b s t =
+      let P : List ℕ → Type 0 = λ bytes. IsChecked bytes b in
+      checked_alike s.bytes a b s.checked (subst P (same_bytes file t.bytes s.bytes t.there s.there) t.checked)
+
+  -- ---- a text that may be a behaviour
+
+  member_alike : (p q : Program) (c d : Behaviour) (x y : Bool) → p.params ≡ q.params → tree p.body ≡ tree q.body → c ≡ d
+      → IsTrue x ↔ IsMember p.params (tree p.body) c → IsTrue y ↔ IsMember q.params (tree q.body) d → x ≡ y
+  member_alike p q c d x y e f g h k =
+      let P : List (Name × Kind) → Tree → Behaviour → Type 0 = IsMember in
+      same_truth x y (λ t. k.1 (back P q.params p.params (tree q.body) (tree p.body) d c (sym e) (sym f) (sym g) (h.0 t)))
+      (λ t. h.1 (back P p.params q.params (tree p.body) (tree q.body) c d e f g (k.0 t)))
+
+  judged_alike : (bytes : List ℕ) (m n : List (List ℕ)) (p q : Program) (a b : Answer) → AreOne m n p q → IsJudged bytes m p a → IsJudged bytes n q b → AreAlike a b
+  judged_alike bytes m n p q a b d (too_long_claim l e) (too_long_claim k h) = alike a b (TooLong Second) (TooLong Second) e refl h
+  judged_alike bytes m n p q a b d (too_long_claim l e) (faulty_claim y k s h) = absurd (omega (arith, l, k))
+  judged_alike bytes m n p q a b d (too_long_claim l e) (judged_claim c is k s w h) = absurd (omega (arith, l, k))
+  judged_alike bytes m n p q a b d (faulty_claim x l r e) (too_long_claim k h) = absurd (omega (arith, l, k))
+  judged_alike bytes m n p q a b d (faulty_claim x l r e) (faulty_claim y k s h) =
+      alike a b (RefusedClaim x) (RefusedClaim y) e (ap RefusedClaim (err_is x y (claim_read m p.params bytes) r ((λ i. claim_read (d.names i) (d.params i) bytes) ∙ s))) h
+  judged_alike bytes m n p q a b d (faulty_claim x l r e) (judged_claim c is k s w h) = absurd (not_both c x (claim_read m p.params bytes) ((λ i. claim_read (d.names i) (d.params i) bytes) ∙ s) r)
+  judged_alike bytes m n p q a b d (judged_claim v is l r u e) (too_long_claim k h) = absurd (omega (arith, l, k))
+  judged_alike bytes m n p q a b d (judged_claim v is l r u e) (faulty_claim y k s h) = absurd (not_both v y (claim_read m p.params bytes) r ((λ i. claim_read (d.names i) (d.params i) bytes) ∙ s))
+  judged_alike bytes m n p q a b d (judged_claim v x l r u e) (judged_claim c y k s w h) =
+      let one : v ≡ c = ok_is v c (claim_read m p.params bytes) r ((λ i. claim_read (d.names i) (d.params i) bytes) ∙ s) in
+      alike a b (Member x) (Member y) e (ap Member (member_alike p q v c x y d.params d.body one u w)) h
+
+  judges_alike : (one two : Option (List ℕ)) (a b : Answer) → Judges one two a → Judges one two b → AreAlike a b
+  judges_alike one two a b s t =
+      let P : List ℕ → Type 0 = λ bytes. Takes First one [] (IsJudged bytes) b in
+      takes_alike First one [] (IsJudged s.bytes) (IsJudged s.bytes) a b (λ m n p q x d. judged_alike s.bytes m n p q a b d) s.judged
+      (subst P (same_bytes two t.bytes s.bytes t.there s.there) t.judged)
+
+  -- ---- command lines
+
+  abbrev Does : Files → Option Job → Answer → Type 0
+  Does files None a = a ≡ Usage
+  Does files (Some (same x y)) a = Settles (files x) (files y) a
+  Does files (Some (normalise x)) a = Normalises (files x) a
+  Does files (Some (normal x)) a = Checks (files x) a
+  Does files (Some (belongs x y)) a = Judges (files x) (files y) a
+  Does files (Some (stress shape stages)) a = Stresses shape stages a
+
+  does : (files : Files) (words : List (List ℕ)) (a : Answer) → IsAnswer files words a → Does files (job_of words) a
+  does files words a (usage none e) = let P : Option Job → Type 0 = λ j. Does files j a in subst P (sym none) e
+  does files words a (comparison x y is s) = let P : Option Job → Type 0 = λ j. Does files j a in subst P (sym is) s
+  does files words a (normalisation x is s) = let P : Option Job → Type 0 = λ j. Does files j a in subst P (sym is) s
+  does files words a (checking x is s) = let P : Option Job → Type 0 = λ j. Does files j a in subst P (sym is) s
+  does files words a (membership x y is s) = let P : Option Job → Type 0 = λ j. Does files j a in subst P (sym is) s
+  does files words a (stressing x n is s) = let P : Option Job → Type 0 = λ j. Does files j a in subst P (sym is) s
+
+  does_alike : (files : Files) (j : Option Job) (a b : Answer) → Does files j a → Does files j b → AreAlike a b
+  does_alike files None a b s t = alike a b Usage Usage s refl t
+  does_alike files (Some (same x y)) a b s t = settles_alike (files x) (files y) a b s t
+  does_alike files (Some (normalise x)) a b s t = takes_alike First (files x) [] IsNormalised IsNormalised a b (λ m n p q y d. normalised_alike (files x) m n p q a b y d) s t
+  does_alike files (Some (normal x)) a b s t = checks_alike (files x) a b s t
+  does_alike files (Some (belongs x y)) a b s t = judges_alike (files x) (files y) a b s t
+  does_alike files (Some (stress shape n)) a b s t =
+      takes_alike First (Some (program_text shape n)) [] (IsStressed shape n) (IsStressed shape n) a b (λ j k p q y d. stressed_alike (Some (program_text shape n)) shape n j k p q a b y d) s t
+
+  pub one_answer : (files : Files) (words : List (List ℕ)) (s t : ℕ) (a b : List ℕ) → Answers files words s a → Answers files words t b → (s ≡ t) × (a ≡ b)
+  one_answer files words s t a b x y =
+      let e = does_alike files (job_of words) x.answer y.answer (does files words x.answer x.is) (does files words y.answer y.is) in
+      (x.status_is ∙ e.status ∙ sym y.status_is, x.text_is ∙ e.text ∙ sym y.text_is)

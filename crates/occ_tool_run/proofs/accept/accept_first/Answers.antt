@@ -1,0 +1,5 @@
+use Rattle.occ_tool_run.proofs.Judging.{all_have_interface}
+use Rattle.occ_tool_run.proofs.accept.accept_first.Goals as goal
+
+pub returns-clause-interface : goal.returns-clause-interface
+returns-clause-interface c = all_have_interface c.parameters_have_names.ensures c.accept.result c.args.loaded.now c.args.names.now c.accept.new.names c.requires.empty c.accept.ensures.accepted

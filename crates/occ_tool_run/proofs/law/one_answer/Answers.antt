@@ -1,0 +1,18 @@
+use Rattle.occ_syntax.specs.View.{tree}
+use Rattle.occ_parse_reading.specs.declared.bound.Bound.TheVariants as bound
+use Rattle.std.proofs.Common.{[]}
+use Rattle.occ_tool_run.proofs.Judging.{no_name_twice}
+use Rattle.occ_tool_run.proofs.OneAnswer.{one_answer}
+use Rattle.occ_tool_run.proofs.law.one_answer.Goals as goal
+
+pub returns : goal.returns
+returns c = one_answer (record {
+  one_reading = λ text old m n p q ls ks r s.
+      let e = c.one_reading.ensures.program bound.Program text old m n p.name q.name p.params q.params (tree p.body) (tree q.body) ls ks r s in
+      record { names = e.table; params = e.params; body = e.body; numbers = e.numbers };
+  one_fault = λ text old f g r s. c.one_reading.ensures.fault bound.Program text old f g r s;
+  not_both = λ text old m p ls f r s. c.one_reading.ensures.apart bound.Program text old m p.name p.params (tree p.body) ls f r s;
+}) (record { one = c.one_verdict.ensures }) (record {
+  distinct = λ text new p ls r. (c.parameters_have_names.ensures text [] new p.name p.params (tree p.body) ls no_name_twice r).0;
+  one = c.normal_texts_tell_programs_apart.ensures;
+})

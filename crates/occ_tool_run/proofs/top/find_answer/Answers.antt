@@ -1,0 +1,24 @@
+use Rattle.std.proofs.Common.{◌∙◌, sym, ap}
+use Rattle.occ_tool_words.specs.Words.{job}
+use Rattle.occ_tool_run.proofs.Leaving.{asked_same, asked_normalise, asked_normal, asked_belongs, asked_stress}
+use Rattle.occ_tool_run.proofs.top.find_answer.Goals as goal
+
+pub returns-in-Same-clause-answer : goal.returns-in-Same-clause-answer
+returns-in-Same-clause-answer g c = asked_same _ _ c.in-Same.first.now c.in-Same.second.now c.compare_files.result
+    (sym (ap job c.in-Same.is) ∙ c.in_ok-command_in.ensures) c.compare_files.ensures.settles
+
+pub returns-in-Normalise-clause-answer : goal.returns-in-Normalise-clause-answer
+returns-in-Normalise-clause-answer g c = asked_normalise _ _ c.in-Normalise.program.now c.normalise_file.result
+    (sym (ap job c.in-Normalise.is) ∙ c.in_ok-command_in.ensures) c.normalise_file.ensures.normalises
+
+pub returns-in-Normal-clause-answer : goal.returns-in-Normal-clause-answer
+returns-in-Normal-clause-answer g c = asked_normal _ _ c.in-Normal.text.now c.check_file.result
+    (sym (ap job c.in-Normal.is) ∙ c.in_ok-command_in.ensures) c.check_file.ensures.checks
+
+pub returns-in-Belongs-clause-answer : goal.returns-in-Belongs-clause-answer
+returns-in-Belongs-clause-answer g c = asked_belongs _ _ c.in-Belongs.program.now c.in-Belongs.text.now c.belongs_file.result
+    (sym (ap job c.in-Belongs.is) ∙ c.in_ok-command_in.ensures) c.belongs_file.ensures.judges
+
+pub returns-in_ok-stress-in-Stress-clause-answer : goal.returns-in_ok-stress-in-Stress-clause-answer
+returns-in_ok-stress-in-Stress-clause-answer g c = asked_stress _ _ c.in-Stress.shape c.in-Stress.stages c.in_ok-stress-in-Stress.field-0
+    (sym (ap job c.in-Stress.is) ∙ c.in_ok-command_in.ensures) c.in_ok-stress-in-Stress.ensures.stresses

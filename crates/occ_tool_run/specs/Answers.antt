@@ -1,0 +1,123 @@
+-- Which answer a command line has over the files.
+use Rattle.std.specs.Prelude.{ℕ, ◌≡◌, ◌≤◌, ◌<◌, ◌↔◌, Bool, true, List, [], length, Option, None, Some, Result, Ok, Err, IsTrue, Vec}
+use Rattle.std.specs.declared.alloc.Global.{Global}
+use Rattle.occ_syntax.specs.declared.scope.Program.{Program}
+use Rattle.occ_syntax.specs.View.{tree}
+use Rattle.occ_parse_reading.specs.declared.fault.ParseFault.{ParseFault}
+use Rattle.occ_usage.specs.declared.fault.UsageFault.{UsageFault}
+use Rattle.occ_behaviour.specs.declared.behaviour.Behaviour.{Behaviour}
+use Rattle.occ_behaviour.specs.declared.behaviour.Side.{Side}
+use Rattle.occ_behaviour.specs.declared.behaviour.Side.TheVariants.{First, Second}
+use Rattle.occ_behaviour.specs.declared.behaviour.Verdict.{Verdict}
+use Rattle.occ_behaviour.specs.Members.{IsMember, IsRight}
+use Rattle.occ_verdict.specs.Verdict.{IsVerdictOf}
+use Rattle.occ_nform_table.specs.declared.table.TableFault.{TableFault}
+use Rattle.occ_nform_table.specs.Normal.{Parts, text_read}
+use Rattle.occ_behaviour_read.specs.Claims.{claim_read}
+use Rattle.occ_gen.specs.declared.shape.Shape.{Shape}
+use Rattle.occ_gen.specs.Programs.{program_text}
+use Rattle.occ_nform.specs.declared.figures.Counts.{Counts}
+use Rattle.occ_nform.specs.Written.{IsNormalText}
+use Rattle.occ_nform_program.specs.Counted.{HasCounts}
+use Rattle.occ_tool_words.specs.Words.{same, normalise, normal, belongs, stress, job_of}
+use Rattle.occ_tool_run.specs.declared.answer.Answer.{Answer}
+use Rattle.occ_tool_run.specs.declared.answer.Answer.TheVariants.{Usage, Refused, Unusable, TooLong, RefusedTable, RefusedClaim, InterfacesDiffer, Compared, Written, Counted, Member, Stressed}
+use Rattle.occ_tool_run.specs.Accepts.{IsAccepted, IsRefused, IsUnusable, IsThere}
+use Rattle.occ_tool_run.specs.Files.{Files, most_bytes, most_table_bytes}
+use Rattle.occ_tool_run.specs.Texts.{status_of, text_of}
+
+-- What the answer is where a file's text is read as a program, with these names so far: the text is refused, or its program
+-- breaks the rule of usage, or the program is accepted and the rest decides.
+pub data Takes (place : Side) (file : Option (List ℕ)) (old : List (List ℕ)) (rest : List (List ℕ) → Program → Answer → Type 0) (answer : Answer) : Type 0 where
+  refused : (fault : ParseFault) → IsRefused file old fault → answer ≡ Refused place fault → Takes place file old rest answer
+  unusable : (new : List (List ℕ)) (line : ℕ) (fault : UsageFault) → IsUnusable file old new line fault → answer ≡ Unusable new place line fault → Takes place file old rest answer
+  accepted : (new : List (List ℕ)) (program : Program) → IsAccepted file old new program → rest new program answer → Takes place file old rest answer
+
+-- ---- two programs
+
+-- Both programs have one interface, and the verdict on them is right: the one that they have.
+pub record IsVerdictOn (p q : Program) (verdict : Verdict) : Type 0 where
+  pub one_interface : p.params ≡ q.params
+  pub right : IsRight p.params (tree p.body) (tree q.body) verdict
+  pub first : IsVerdictOf p.params (tree p.body) (tree q.body) verdict
+
+-- the answer to two accepted programs
+pub data Compares (p : Program) (names : List (List ℕ)) (q : Program) (answer : Answer) : Type 0 where
+  apart : (p.params ≡ q.params → ⊥) → answer ≡ InterfacesDiffer → Compares p names q answer
+  compared : (verdict : Verdict) → IsVerdictOn p q verdict → answer ≡ Compared names verdict → Compares p names q answer
+
+-- The answer to two files whose programs are to be compared. Both are there, and the first is judged first.
+pub record Settles (one two : Option (List ℕ)) (answer : Answer) : Type 0 where
+  pub there : IsThere two
+  pub judged : Takes First one [] (λ names p. Takes Second two names (Compares p)) answer
+
+-- ---- the normal text of a program
+
+-- the answer is the normal text of the accepted program
+pub record IsNormalised (names : List (List ℕ)) (p : Program) (answer : Answer) : Type 0 where
+  pub text : Vec ℕ Global
+  pub is : IsNormalText names p.params (tree p.body) text.items
+  pub answer_is : answer ≡ Written text
+
+-- the answer to a file whose program's normal text is asked for
+abbrev pub Normalises : Option (List ℕ) → Answer → Type 0
+Normalises file answer = Takes First file [] IsNormalised answer
+
+-- ---- a normal text
+
+-- The answer to the bytes of a file that is to be a normal text. It is read with an empty table of names.
+pub data IsChecked (bytes : List ℕ) (answer : Answer) : Type 0 where
+  too_long_table : most_table_bytes < length bytes → answer ≡ TooLong First → IsChecked bytes answer
+  faulty_table : (fault : TableFault) → length bytes ≤ most_table_bytes → text_read [] bytes ≡ Err fault → answer ≡ RefusedTable fault → IsChecked bytes answer
+  normal_table : (t : Parts) → length bytes ≤ most_table_bytes → text_read [] bytes ≡ Ok t → answer ≡ Counted (length t.rows) → IsChecked bytes answer
+
+pub record Checks (file : Option (List ℕ)) (answer : Answer) : Type 0 where
+  pub bytes : List ℕ
+  pub there : file ≡ Some bytes
+  pub checked : IsChecked bytes answer
+
+-- ---- a program and a behaviour
+
+-- the answer to an accepted program and the bytes of a file that is to be a behaviour
+pub data IsJudged (bytes : List ℕ) (names : List (List ℕ)) (p : Program) (answer : Answer) : Type 0 where
+  too_long_claim : most_bytes < length bytes → answer ≡ TooLong Second → IsJudged bytes names p answer
+  faulty_claim : (line : ℕ) → length bytes ≤ most_bytes → claim_read names p.params bytes ≡ Err line → answer ≡ RefusedClaim line → IsJudged bytes names p answer
+  judged_claim : (b : Behaviour) (is : Bool) → length bytes ≤ most_bytes → claim_read names p.params bytes ≡ Ok b → IsTrue is ↔ IsMember p.params (tree p.body) b
+      → answer ≡ Member is → IsJudged bytes names p answer
+
+-- The answer to two files: of a program, and of a behaviour that may be one of the program's. Both are there, and the
+-- program is judged first.
+pub record Judges (one two : Option (List ℕ)) (answer : Answer) : Type 0 where
+  pub bytes : List ℕ
+  pub there : two ≡ Some bytes
+  pub judged : Takes First one [] (IsJudged bytes) answer
+
+-- ---- a generated program
+
+-- the answer tells the figures of the normal text of the accepted program
+pub record IsStressed (shape : Shape) (stages : ℕ) (names : List (List ℕ)) (p : Program) (answer : Answer) : Type 0 where
+  pub counts : Counts
+  pub has : HasCounts names p.params (tree p.body) counts
+  pub answer_is : answer ≡ Stressed shape stages counts
+
+-- The answer to the order to measure a generated program: its text goes through all rules, as the text of a file.
+abbrev pub Stresses : Shape → ℕ → Answer → Type 0
+Stresses shape stages answer = Takes First (Some (program_text shape stages)) [] (IsStressed shape stages) answer
+
+-- ---- command lines
+
+-- What the words ask for has this answer, or they don't fit.
+pub data IsAnswer (files : Files) (words : List (List ℕ)) (answer : Answer) : Type 0 where
+  usage : job_of words ≡ None → answer ≡ Usage → IsAnswer files words answer
+  comparison : (first second : List ℕ) → job_of words ≡ Some (same first second) → Settles (files first) (files second) answer → IsAnswer files words answer
+  normalisation : (program : List ℕ) → job_of words ≡ Some (normalise program) → Normalises (files program) answer → IsAnswer files words answer
+  checking : (text : List ℕ) → job_of words ≡ Some (normal text) → Checks (files text) answer → IsAnswer files words answer
+  membership : (program text : List ℕ) → job_of words ≡ Some (belongs program text) → Judges (files program) (files text) answer → IsAnswer files words answer
+  stressing : (shape : Shape) (stages : ℕ) → job_of words ≡ Some (stress shape stages) → Stresses shape stages answer → IsAnswer files words answer
+
+-- The words and the files have an answer with this status and this text.
+pub record Answers (files : Files) (words : List (List ℕ)) (status : ℕ) (text : List ℕ) : Type 0 where
+  pub answer : Answer
+  pub is : IsAnswer files words answer
+  pub status_is : status ≡ status_of answer
+  pub text_is : text ≡ text_of answer

@@ -1,0 +1,189 @@
+-- The status and the text of each answer.
+use Rattle.std.specs.Prelude.{ℕ, ◌≢◌, ◌<◌, Bool, true, false, List, [], ◌++◌, codes, decimal, length, slice_index_or}
+use Rattle.occ_base.specs.declared.event.Dir.{Dir}
+use Rattle.occ_base.specs.declared.event.Dir.TheVariants.{Input, Output}
+use Rattle.occ_usage.specs.declared.fault.UsageFault.{UsageFault}
+use Rattle.occ_usage.specs.declared.fault.UsageFault.TheVariants as shared
+use Rattle.occ_lex.specs.declared.fault.LineFault.{LineFault}
+use Rattle.occ_lex.specs.declared.fault.LineFault.TheVariants.{Tab, OddIndent, Char, Number, Name}
+use Rattle.occ_parse_reading.specs.declared.fault.Which.{Which}
+use Rattle.occ_parse_reading.specs.declared.fault.Which.TheVariants.{Bytes, Levels, Tokens, Parameters, Count, Controls, InterfaceBits, ScopeBits}
+use Rattle.occ_parse_reading.specs.declared.fault.ParseFault.{ParseFault}
+use Rattle.occ_parse_reading.specs.declared.fault.ParseFault.TheVariants.{Line, Form, Undeclared, Redeclared, Index, TypeClash, NoType, Direction, Limit, Memory}
+use Rattle.occ_behaviour.specs.declared.behaviour.Side.{Side}
+use Rattle.occ_behaviour.specs.declared.behaviour.Side.TheVariants.{First, Second}
+use Rattle.occ_behaviour.specs.declared.behaviour.Verdict.{Verdict}
+use Rattle.occ_behaviour.specs.declared.behaviour.Verdict.TheVariants.{Same, Differ}
+use Rattle.occ_behaviour.specs.Members.{VerdictIsNamed}
+use Rattle.occ_behaviour.specs.Texts.{text_of_verdict}
+use Rattle.occ_nform_table.specs.declared.table.TableFault.{TableFault}
+use Rattle.occ_nform_table.specs.declared.table.TableFault.TheVariants as table
+use Rattle.occ_gen.specs.declared.shape.Shape.{Shape}
+use Rattle.occ_gen.specs.declared.shape.Shape.TheVariants.{Buffers, Adders, Muxes}
+use Rattle.occ_nform.specs.declared.figures.Counts.{Counts}
+use Rattle.occ_tool_run.specs.declared.answer.Answer.{Answer}
+use Rattle.occ_tool_run.specs.declared.answer.Answer.TheVariants.{Usage, Refused, Unusable, TooLong, RefusedTable, RefusedClaim, InterfacesDiffer, Compared, Written, Counted, Member, Stressed}
+
+abbrev pub status_of_verdict : Verdict → ℕ
+status_of_verdict Same = 0
+status_of_verdict (Differ behaviour only) = 1
+
+abbrev pub status_of_member : Bool → ℕ
+status_of_member true = 0
+status_of_member false = 1
+
+abbrev pub status_of : Answer → ℕ
+status_of Usage = 2
+status_of (Refused place fault) = 3
+status_of (Unusable names place line fault) = 3
+status_of (TooLong place) = 3
+status_of (RefusedTable fault) = 3
+status_of (RefusedClaim line) = 3
+status_of InterfacesDiffer = 7
+status_of (Compared names verdict) = status_of_verdict verdict
+status_of (Written text) = 0
+status_of (Counted rows) = 0
+status_of (Member is) = status_of_member is
+status_of (Stressed shape stages counts) = 0
+
+abbrev pub place_text : Side → List ℕ
+place_text First = codes "FIRST"
+place_text Second = codes "SECOND"
+
+abbrev pub line_fault_text : LineFault → List ℕ
+line_fault_text Tab = codes "Line Tab"
+line_fault_text OddIndent = codes "Line OddIndent"
+line_fault_text Char = codes "Line Char"
+line_fault_text Number = codes "Line Number"
+line_fault_text Name = codes "Line Name"
+
+abbrev pub limit_text : Which → List ℕ
+limit_text Bytes = codes "Limit Bytes"
+limit_text Levels = codes "Limit Levels"
+limit_text Tokens = codes "Limit Tokens"
+limit_text Parameters = codes "Limit Parameters"
+limit_text Count = codes "Limit Count"
+limit_text Controls = codes "Limit Controls"
+limit_text InterfaceBits = codes "Limit InterfaceBits"
+limit_text ScopeBits = codes "Limit ScopeBits"
+
+-- the line on which a text is refused
+abbrev pub line_of : ParseFault → ℕ
+line_of (Line line fault) = line
+line_of (Form line) = line
+line_of (Undeclared line) = line
+line_of (Redeclared line) = line
+line_of (Index line) = line
+line_of (TypeClash line) = line
+line_of (NoType line) = line
+line_of (Direction line) = line
+line_of (Limit which line) = line
+line_of Memory = 0
+
+-- the words for a fault
+abbrev pub fault_words : ParseFault → List ℕ
+fault_words (Line line fault) = line_fault_text fault
+fault_words (Form line) = codes "Form"
+fault_words (Undeclared line) = codes "Undeclared"
+fault_words (Redeclared line) = codes "Redeclared"
+fault_words (Index line) = codes "Index"
+fault_words (TypeClash line) = codes "TypeClash"
+fault_words (NoType line) = codes "NoType"
+fault_words (Direction line) = codes "Direction"
+fault_words (Limit which line) = limit_text which
+fault_words Memory = []
+
+-- the place of the text and the line, in front of the words for the fault
+abbrev pub refused_at_text : Side → ℕ → List ℕ
+refused_at_text place line = codes "REFUSED " ++ place_text place ++ codes " " ++ decimal line ++ codes " "
+
+-- the place of the text, the line and the words for the fault
+abbrev pub refusal_text : Side → ℕ → List ℕ → List ℕ
+refusal_text place line words = codes "REFUSED " ++ place_text place ++ codes " " ++ decimal line ++ codes " " ++ words ++ codes "\n"
+
+-- ---- what the parts of a PAR share
+
+abbrev pub mark_text : Dir → List ℕ
+mark_text Input = codes " ?"
+mark_text Output = codes " !"
+
+-- the words for a fault of usage: the name, and the mark of the end
+abbrev pub words_of_usage : List (List ℕ) → UsageFault → List ℕ
+words_of_usage names (shared.SharedVariable node name) = codes "SharedVariable " ++ slice_index_or names name.0 []
+words_of_usage names (shared.SharedEnd node name dir) = codes "SharedEnd " ++ slice_index_or names name.0 [] ++ mark_text dir
+words_of_usage names shared.Memory = []
+
+-- the fault names what has a text, and isn't want of memory
+abbrev pub FaultIsNamed : List (List ℕ) → UsageFault → Type 0
+FaultIsNamed names (shared.SharedVariable node name) = name.0 < length names
+FaultIsNamed names (shared.SharedEnd node name dir) = name.0 < length names
+FaultIsNamed names shared.Memory = ⊥
+
+-- ---- a text that isn't a normal one
+
+-- the row and the words for a fault of it
+abbrev pub row_refusal_text : ℕ → List ℕ → List ℕ
+row_refusal_text row words = codes "REFUSED FIRST ROW " ++ decimal row ++ codes " " ++ words ++ codes "\n"
+
+abbrev pub table_refusal_text : TableFault → List ℕ
+table_refusal_text (table.Form line) = refusal_text First line (codes "Form")
+table_refusal_text (table.Order line) = refusal_text First line (codes "Order")
+table_refusal_text (table.NotLeast line) = refusal_text First line (codes "NotLeast")
+table_refusal_text (table.Empty row) = row_refusal_text row (codes "Empty")
+table_refusal_text (table.Unreached row) = row_refusal_text row (codes "Unreached")
+table_refusal_text table.Memory = []
+
+-- ---- the answers that aren't refusals
+
+abbrev pub member_text : Bool → List ℕ
+member_text true = codes "YES\n"
+member_text false = codes "NO\n"
+
+abbrev pub shape_text : Shape → List ℕ
+shape_text Buffers = codes "buffers"
+shape_text Adders = codes "adders"
+shape_text Muxes = codes "muxes"
+
+-- a line with a figure
+abbrev pub figure_text : List ℕ → ℕ → List ℕ
+figure_text word figure = word ++ codes " " ++ decimal figure ++ codes "\n"
+
+-- the figures of a normal text, a line each
+abbrev pub counts_text : Counts → List ℕ
+counts_text counts = figure_text (codes "ROWS") counts.rows ++ figure_text (codes "OFFERS") counts.offers
+    ++ figure_text (codes "HEIGHT") counts.height ++ figure_text (codes "STATES") counts.states
+
+abbrev pub stress_text : Shape → ℕ → List ℕ
+stress_text shape stages = codes "STRESS " ++ figure_text (shape_text shape) stages
+
+abbrev pub usage_text : List ℕ
+usage_text = codes "USAGE same A B, normalise A, normal T, belongs A T, transform A T, expand A PATH, replay T, stress KIND N, refine A B, deadlock A, run A T, derive A\n"
+
+abbrev pub text_of : Answer → List ℕ
+text_of Usage = usage_text
+text_of (Refused place fault) = refusal_text place (line_of fault) (fault_words fault)
+text_of (Unusable names place line fault) = refusal_text place line (words_of_usage names fault)
+text_of (TooLong place) = refusal_text place 1 (codes "Limit Bytes")
+text_of (RefusedTable fault) = table_refusal_text fault
+text_of (RefusedClaim line) = refusal_text Second line (codes "Form")
+text_of InterfacesDiffer = codes "INTERFACES DIFFER\n"
+text_of (Compared names verdict) = text_of_verdict names verdict
+text_of (Written text) = text.items
+text_of (Counted rows) = figure_text (codes "NORMAL") rows
+text_of (Member is) = member_text is
+text_of (Stressed shape stages counts) = stress_text shape stages ++ counts_text counts
+
+-- a refusal isn't want of memory, and the names that it or a verdict mentions have texts
+abbrev pub IsPrintable : Answer → Type 0
+IsPrintable Usage = Unit {0}
+IsPrintable (Refused place fault) = fault ≢ Memory
+IsPrintable (Unusable names place line fault) = FaultIsNamed names fault
+IsPrintable (TooLong place) = Unit {0}
+IsPrintable (RefusedTable fault) = fault ≢ table.Memory
+IsPrintable (RefusedClaim line) = Unit {0}
+IsPrintable InterfacesDiffer = Unit {0}
+IsPrintable (Compared names verdict) = VerdictIsNamed names verdict
+IsPrintable (Written text) = Unit {0}
+IsPrintable (Counted rows) = Unit {0}
+IsPrintable (Member is) = Unit {0}
+IsPrintable (Stressed shape stages counts) = Unit {0}

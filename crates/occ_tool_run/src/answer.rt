@@ -1,0 +1,184 @@
+ghost use Rattle.std.specs.Prelude.{◌≡◌, ◌++◌, codes, IfOk, OnOk};
+ghost use Rattle.occ_tool_run.specs.Texts.{status_of, text_of, figure_text, counts_text, member_text, shape_text, stress_text, IsPrintable};
+
+use crate::refusal::{claim_refusal, refusal, table_refusal, too_long, usage_refusal};
+use itoa::Buffer;
+use occ_base::{Memory, Names};
+use occ_behaviour::{Side, Verdict, verdict_text};
+use occ_gen::Shape;
+use occ_nform::Counts;
+use occ_nform_table::TableFault;
+use occ_parse_reading::ParseFault;
+use occ_usage::UsageFault;
+use std::alloc::Global;
+
+/// What a command line is answered with, where all files could be read and memory was found.
+#[derive(Drop)]
+pub enum Answer {
+    /// The words don't fit.
+    Usage,
+    /// The text of a program is refused, the first that is. The fault is no want of memory.
+    Refused {
+        place: Side,
+        fault: ParseFault,
+    },
+    /// A text reads as a program in which the parts of a PAR share what they may not, the first text that is refused.
+    /// The PAR stands on the line. The names are those of the texts so far, and the fault is no want of memory.
+    Unusable {
+        names: Names,
+        place: Side,
+        line: u32,
+        fault: UsageFault,
+    },
+    /// A text that is no program has more bytes than a text of its kind may have.
+    TooLong {
+        place: Side,
+    },
+    /// The first text isn't a normal one. The fault is no want of memory.
+    RefusedTable {
+        fault: TableFault,
+    },
+    /// The second text is no behaviour of the program's interface, by this line.
+    RefusedClaim {
+        line: u32,
+    },
+    /// Both programs are accepted, and their interfaces differ.
+    InterfacesDiffer,
+    /// Both programs are accepted and have one interface. The names are those of both.
+    Compared {
+        names: Names,
+        verdict: Verdict,
+    },
+    /// The normal text of the program.
+    Written {
+        text: Vec<u8>,
+    },
+    /// The text is a normal one, with so many rows.
+    Counted {
+        rows: u64,
+    },
+    /// Whether the behaviour is one of the program's.
+    Member {
+        is: bool,
+    },
+    /// The figures of the normal text of a generated program.
+    Stressed {
+        shape: Shape,
+        stages: u64,
+        counts: Counts,
+    },
+}
+
+/// The status of an answer.
+pub fn status(answer: &Answer) -> u8
+    ensures { result ≡ status_of answer.now }
+{
+    match answer {
+        Answer::Usage => 2,
+        Answer::Refused { .. } | Answer::Unusable { .. } | Answer::TooLong { .. } => 3,
+        Answer::RefusedTable { .. } | Answer::RefusedClaim { .. } => 3,
+        Answer::InterfacesDiffer => 7,
+        Answer::Compared { verdict, .. } => match verdict {
+            Verdict::Same => 0,
+            Verdict::Differ { .. } => 1,
+        },
+        Answer::Written { .. } | Answer::Counted { .. } | Answer::Stressed { .. } => 0,
+        Answer::Member { is } => { if *is { 0 } else { 1 } }
+    }
+}
+
+/// The whole text of an answer.
+pub fn text(alloc: Global, answer: Answer) -> Result<Vec<u8>, Memory>
+    requires { IsPrintable answer }
+    ensures { IfOk result (λ text. text.items ≡ text_of answer) }
+{
+    match answer {
+        Answer::Usage => Ok(Vec::from_slice(
+            alloc,
+            b"USAGE same A B, normalise A, normal T, belongs A T, transform A T, expand A PATH, replay T, stress KIND N, refine A B, deadlock A, run A T, derive A\n",
+        )?),
+        Answer::Refused { place, fault } => refusal(alloc, place, fault),
+        Answer::Unusable {
+            names,
+            place,
+            line,
+            fault,
+        } => usage_refusal(alloc, &names, place, line, fault),
+        Answer::TooLong { place } => too_long(alloc, place),
+        Answer::RefusedTable { fault } => table_refusal(alloc, fault),
+        Answer::RefusedClaim { line } => claim_refusal(alloc, line),
+        Answer::InterfacesDiffer => Ok(Vec::from_slice(alloc, b"INTERFACES DIFFER\n")?),
+        Answer::Compared { names, verdict } => verdict_text(alloc, &names, &verdict),
+        Answer::Written { text } => Ok(text),
+        Answer::Counted { rows } => figure(alloc, b"NORMAL", rows),
+        Answer::Member { is } => Ok(Vec::from_slice(alloc, member_words(is))?),
+        Answer::Stressed {
+            shape,
+            stages,
+            counts,
+        } => stress_figures(alloc, shape, stages, counts),
+    }
+}
+
+/// Adds a line with a figure.
+fn push_figure(text: &mut Vec<u8>, word: &[u8], figure: u64) -> Result<(), Memory>
+    ensures { OnOk result (text.new.items ≡ text.old.items ++ figure_text word.now figure) }
+{
+    let mut buffer = Buffer::new();
+    text.extend_from_slice(word)?;
+    text.extend_from_slice(b" ")?;
+    text.extend_from_slice(buffer.format(figure).as_bytes())?;
+    text.extend_from_slice(b"\n")?;
+    Ok(())
+}
+
+/// A line with a figure.
+fn figure(alloc: Global, word: &[u8], figure: u64) -> Result<Vec<u8>, Memory>
+    ensures { IfOk result (λ text. text.items ≡ figure_text word.now figure) }
+{
+    let mut text = Vec::new(alloc);
+    push_figure(&mut text, word, figure)?;
+    Ok(text)
+}
+
+fn member_words(is: bool) -> &'static [u8]
+    ensures { result.now ≡ member_text is }
+{
+    if is { b"YES\n" } else { b"NO\n" }
+}
+
+fn shape_word(shape: Shape) -> &'static [u8]
+    ensures { result.now ≡ shape_text shape }
+{
+    match shape {
+        Shape::Buffers => b"buffers",
+        Shape::Adders => b"adders",
+        Shape::Muxes => b"muxes",
+    }
+}
+
+/// The lines about a generated program.
+fn stress_figures(
+    alloc: Global,
+    shape: Shape,
+    stages: u64,
+    counts: Counts,
+) -> Result<Vec<u8>, Memory>
+    ensures { IfOk result (λ text. text.items ≡ stress_text shape stages ++ counts_text counts) }
+{
+    let mut text = Vec::from_slice(alloc, b"STRESS ")?;
+    push_figure(&mut text, shape_word(shape), stages)?;
+    push_counts(&mut text, counts)?;
+    Ok(text)
+}
+
+/// Adds the figures of a normal text, a line each.
+fn push_counts(text: &mut Vec<u8>, counts: Counts) -> Result<(), Memory>
+    ensures { OnOk result (text.new.items ≡ text.old.items ++ counts_text counts) }
+{
+    push_figure(text, b"ROWS", counts.rows)?;
+    push_figure(text, b"OFFERS", counts.offers)?;
+    push_figure(text, b"HEIGHT", counts.height)?;
+    push_figure(text, b"STATES", counts.states)?;
+    Ok(())
+}

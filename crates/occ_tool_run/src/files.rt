@@ -1,0 +1,92 @@
+ghost use Rattle.std.specs.Prelude.{◌≡◌, ◌≢◌, ◌<◌, ◌∷◌, [], IfOk, IfSome};
+ghost use Rattle.occ_tool_run.specs.Files.{AsksFor, CountsStop};
+ghost use Rattle.occ_tool_run.specs.Texts.{IsPrintable};
+ghost use Rattle.occ_tool_run.specs.Answers.{Checks, Judges, Normalises, Settles};
+
+use crate::answer::Answer;
+use crate::judge::judge;
+use crate::load::{Stop, load_both, load_table, load_text};
+use crate::member::belongs;
+use crate::normal::{check, normalise};
+use occ_desk::Desk;
+use std::alloc::Global;
+
+/// The answer to two files whose programs are to be compared.
+pub fn compare_files<D: Desk>(
+    alloc: Global,
+    first: &str,
+    second: &str,
+    desk: &mut D,
+) -> Result<Answer, Stop>
+    requires reads_countable { D.read_faults desk.old < u64.MAX }
+    requires writes_countable { D.write_faults desk.old < u64.MAX }
+    ensures settles { IfOk result (λ answer. IfSome (D.files desk.old) (λ files.
+        Settles (files first.now) (files second.now) answer)) }
+    ensures printable { IfOk result IsPrintable }
+    ensures usage { IfOk result (λ answer. answer ≢ Answer.Usage) }
+    ensures asked { AsksFor (D.asked desk.old) (D.asked desk.new) (first.now ∷ second.now ∷ []) result }
+    ensures read_faults { CountsStop (D.read_faults desk.old) (D.read_faults desk.new) result }
+    ensures files { D.files desk.new ≡ D.files desk.old }
+    ensures written { D.written desk.new ≡ D.written desk.old }
+    ensures write_faults { D.write_faults desk.new ≡ D.write_faults desk.old }
+{
+    let (one, two) = load_both(alloc, desk, first, second)?;
+    Ok(judge(alloc, &one, &two)?)
+}
+
+/// The answer to a file whose program's normal text is asked for.
+pub fn normalise_file<D: Desk>(alloc: Global, program: &str, desk: &mut D) -> Result<Answer, Stop>
+    requires reads_countable { D.read_faults desk.old < u64.MAX }
+    requires writes_countable { D.write_faults desk.old < u64.MAX }
+    ensures normalises { IfOk result (λ answer. IfSome (D.files desk.old) (λ files. Normalises (files program.now) answer)) }
+    ensures printable { IfOk result IsPrintable }
+    ensures usage { IfOk result (λ answer. answer ≢ Answer.Usage) }
+    ensures asked { AsksFor (D.asked desk.old) (D.asked desk.new) (program.now ∷ []) result }
+    ensures read_faults { CountsStop (D.read_faults desk.old) (D.read_faults desk.new) result }
+    ensures files { D.files desk.new ≡ D.files desk.old }
+    ensures written { D.written desk.new ≡ D.written desk.old }
+    ensures write_faults { D.write_faults desk.new ≡ D.write_faults desk.old }
+{
+    let loaded = load_text(alloc, desk, program)?;
+    Ok(normalise(alloc, &loaded)?)
+}
+
+/// The answer to a file that is to be a normal text.
+pub fn check_file<D: Desk>(alloc: Global, text: &str, desk: &mut D) -> Result<Answer, Stop>
+    requires reads_countable { D.read_faults desk.old < u64.MAX }
+    requires writes_countable { D.write_faults desk.old < u64.MAX }
+    ensures checks { IfOk result (λ answer. IfSome (D.files desk.old) (λ files. Checks (files text.now) answer)) }
+    ensures printable { IfOk result IsPrintable }
+    ensures usage { IfOk result (λ answer. answer ≢ Answer.Usage) }
+    ensures asked { AsksFor (D.asked desk.old) (D.asked desk.new) (text.now ∷ []) result }
+    ensures read_faults { CountsStop (D.read_faults desk.old) (D.read_faults desk.new) result }
+    ensures files { D.files desk.new ≡ D.files desk.old }
+    ensures written { D.written desk.new ≡ D.written desk.old }
+    ensures write_faults { D.write_faults desk.new ≡ D.write_faults desk.old }
+{
+    let loaded = load_table(alloc, desk, text)?;
+    Ok(check(alloc, &loaded)?)
+}
+
+/// The answer to two files: of a program, and of a behaviour that may be one of the program's.
+pub fn belongs_file<D: Desk>(
+    alloc: Global,
+    program: &str,
+    text: &str,
+    desk: &mut D,
+) -> Result<Answer, Stop>
+    requires reads_countable { D.read_faults desk.old < u64.MAX }
+    requires writes_countable { D.write_faults desk.old < u64.MAX }
+    ensures judges { IfOk result (λ answer. IfSome (D.files desk.old) (λ files.
+        Judges (files program.now) (files text.now) answer)) }
+    ensures printable { IfOk result IsPrintable }
+    ensures usage { IfOk result (λ answer. answer ≢ Answer.Usage) }
+    ensures asked { AsksFor (D.asked desk.old) (D.asked desk.new) (program.now ∷ text.now ∷ []) result }
+    ensures read_faults { CountsStop (D.read_faults desk.old) (D.read_faults desk.new) result }
+    ensures files { D.files desk.new ≡ D.files desk.old }
+    ensures written { D.written desk.new ≡ D.written desk.old }
+    ensures write_faults { D.write_faults desk.new ≡ D.write_faults desk.old }
+{
+    let (one, two) = load_both(alloc, desk, program, text)?;
+    Ok(belongs(alloc, &one, &two)?)
+}

@@ -1,0 +1,93 @@
+-- What the words of a command line ask for.
+use Rattle.std.specs.Prelude.{ℕ, ◌+◌, ◌-◌, ◌*◌, ◌==◌, nat_le, Bool, false, not, ◌&&◌, List, [], ◌∷◌, Option, Some, None, option_map, option_and_then, codes, if◌then◌else◌}
+use Rattle.std.specs.Str.{bytes_eq}
+use Rattle.occ_gen.specs.declared.shape.Shape.{Shape}
+use Rattle.occ_gen.specs.declared.shape.Shape.TheVariants.{Buffers, Adders, Muxes}
+use Rattle.occ_tool_words.specs.declared.words.Command.{Command}
+use Rattle.occ_tool_words.specs.declared.words.Command.TheVariants.{Usage, Same, Normalise, Normal, Belongs, Stress}
+
+-- a command with its words: those that name files as they stand, the kind of a chain, and how many stages it has
+pub data Job : Type 0 where
+  same : List ℕ → List ℕ → Job
+  normalise : List ℕ → Job
+  normal : List ℕ → Job
+  belongs : List ℕ → List ℕ → Job
+  stress : Shape → ℕ → Job
+
+abbrev pub job : Command → Option Job
+job Usage = None
+job (Same first second) = Some (same first.now second.now)
+job (Normalise program) = Some (normalise program.now)
+job (Normal text) = Some (normal text.now)
+job (Belongs program text) = Some (belongs program.now text.now)
+job (Stress shape stages) = Some (stress shape stages)
+
+-- the word isn't empty and doesn't begin with a hyphen
+abbrev pub is_plain : List ℕ → Bool
+is_plain [] = false
+is_plain (first ∷ rest) = not (first == 45)
+
+-- the kind of chain that a word names
+abbrev pub shape_of : List ℕ → Option Shape
+shape_of word =
+    if bytes_eq word (codes "buffers") then Some Buffers
+    else (if bytes_eq word (codes "adders") then Some Adders
+    else (if bytes_eq word (codes "muxes") then Some Muxes else None))
+
+-- what a decimal digit stands for
+abbrev pub digit_of : ℕ → Option ℕ
+digit_of code = if nat_le 48 code && nat_le code 57 then Some (code - 48) else None
+
+abbrev pub in_range : ℕ → Option ℕ
+in_range n = if nat_le 1 n && nat_le n 48 then Some n else None
+
+abbrev pub two_digits : ℕ → ℕ → Option ℕ
+two_digits tens ones = option_and_then (λ t. option_and_then (λ o. in_range (10 * t + o)) (digit_of ones)) (digit_of tens)
+
+-- the number of stages that a word says: a decimal numeral from 1 to 48, without a sign or a leading zero
+abbrev pub stages_of : List ℕ → Option ℕ
+stages_of [] = None
+stages_of (ones ∷ []) = option_and_then in_range (digit_of ones)
+stages_of (tens ∷ ones ∷ []) = if tens == 48 then None else two_digits tens ones
+stages_of (first ∷ second ∷ third ∷ rest) = None
+
+abbrev pub stress_of : List ℕ → List ℕ → Option Job
+stress_of kind stages = option_and_then (λ shape. option_map (stress shape) (stages_of stages)) (shape_of kind)
+
+-- a command that one word follows
+abbrev pub with_one : List ℕ → List ℕ → Option Job
+with_one command first =
+    if bytes_eq command (codes "normalise") then Some (normalise first)
+    else (if bytes_eq command (codes "normal") then Some (normal first) else None)
+
+-- a command that two words follow
+abbrev pub with_two : List ℕ → List ℕ → List ℕ → Option Job
+with_two command first second =
+    if bytes_eq command (codes "same") then Some (same first second)
+    else (if bytes_eq command (codes "belongs") then Some (belongs first second)
+    else (if bytes_eq command (codes "stress") then stress_of first second else None))
+
+-- The words fit where the second, after the program's own name, is a command, exactly that command's words follow, and
+-- no word after the first is empty or begins with a hyphen.
+abbrev pub job_of : List (List ℕ) → Option Job
+job_of [] = None
+job_of (name ∷ []) = None
+job_of (name ∷ command ∷ []) = None
+job_of (name ∷ command ∷ first ∷ []) = if is_plain first then with_one command first else None
+job_of (name ∷ command ∷ first ∷ second ∷ []) = if is_plain first && is_plain second then with_two command first second else None
+job_of (name ∷ command ∷ first ∷ second ∷ third ∷ rest) = None
+
+-- the words of a command that name files, in order
+abbrev pub files_of : Job → List (List ℕ)
+files_of (same first second) = first ∷ second ∷ []
+files_of (normalise program) = program ∷ []
+files_of (normal text) = text ∷ []
+files_of (belongs program text) = program ∷ text ∷ []
+files_of (stress shape stages) = []
+
+abbrev pub file_words_of : Option Job → List (List ℕ)
+file_words_of None = []
+file_words_of (Some job) = files_of job
+
+abbrev pub file_words : List (List ℕ) → List (List ℕ)
+file_words words = file_words_of (job_of words)

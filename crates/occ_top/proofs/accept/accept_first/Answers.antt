@@ -1,5 +1,0 @@
-use Rattle.occ_top.proofs.Judging.{all_have_interface}
-use Rattle.occ_top.proofs.accept.accept_first.Goals as goal
-
-pub returns-clause-interface : goal.returns-clause-interface
-returns-clause-interface c = all_have_interface c.parameters_have_names.ensures c.accept.result c.args.loaded.now c.args.names.now c.accept.new.names c.requires.empty c.accept.ensures.accepted

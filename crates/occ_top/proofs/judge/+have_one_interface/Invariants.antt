@@ -1,5 +1,0 @@
-use Rattle.std.proofs.Common.{length}
-use Rattle.occ_top.proofs.judge.+have_one_interface.Given as goal
-
-abbrev pub decreases-have_one_interface : goal.decreases-have_one_interface
-decreases-have_one_interface l = length l.left.now

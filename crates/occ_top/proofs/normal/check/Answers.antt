@@ -1,5 +1,0 @@
-use Rattle.occ_top.proofs.Members.{check_bytes}
-use Rattle.occ_top.proofs.normal.check.Goals as goal
-
-pub returns-in-Bytes-clause-checks : goal.returns-in-Bytes-clause-checks
-returns-in-Bytes-clause-checks c = check_bytes c.check_bytes.result c.args.text.now c.in-Bytes.bytes _ c.in-Bytes.is c.as_slice.ensures.value c.check_bytes.ensures.checked

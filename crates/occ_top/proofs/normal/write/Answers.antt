@@ -1,5 +1,0 @@
-use Rattle.std.proofs.Common.{refl}
-use Rattle.occ_top.proofs.normal.write.Goals as goal
-
-pub returns-clause-normalised : goal.returns-clause-normalised
-returns-clause-normalised c = record { text = c.in_ok-text.text; is = c.in_ok-text.ensures; answer_is = refl }

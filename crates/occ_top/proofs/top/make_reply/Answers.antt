@@ -1,8 +1,0 @@
-use Rattle.occ_top.proofs.Leaving.{err_is, answers_with, memory_asked}
-use Rattle.occ_top.proofs.top.make_reply.Goals as goal
-
-pub returns-in_err-text-clause-asked : goal.returns-in_err-text-clause-asked
-returns-in_err-text-clause-asked g c = memory_asked _ _ _ c.from_residual-in_err-text.result (err_is _ _ c.from_residual-in_err-text.ensures.1) c.in_ok-answer.ensures.asked
-
-pub returns-clause-answers : goal.returns-clause-answers
-returns-clause-answers g c = answers_with _ _ c.in_ok-answer.answer _ _ c.in_ok-answer.ensures.answer c.status.ensures c.in_ok-text.ensures

@@ -1,6 +1,0 @@
-use Rattle.occ_form.specs.Shape.{said}
-use Rattle.occ_types.proofs.Weights.{weight}
-use Rattle.occ_types.proofs.expression.+clashes.Given as goal
-
-abbrev pub decreases-clashes : goal.decreases-clashes
-decreases-clashes l = weight (said l.phrase.now)

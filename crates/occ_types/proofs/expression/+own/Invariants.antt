@@ -1,6 +1,0 @@
-use Rattle.occ_form.specs.Shape.{said}
-use Rattle.occ_types.proofs.Weights.{weight}
-use Rattle.occ_types.proofs.expression.+own.Given as goal
-
-abbrev pub decreases-own : goal.decreases-own
-decreases-own l = weight (said l.phrase.now)

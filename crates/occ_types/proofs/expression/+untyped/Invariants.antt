@@ -1,6 +1,0 @@
-use Rattle.occ_form.specs.Shape.{said}
-use Rattle.occ_types.proofs.Weights.{weight}
-use Rattle.occ_types.proofs.expression.+untyped.Given as goal
-
-abbrev pub decreases-untyped : goal.decreases-untyped
-decreases-untyped l = weight (said l.phrase.now)

@@ -1,4 +1,0 @@
-use Rattle.occ_writes.proofs.writes.+substituted.Given as goal
-
-abbrev pub decreases-substituted : goal.decreases-substituted
-decreases-substituted l = l.left
