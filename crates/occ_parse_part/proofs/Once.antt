@@ -1,8 +1,7 @@
 -- Lines have one reading as a part, since a line has one form and lines are those of one forest.
-use Rattle.std.proofs.Common.{◌≡◌, ℕ, false, List, [], ◌∷◌, Option, Some, None, refl, sym, ap, ◌∙◌}
+use Rattle.std.proofs.Common.{◌≡◌, ℕ, false, List, Option, Some, None, sym, ap, ◌∙◌}
 use Rattle.std.specs.Prelude.{is_some}
 use Rattle.occ_lex.specs.declared.token.Line.{Line}
-use Rattle.occ_lex_symbols.specs.declared.symbol.Row.{Row}
 use Rattle.occ_lex_symbols.specs.Symbols.{rows_of}
 use Rattle.occ_parse_rules.specs.Forest.{Forest, Laid}
 use Rattle.occ_parse_layout.specs.declared.placed.Frame.TheVariants as frame
@@ -12,38 +11,13 @@ use Rattle.occ_parse_reading.specs.declared.bound.Bound.TheVariants as bound
 use Rattle.occ_parse_reading.specs.declared.fault.ParseFault.{ParseFault}
 use Rattle.occ_parse_reading.specs.declared.fault.ParseFault.TheVariants as fault
 use Rattle.occ_parse_reading.specs.Limits.{stopped}
-use Rattle.occ_parse_reading.specs.Reading.{IsSaid, AreForms}
-use Rattle.occ_parse_reading.proofs.Once.{OneForm}
+use Rattle.occ_parse_reading.proofs.Once.{OneForm, some_one, none_some, forms_once}
 use Rattle.occ_parse_part.specs.Parts.{AreJudged, IsIllLaid, badly, behind, IsPart, IsNoPart}
 
-some_one : {A : Type 0} (x y : A) (o p : Option A) → o ≡ Some x → p ≡ Some y → o ≡ p → x ≡ y
-some_one x y o p a b e = let h : Some x ≡ Some y = sym a ∙ e ∙ b in cc
-
-none_some : {A : Type 0} (x : A) (o p : Option A) → o ≡ None → p ≡ Some x → o ≡ p → ⊥
-none_some x o p a b e = let h : None ≡ Some x = sym a ∙ e ∙ b in absurd cc
-
 module _ (one : OneForm) where
-  said_once : (row : Row) (l m : Laid) → IsSaid row l → IsSaid row m → l ≡ m
-  said_once row l m a b =
-      let numbers : l.number ≡ m.number = sym a.number ∙ b.number in
-      let levels : l.level ≡ m.level = sym a.level ∙ b.level in
-      let shapes : l.shape ≡ m.shape = one row.symbols l.shape m.shape a.form b.form in
-      λ i. record { number = numbers i; level = levels i; shape = shapes i }
-
-  forms_once : (rows : List Row) (ls ms : List Laid) → AreForms rows ls → AreForms rows ms → ls ≡ ms
-  forms_once [] [] [] a b = refl
-  forms_once [] [] (m ∷ ms) a b = absurd b
-  forms_once [] (l ∷ ls) ms a b = absurd a
-  forms_once (row ∷ rows) [] ms a b = absurd a
-  forms_once (row ∷ rows) (l ∷ ls) [] a b = absurd b
-  forms_once (row ∷ rows) (l ∷ ls) (m ∷ ms) a b =
-      let first : l ≡ m = said_once row l m a.0 b.0 in
-      let rest : ls ≡ ms = forms_once rows ls ms a.1 b.1 in
-      λ i. first i ∷ rest i
-
   module _ (text : List ℕ) (old : List (List ℕ)) (lines : List Line) where
     laid_once : (ls ms : List Laid) (s t : Option ParseFault) → AreJudged text old lines ls s → AreJudged text old lines ms t → ls ≡ ms
-    laid_once ls ms s t x y = forms_once (stopped bound.Script (rows_of text old lines) None).0 ls ms x.forms y.forms
+    laid_once ls ms s t x y = forms_once one (stopped bound.Script (rows_of text old lines) None).0 ls ms x.forms y.forms
 
     stop_once : (ls ms : List Laid) (s t : Option ParseFault) → AreJudged text old lines ls s → AreJudged text old lines ms t → s ≡ t
     stop_once ls ms s t x y = sym x.stop_is ∙ y.stop_is

@@ -27,21 +27,25 @@ use Rattle.occ_parse_reading.specs.Reading.{IsSaid, AreForms, AreJudged, IsLaidO
 abbrev pub OneForm : Type 0
 OneForm = (symbols : List Symbol) (s t : Shape) → IsForm symbols s → IsForm symbols t → s ≡ t
 
-some_one : {A : Type 0} (x y : A) (o p : Option A) → o ≡ Some x → p ≡ Some y → o ≡ p → x ≡ y
+-- equal options have equal values
+pub some_one : {A : Type 0} (x y : A) (o p : Option A) → o ≡ Some x → p ≡ Some y → o ≡ p → x ≡ y
 some_one x y o p a b e = let h : Some x ≡ Some y = sym a ∙ e ∙ b in cc
 
-none_some : {A : Type 0} (x : A) (o p : Option A) → o ≡ None → p ≡ Some x → o ≡ p → ⊥
+-- an option is not both
+pub none_some : {A : Type 0} (x : A) (o p : Option A) → o ≡ None → p ≡ Some x → o ≡ p → ⊥
 none_some x o p a b e = let h : None ≡ Some x = sym a ∙ e ∙ b in absurd cc
 
 module _ (one : OneForm) where
-  said_once : (row : Row) (l m : Laid) → IsSaid row l → IsSaid row m → l ≡ m
+  -- a row says one thing
+  pub said_once : (row : Row) (l m : Laid) → IsSaid row l → IsSaid row m → l ≡ m
   said_once row l m a b =
       let numbers : l.number ≡ m.number = sym a.number ∙ b.number in
       let levels : l.level ≡ m.level = sym a.level ∙ b.level in
       let shapes : l.shape ≡ m.shape = one row.symbols l.shape m.shape a.form b.form in
       λ i. record { number = numbers i; level = levels i; shape = shapes i }
 
-  forms_once : (rows : List Row) (ls ms : List Laid) → AreForms rows ls → AreForms rows ms → ls ≡ ms
+  -- rows say one list of things
+  pub forms_once : (rows : List Row) (ls ms : List Laid) → AreForms rows ls → AreForms rows ms → ls ≡ ms
   forms_once [] [] [] a b = refl
   forms_once [] [] (m ∷ ms) a b = absurd b
   forms_once [] (l ∷ ls) ms a b = absurd a
