@@ -1,0 +1,3 @@
+pub mod AtGuards
+pub mod AtState
+pub mod Covering
