@@ -1,0 +1,4 @@
+pub mod Expanding
+pub mod Meetings
+pub mod Parts
+pub mod Sound
