@@ -1,0 +1,15 @@
+//! The laws of scripts are sound: where one holds between two parts, these mean the same.
+#![tactic(auto)]
+
+ghost use Rattle.occ_base.specs.declared.names.Name.{Name};
+ghost use Rattle.occ_law_rules.specs.Table.{LAW};
+ghost use Rattle.occ_syntax.specs.Same.{SAME};
+ghost use Rattle.occ_syntax.specs.Scopes.{environment};
+ghost use Rattle.occ_syntax.specs.Tree.{Tree};
+ghost use Rattle.occ_syntax.specs.declared.scope.Kind.{Kind};
+ghost use Rattle.std.specs.Prelude.{List, ℕ};
+
+/// Where a law holds between two parts in a scope, they are the same there.
+pub fn laws_are_sound()
+    ensures { (n : ℕ) (S : List (Name × Kind)) (l r : Tree) → LAW n S l r → SAME (environment S) l r }
+{}
