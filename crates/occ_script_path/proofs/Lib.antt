@@ -1,0 +1,4 @@
+pub mod Numerals
+pub mod Pieces
+pub mod Children
+pub mod Scoping

@@ -1,0 +1,65 @@
+-- The pieces of a text between its slashes.
+use Rattle.std.proofs.Common.{◌≡◌, ℕ, zero, suc, ◌+◌, ◌-◌, ◌<◌, ◌≤◌, Bool, true, false, not, eqb, cond, List, [], ◌∷◌, ◌++◌, length, take, drop, Option, Some, None, refl, sym, ap, ◌∙◌, arith, append_assoc, ⊎_elim}
+use Rattle.std.specs.Prelude.{option_map}
+use Rattle.std.specs.Borrow.{Bor}
+use Rattle.std.specs.List.{onto_first, position_or_len, slice_split}
+use Rattle.std.proofs.lemmas.Bool.{cases_Bool}
+use Rattle.std.proofs.lemmas.List.Splits.{slice_split-cons_no, slice_split_first}
+use Rattle.occ_script_path.specs.Texts.{and_place, is_byte, place_of, places_of}
+
+-- a text without such a byte is one piece
+pub piece_whole : (byte : ℕ) (text : List ℕ) → length text ≤ position_or_len (is_byte byte) text → slice_split (is_byte byte) text ≡ text ∷ []
+piece_whole byte [] h = refl
+piece_whole byte (b ∷ text) h = at (piece_whole byte text) (is_byte byte b) refl h
+  where
+    at : (length text ≤ position_or_len (is_byte byte) text → slice_split (is_byte byte) text ≡ text ∷ []) → (s : Bool) → is_byte byte b ≡ s
+        → length (b ∷ text) ≤ cond (not s) (1 + position_or_len (is_byte byte) text) 0 → slice_split (is_byte byte) (b ∷ text) ≡ (b ∷ text) ∷ []
+    at later true e h = absurd (omega (arith, h))
+    at later false e h = slice_split-cons_no (is_byte byte) b text e ∙ ap (onto_first b) (later (omega (arith, h)))
+
+-- else the first piece ends at the first such byte
+pub piece_front : (byte : ℕ) (text : List ℕ) → position_or_len (is_byte byte) text < length text
+    → slice_split (is_byte byte) text ≡ take (position_or_len (is_byte byte) text) text ∷ slice_split (is_byte byte) (drop (position_or_len (is_byte byte) text + 1) text)
+piece_front byte text h = slice_split_first (is_byte byte) text 0 h
+
+-- ---- the numbers so far, in front of those of what is left
+
+abbrev pub behind : List ℕ → Option (List ℕ) → Option (List ℕ)
+behind ns places = option_map (λ ms. ns ++ ms) places
+
+behind_nil : (places : Option (List ℕ)) → behind [] places ≡ places
+behind_nil None = refl
+behind_nil (Some ns) = refl
+
+behind_more : (ns : List ℕ) (n : ℕ) (places : Option (List ℕ)) → behind (ns ++ n ∷ []) places ≡ behind ns (and_place (Some n) places)
+behind_more ns n None = refl
+behind_more ns n (Some ms) = ap Some (append_assoc ns (n ∷ []) ms)
+
+-- no number is read yet
+pub places_none : (ns : List ℕ) (places : Option (List ℕ)) → ns ≡ [] → behind ns places ≡ places
+places_none ns places e = ap (λ m. behind m places) e ∙ behind_nil places
+
+-- one number more
+pub places_more : (ns ms : List ℕ) (n : ℕ) (piece : List ℕ) (all pieces : List (List ℕ)) (whole : Option (List ℕ)) → all ≡ piece ∷ pieces → Some n ≡ place_of piece → ms ≡ ns ++ n ∷ []
+    → behind ns (places_of all) ≡ whole → behind ms (places_of pieces) ≡ whole
+places_more ns ms n piece all pieces whole e f g h =
+    ap (λ m. behind m (places_of pieces)) g ∙ behind_more ns n (places_of pieces) ∙ ap (λ p. behind ns (and_place p (places_of pieces))) f ∙ ap (λ a. behind ns (places_of a)) (sym e) ∙ h
+
+-- a piece that writes no number
+pub places_stop : (ns piece : List ℕ) (all pieces : List (List ℕ)) (whole : Option (List ℕ)) → all ≡ piece ∷ pieces → None ≡ place_of piece
+    → behind ns (places_of all) ≡ whole → None ≡ whole
+places_stop ns piece all pieces whole e f h =
+    ap (λ p. behind ns (and_place p (places_of pieces))) f ∙ ap (λ a. behind ns (places_of a)) (sym e) ∙ h
+
+-- no piece is left
+pub places_all : (ns : List ℕ) (whole : Option (List ℕ)) → behind ns (places_of []) ≡ whole → Some ns ≡ whole
+places_all ns whole h = ap Some (sym (nil_behind ns)) ∙ h
+  where
+    nil_behind : (ns : List ℕ) → ns ++ [] ≡ ns
+    nil_behind [] = refl
+    nil_behind (n ∷ ns) = ap (λ m. n ∷ m) (nil_behind ns)
+
+-- how much text is left
+abbrev pub left : Option (Bor (List ℕ)) → ℕ
+left None = 0
+left (Some text) = length text.now + 1

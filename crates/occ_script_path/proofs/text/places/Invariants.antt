@@ -1,0 +1,14 @@
+use Rattle.std.proofs.Common.{◌≡◌, ◌+◌, length, Option, Some, None, ℕ}
+use Rattle.std.specs.List.{slice_split}
+use Rattle.std.specs.Borrow.{Bor}
+use Rattle.occ_script_path.specs.Places.{pieces_behind}
+use Rattle.occ_script_path.specs.Texts.{is_slash, places_of}
+use Rattle.occ_script_path.proofs.Pieces.{behind, left}
+use Rattle.occ_script_path.proofs.text.places.Given as goal
+
+-- the numbers so far, and those of what is left, are those of all
+abbrev pub invariant-loop-rest : goal.invariant-loop-rest
+invariant-loop-rest l = behind l.path (places_of (pieces_behind 47 l.rest)) ≡ places_of (slice_split is_slash l.fn.text)
+
+abbrev pub decreases-loop-rest : goal.decreases-loop-rest
+decreases-loop-rest l = left l.rest
