@@ -4,10 +4,11 @@ use Rattle.std.specs.Option.{option_map, unwrap_or}
 use Rattle.std.proofs.lemmas.Bool.{and_parts, and_from, eqb-true, eqb-false}
 use Rattle.occ_base.specs.declared.names.Name.{Name}
 use Rattle.occ_base.specs.declared.width.Width.{Width}
-use Rattle.occ_meaning.specs.Context.{child, environment_at, environment_below}
-use Rattle.occ_meaning.proofs.Contexts.{child_types}
+use Rattle.occ_meaning.specs.Context.{child, environment_at, environment_below, part_at, put}
+use Rattle.occ_meaning.proofs.Contexts.{child_types, put_same}
 use Rattle.occ_syntax.specs.declared.scope.Kind.{Kind}
 use Rattle.occ_syntax.specs.declared.scope.Kind.TheVariants.{Chan, Var}
+use Rattle.occ_syntax.specs.Same.{SAME}
 use Rattle.occ_syntax.specs.Scopes.{Environment, environment, with_name}
 use Rattle.occ_syntax.specs.Tree.{Tree, skip, stop, assign, receive, send, seq, par, select, alt, declare, connect}
 use Rattle.occ_syntax.specs.Types.{can_declare, is_width, scope_kept, types_kept, width_of_kind}
@@ -93,3 +94,9 @@ scopes (i ∷ path) S p h t =
     at b further (Some q) e =
         let r = further q (ap (types_kept q) b.gives ∙ child_types (environment S) p t i q e) in
         (r.gives ∙ ap (λ Γ. environment_at path Γ q) b.gives, r.kept)
+
+-- a part that is the same in the scope at its path may be put in there
+pub put_in_same : (path : List ℕ) (S : List (Name × Kind)) (p q r : Tree) → scope_kept S ≡ true → types_kept p (environment S) ≡ true → part_at path p ≡ Some q
+    → SAME (environment (scope_list path S p)) q r → SAME (environment S) p (put path p r)
+put_in_same path S p q r h t there same =
+    put_same path (environment S) p q r t there (subst (λ Γ. SAME Γ q r) (scopes path S p h t).gives same)

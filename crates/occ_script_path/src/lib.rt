@@ -9,7 +9,7 @@ mod part;
 mod tests;
 mod text;
 
-pub use laws::scopes_at_paths;
+pub use laws::{same_parts_make_same_programs, scopes_at_paths};
 pub use part::{at, scope_at};
 pub use text::{cut, path};
 
