@@ -1,38 +1,36 @@
 -- Two ALTs side by side are the ALT of all that they can do first.
 use Rattle.occ_base.specs.Event.{counterpart}
 use Rattle.occ_base.specs.Width.{bits_of}
-use Rattle.occ_base.specs.declared.event.Dir.{Dir}
 use Rattle.occ_base.specs.declared.event.Dir.TheVariants.{Input, Output}
 use Rattle.occ_base.specs.declared.event.Event.{Event}
 use Rattle.occ_base.specs.declared.width.Width.{Width}
-use Rattle.occ_law_par_sound.proofs.Meetings.{Each, Joined, Meets, among_first, among_meetings, among_second, each_first, each_meetings, each_second, gets_puts, puts_gets}
+use Rattle.occ_law_par_sound.proofs.Meetings.{Meets, among_first, among_meetings, among_second, each_first, each_meetings, each_second, gets_puts, puts_gets}
 use Rattle.occ_law_par_sound.proofs.Parts.{two_kept}
 use Rattle.occ_law_rules.specs.Lists.{all_branches}
 use Rattle.occ_law_rules.specs.Parallel.{ParExpand, both_go, expanded, first_goes, meetings, par_expand, second_goes}
-use Rattle.occ_meaning.proofs.Facts.{and_four, and_three, at_itself, clash, dir_itself, false_not_true, if_false, if_true, or_four, or_three, value_off}
+use Rattle.occ_meaning.proofs.Facts.{and_four, at_itself, clash, false_not_true, if_true, or_four}
 use Rattle.occ_meaning.proofs.Frame.{KeepsValue, part_value}
 use Rattle.occ_meaning.proofs.Free.{not_written}
 use Rattle.occ_meaning.proofs.Members.{Among, first_branch, goes_in, goes_out, later_branch, refuses_in, refuses_out}
 use Rattle.occ_meaning.proofs.Moved.{MovedSecond, second_moved, second_moved_back}
 use Rattle.occ_meaning.proofs.Named.{and_condition}
 use Rattle.occ_meaning.proofs.OffValues.{Ignores, part_ignores, value_again, value_back}
-use Rattle.occ_meaning.proofs.Typing.{eval_below, input_types, output_types}
+use Rattle.occ_meaning.proofs.Typing.{eval_below, output_types}
 use Rattle.occ_meaning.specs.Foundation.{with_result}
-use Rattle.occ_meaning.specs.Parallel.{one, two}
-use Rattle.occ_meaning_at.proofs.AtState.{AlikeAt, assigned_then, same_at}
+use Rattle.occ_meaning.specs.Parallel.{two}
+use Rattle.occ_meaning_at.proofs.AtState.{assigned_then, same_at}
 use Rattle.occ_meaning_at.proofs.Covering.{Covers, CoversEach, alt_covered, covers_all, part_left, part_refused, part_right, refused_all}
 use Rattle.occ_syntax.specs.Eval.{eval, is_true}
-use Rattle.occ_syntax.specs.Meaning.{After, Alternates, Combines, IsQuiet, Meaning, Outcome, Taken, Together, Weave, answered, assigned, at_event, at_ready, beside, both_done, both_ended, ended, first_ended, guards, join, meaning, neither_ended, of_first, of_second, refused_with, refusing, second_ended, stable, taken, together, unseen}
-use Rattle.occ_syntax.specs.Names.{free, free_in_branches, free_in_waiting, is_in, names, written, written_in_branches, written_in_waiting}
+use Rattle.occ_syntax.specs.Meaning.{After, Alternates, Combines, IsQuiet, Meaning, Outcome, Taken, Together, Weave, answered, at_event, at_ready, beside, both_done, both_ended, ended, first_ended, guards, join, meaning, neither_ended, of_first, of_second, refused_with, refusing, second_ended, stable, taken, together, unseen}
+use Rattle.occ_syntax.specs.Names.{free, free_in_branches, free_in_waiting, names, written, written_in_branches, written_in_waiting}
 use Rattle.occ_syntax.specs.Same.{SAME}
 use Rattle.occ_syntax.specs.Scopes.{Environment, EventSet, IsState, Trace, Values, channel_width, has_width, in_scope, same_dir, with_value}
 use Rattle.occ_syntax.specs.Tree.{Branches, Exp, Tree, Waiting, alt, and_branch, input, no_branch, operation, output, par, ready}
 use Rattle.occ_syntax.specs.Types.{branches_kept, is_condition, types_kept, waiting_kept}
-use Rattle.occ_syntax.specs.Usage.{IsSeparate, Keeps}
+use Rattle.occ_syntax.specs.Usage.{Keeps}
 use Rattle.occ_syntax.specs.declared.expr.Op.TheVariants.{And}
-use Rattle.std.proofs.Common.{Bool, List, Option, [], ap, false, if◌then◌else◌, inl, inr, not, refl, subst, sym, true, ℕ, ◌&&◌, ◌==◌, ◌^◌, ◌∙◌, ◌∷◌, ◌≡◌, ◌⊎◌, ◌||◌}
+use Rattle.std.proofs.Common.{Bool, List, Option, [], ap, false, if◌then◌else◌, inl, inr, not, refl, subst, sym, true, ℕ, ◌&&◌, ◌==◌, ◌^◌, ◌∙◌, ◌∷◌, ◌≡◌, ◌||◌}
 use Rattle.std.proofs.lemmas.Bool.{and_from, and_parts, cases_Bool, eqb-true, lt-ltb, or_cases, or_from, or_left, or_parts, or_right}
-use Rattle.std.proofs.lemmas.Bool.Decides.{eqb_tells}
 use mathlib.Core.Path.{fun_ext}
 
 -- ---- the first part of a PAR moved to other values

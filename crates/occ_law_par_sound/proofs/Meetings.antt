@@ -1,13 +1,12 @@
 -- Which branches the expansion of two ALTs has.
 use Rattle.occ_law_rules.specs.Parallel.{both_go, first_goes, meeting, meetings, meetings_of, second_goes}
-use Rattle.occ_meaning.proofs.Facts.{at_itself, if_true}
+use Rattle.occ_meaning.proofs.Facts.{at_itself}
 use Rattle.occ_meaning.proofs.Members.{Among, first_branch, later_branch}
 use Rattle.occ_meaning.specs.Parallel.{two}
 use Rattle.occ_syntax.specs.Tree.{Branches, Exp, Tree, Waiting, and_branch, input, no_branch, operation, output, par, ready}
 use Rattle.occ_syntax.specs.declared.expr.Op.TheVariants.{And}
-use Rattle.std.proofs.Common.{Bool, false, if◌then◌else◌, inl, inr, refl, subst, sym, true, ℕ, ◌==◌, ◌≡◌}
+use Rattle.std.proofs.Common.{Bool, false, if◌then◌else◌, refl, subst, true, ℕ, ◌==◌, ◌≡◌}
 use Rattle.std.proofs.lemmas.Bool.{eqb-true}
-use Rattle.std.proofs.lemmas.Bool.Decides.{eqb_tells}
 
 -- two guards that communicate: what one outputs, the other inputs into x
 pub data Meets : Waiting → Waiting → ℕ → Exp → Type 0 where

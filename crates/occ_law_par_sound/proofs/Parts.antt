@@ -8,16 +8,15 @@ use Rattle.occ_meaning.proofs.Beside.{done, gives_itself, same_by}
 use Rattle.occ_meaning.proofs.Parts.{each_written_apart, par_flat, par_reordered, par_skip, par_stop}
 use Rattle.occ_meaning.specs.Parallel.{one, two}
 use Rattle.occ_meaning_at.proofs.AtState.{AlikeAt, alike_through, alike_turned, chosen_cases, chosen_false, chosen_true, same_at}
-use Rattle.occ_syntax.specs.Eval.{is_true}
 use Rattle.occ_syntax.specs.Meaning.{Meaning, Outcome, Together, beside, chosen, first_choice, meaning, together}
 use Rattle.occ_syntax.specs.Names.{free, is_in, written_in_some}
 use Rattle.occ_syntax.specs.Same.{SAME}
 use Rattle.occ_syntax.specs.Scopes.{Environment, Trace, Values, environment}
-use Rattle.occ_syntax.specs.Tree.{Cases, Exp, Tree, Trees, and_case, and_tree, assign, no_case, no_tree, par, select, seq, skip}
+use Rattle.occ_syntax.specs.Tree.{Cases, Tree, and_case, and_tree, assign, no_case, no_tree, par, select, seq, skip}
 use Rattle.occ_syntax.specs.Types.{types_kept}
 use Rattle.occ_syntax.specs.Usage.{IsSeparate, Keeps}
 use Rattle.occ_syntax.specs.declared.scope.Kind.{Kind}
-use Rattle.std.proofs.Common.{List, [], ap, false, sym, true, ℕ, ◌&&◌, ◌∙◌, ◌∷◌, ◌≡◌, ◌||◌}
+use Rattle.std.proofs.Common.{List, ap, false, sym, true, ℕ, ◌&&◌, ◌∙◌, ◌≡◌, ◌||◌}
 use Rattle.std.proofs.lemmas.Bool.{and_parts, or_left, or_parts}
 
 pub none_sound : (Γ : Environment) (ks : List ℕ) (l r : Tree) → ParNone ks l r → SAME Γ l r

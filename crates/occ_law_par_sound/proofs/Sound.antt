@@ -9,7 +9,7 @@ use Rattle.occ_syntax.specs.Scopes.{Environment, environment}
 use Rattle.occ_syntax.specs.Tree.{Tree}
 use Rattle.occ_syntax.specs.Usage.{Keeps}
 use Rattle.occ_syntax.specs.declared.scope.Kind.{Kind}
-use Rattle.std.proofs.Common.{List, ℕ, ◌==◌, ◌≡◌}
+use Rattle.std.proofs.Common.{List, ℕ, ◌==◌}
 
 pub parallel_sound : (n : ℕ) (S : List (Name × Kind)) (ks : List ℕ) (l r : Tree) → Keeps (environment S) l → ParallelSides n S ks l r
     → SAME (environment S) l r
