@@ -1,8 +1,7 @@
 -- The parts of a process by the lists that code sees.
-use Rattle.std.proofs.Common.{◌≡◌, ℕ, zero, suc, ◌+◌, ◌<◌, ◌≤◌, List, [], ◌∷◌, ◌++◌, length, get_or, drop, Option, Some, None, false, refl, sym, ap, subst, ◌∙◌, arith}
-use Rattle.std.specs.Prelude.{option_map, slice_get, IsSome}
+use Rattle.std.proofs.Common.{◌≡◌, ℕ, zero, suc, ◌+◌, ◌<◌, ◌≤◌, List, [], ◌∷◌, ◌++◌, length, get_or, Option, Some, None, false, refl, sym, ap, ◌∙◌}
+use Rattle.std.specs.Prelude.{option_map, slice_get}
 use Rattle.std.specs.Option.{option_and_then, unwrap_or}
-use Rattle.std.specs.Borrow.{Bor}
 use Rattle.std.proofs.lemmas.Option.{slice_get_past, slice_get_read}
 use Rattle.occ_base.specs.declared.names.Name.{Name}
 use Rattle.occ_meaning.specs.Context.{branch_at, case_at, child, part_at, tree_at}
@@ -16,7 +15,7 @@ use Rattle.occ_syntax.specs.declared.scope.Kind.TheVariants.{Chan, Var}
 use Rattle.occ_syntax.specs.Declarations.{declaring, is_declaration}
 use Rattle.occ_syntax.specs.Tree.{Tree, skip, stop, assign, receive, send, seq, par, select, alt, declare, connect}
 use Rattle.occ_syntax.specs.View.{branches, cases, tree, trees}
-use Rattle.occ_script_path.specs.Places.{IsFound, declared_by, scope_list}
+use Rattle.occ_script_path.specs.Places.{declared_by, scope_list}
 
 -- the part of a SEQ or PAR at a place
 pub tree_at-trees : (ps : List Proc) (i : ℕ) → tree_at (trees ps) i ≡ option_map tree (slice_get ps i)
@@ -61,10 +60,6 @@ branch_past bs i past = branch_at-branches bs i ∙ ap (option_map (λ b. tree b
 -- a part is there, and the path goes on from it
 pub down : (place : ℕ) (path : List ℕ) (p q : Tree) (whole : Option Tree) → child p place ≡ Some q → part_at (place ∷ path) p ≡ whole → part_at path q ≡ whole
 down place path p q whole e h = sym (ap (option_and_then (part_at path)) e) ∙ h
-
--- no part is there
-pub no_way : (place : ℕ) (path : List ℕ) (p : Tree) (whole : Option Tree) → child p place ≡ None → part_at (place ∷ path) p ≡ whole → whole ≡ None
-no_way place path p whole e h = sym h ∙ ap (option_and_then (part_at path)) e
 
 -- the scope one step down
 pub scope_down : (place : ℕ) (path : List ℕ) (S T whole : List (Name × Kind)) (p q : Tree) → child p place ≡ Some q → T ≡ S ++ declared_by p → scope_list (place ∷ path) S p ≡ whole → scope_list path T q ≡ whole

@@ -1,11 +1,10 @@
 -- The pieces of a text between its slashes.
-use Rattle.std.proofs.Common.{◌≡◌, ℕ, zero, suc, ◌+◌, ◌-◌, ◌<◌, ◌≤◌, Bool, true, false, not, eqb, cond, List, [], ◌∷◌, ◌++◌, length, take, drop, Option, Some, None, refl, sym, ap, ◌∙◌, arith, append_assoc, ⊎_elim}
+use Rattle.std.proofs.Common.{◌≡◌, ℕ, ◌+◌, ◌-◌, ◌<◌, ◌≤◌, Bool, true, false, not, cond, List, [], ◌∷◌, ◌++◌, length, take, drop, Option, Some, None, refl, sym, ap, ◌∙◌, arith}
 use Rattle.std.specs.Prelude.{option_map}
 use Rattle.std.specs.Borrow.{Bor}
 use Rattle.std.specs.List.{onto_first, position_or_len, slice_split}
-use Rattle.std.proofs.lemmas.Bool.{cases_Bool}
 use Rattle.std.proofs.lemmas.List.Splits.{slice_split-cons_no, slice_split_first}
-use Rattle.occ_script_path.specs.Texts.{and_place, is_byte, place_of, places_of}
+use Rattle.occ_script_path.specs.Texts.{is_byte, places_of}
 
 -- a text without such a byte is one piece
 pub piece_whole : (byte : ℕ) (text : List ℕ) → length text ≤ position_or_len (is_byte byte) text → slice_split (is_byte byte) text ≡ text ∷ []
@@ -31,25 +30,9 @@ behind_nil : (places : Option (List ℕ)) → behind [] places ≡ places
 behind_nil None = refl
 behind_nil (Some ns) = refl
 
-behind_more : (ns : List ℕ) (n : ℕ) (places : Option (List ℕ)) → behind (ns ++ n ∷ []) places ≡ behind ns (and_place (Some n) places)
-behind_more ns n None = refl
-behind_more ns n (Some ms) = ap Some (append_assoc ns (n ∷ []) ms)
-
 -- no number is read yet
 pub places_none : (ns : List ℕ) (places : Option (List ℕ)) → ns ≡ [] → behind ns places ≡ places
 places_none ns places e = ap (λ m. behind m places) e ∙ behind_nil places
-
--- one number more
-pub places_more : (ns ms : List ℕ) (n : ℕ) (piece : List ℕ) (all pieces : List (List ℕ)) (whole : Option (List ℕ)) → all ≡ piece ∷ pieces → Some n ≡ place_of piece → ms ≡ ns ++ n ∷ []
-    → behind ns (places_of all) ≡ whole → behind ms (places_of pieces) ≡ whole
-places_more ns ms n piece all pieces whole e f g h =
-    ap (λ m. behind m (places_of pieces)) g ∙ behind_more ns n (places_of pieces) ∙ ap (λ p. behind ns (and_place p (places_of pieces))) f ∙ ap (λ a. behind ns (places_of a)) (sym e) ∙ h
-
--- a piece that writes no number
-pub places_stop : (ns piece : List ℕ) (all pieces : List (List ℕ)) (whole : Option (List ℕ)) → all ≡ piece ∷ pieces → None ≡ place_of piece
-    → behind ns (places_of all) ≡ whole → None ≡ whole
-places_stop ns piece all pieces whole e f h =
-    ap (λ p. behind ns (and_place p (places_of pieces))) f ∙ ap (λ a. behind ns (places_of a)) (sym e) ∙ h
 
 -- no piece is left
 pub places_all : (ns : List ℕ) (whole : Option (List ℕ)) → behind ns (places_of []) ≡ whole → Some ns ≡ whole
