@@ -73,7 +73,7 @@ fn push_last(text: &mut Vec<u8>, names: &Names, last: &Last) -> Result<(), Memor
 }
 
 /// Adds a state: its values in brackets, with one space between.
-fn push_state(text: &mut Vec<u8>, state: &[(Name, u8)]) -> Result<(), Memory>
+pub fn push_state(text: &mut Vec<u8>, state: &[(Name, u8)]) -> Result<(), Memory>
     ensures { OnOk result (text.new.items ≡ text.old.items ++ state_text state.now) }
 {
     text.extend_from_slice(b"[")?;
@@ -105,7 +105,7 @@ fn push_spaced_values(text: &mut Vec<u8>, state: &[(Name, u8)]) -> Result<(), Me
 }
 
 /// Adds a set of events in braces, with one space between.
-fn push_set(text: &mut Vec<u8>, names: &Names, events: &[Event]) -> Result<(), Memory>
+pub fn push_set(text: &mut Vec<u8>, names: &Names, events: &[Event]) -> Result<(), Memory>
     requires { AreNamed names.now events.now }
     ensures { OnOk result (text.new.items ≡ text.old.items ++ set_text names.now events.now) }
 {
@@ -139,7 +139,8 @@ fn push_spaced_events(text: &mut Vec<u8>, names: &Names, events: &[Event]) -> Re
     Ok(())
 }
 
-fn push_event(text: &mut Vec<u8>, names: &Names, event: Event) -> Result<(), Memory>
+/// Adds an event: the channel's name, its mark and the value.
+pub fn push_event(text: &mut Vec<u8>, names: &Names, event: Event) -> Result<(), Memory>
     requires { event.chan.0 < length names.now }
     ensures { OnOk result (text.new.items ≡ text.old.items ++ event_text names.now event) }
 {

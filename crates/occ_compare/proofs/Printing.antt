@@ -1,12 +1,12 @@
 -- Events and sets of events in the order of printing.
-use Rattle.std.proofs.Common.{◌≡◌, ◌⊎◌, ◌<◌, ◌+◌, ◌==◌, ◌||◌, ◌&&◌, ℕ, zero, suc, Bool, true, false, not, cond, List, [], ◌∷◌, Option, Some, None, length, get_or, take, refl, sym, ap, ◌∙◌, subst, inl, inr, ⊎_elim, arith}
-use Rattle.std.proofs.lemmas.Bool.{and_parts, and_from, or_cases, or_left, or_right, cases_Bool, both_ways, eqb-true, false≢true, true≢false}
+use Rattle.std.proofs.Common.{◌≡◌, ◌⊎◌, ◌<◌, ◌+◌, ◌==◌, ◌||◌, ℕ, Bool, true, false, cond, List, [], ◌∷◌, length, get_or, take, refl, sym, ap, ◌∙◌, subst, inl, inr, ⊎_elim, arith}
+use Rattle.std.proofs.lemmas.Bool.{and_parts, and_from, or_cases, or_left, or_right, cases_Bool, both_ways, eqb-true, false≢true}
 use Rattle.std.proofs.lemmas.List.Folds.{list_any_more}
 use Rattle.std.proofs.lemmas.List.Kept.{IsStrictlySortedBy-dedup}
 use Rattle.std.proofs.lemmas.List.MinMax.{ranks_by}
-use Rattle.std.specs.List.{list_all, list_any, dedup, AllByRecursion}
+use Rattle.std.specs.List.{list_all, dedup, AllByRecursion}
 use Rattle.std.specs.List.Sorted.{IsSorted, IsStrictlySortedBy, IsPermutation}
-use Rattle.std.specs.Cmp.{IsTotalOrder, IsStrictWeakOrder, then_total, on_total, nat_cmp_total, nat_cmp_is, unsigned_ties, tied_itself}
+use Rattle.std.specs.Cmp.{IsTotalOrder, then_total, on_total, nat_cmp_total, nat_cmp_is, unsigned_ties, tied_itself}
 use Rattle.std.specs.Cmp.Lexicographic.{slice_cmp, lists_total}
 use Rattle.std.specs.Ordering.{is_lt, is_eq, eq_by_cmp, nat_cmp, ordering_then, ordering_reverse}
 use Rattle.std.specs.declared.cmp.Ordering.{Ordering}
@@ -17,13 +17,13 @@ use Rattle.occ_base.specs.declared.event.Event.{Event}
 use Rattle.occ_base.specs.declared.names.Name.{Name}
 use Rattle.occ_base.specs.contracts.event.EventPartialEq.TheImpl.{ghosts as event_eq}
 use Rattle.occ_syntax.specs.declared.scope.Kind.{Kind}
-use Rattle.occ_behaviour.specs.declared.behaviour.Side.TheVariants.{First, Second}
 use Rattle.occ_accept.specs.Order.{event_cmp, dir_number, strict, is_in}
 use Rattle.occ_accept.specs.Accept.{in_set}
-use Rattle.occ_accept.proofs.Strict.{IsExact, equal_is, less_is, same_tests, tied, tied_same, any_same, above-not_in, above-above, same_strict}
+use Rattle.occ_accept.proofs.Strict.{IsExact, less_is, same_tests, tied, tied_same, any_same, above-not_in, above-above, same_strict}
 use Rattle.occ_accept.proofs.Events.{cmp_total, event_exact, eq_is, sets_total, set_exact}
 use Rattle.occ_accept.proofs.Sets.{gathered}
-use Rattle.occ_compare.specs.Orders.{place_in, print_cmp, list_cmp, set_cmp, IsListOf, has_set}
+use Rattle.occ_behaviour.specs.Places.{place_in}
+use Rattle.occ_compare.specs.Orders.{print_cmp, list_cmp, set_cmp, IsListOf, has_set}
 use Rattle.occ_compare.specs.Walk.{SameSets, IsLeastSet}
 use Rattle.occ_compare.specs.Steps.{AllIn, IsLeastOnly}
 

@@ -1,5 +1,5 @@
 -- Events and sets of events in the order of printing.
-use Rattle.std.specs.Prelude.{ℕ, ◌+◌, ◌==◌, ◌≡◌, Bool, true, false, not, ◌&&◌, ◌||◌, List, [], ◌∷◌, Option, None, Some, length, if◌then◌else◌}
+use Rattle.std.specs.Prelude.{◌≡◌, Bool, true, List, length}
 use Rattle.std.specs.Ordering.{nat_cmp, on, then_cmp}
 use Rattle.std.specs.Cmp.Lexicographic.{slice_cmp}
 use Rattle.std.specs.declared.cmp.Ordering.{Ordering}
@@ -8,11 +8,7 @@ use Rattle.occ_base.specs.declared.names.Name.{Name}
 use Rattle.occ_syntax.specs.declared.scope.Kind.{Kind}
 use Rattle.occ_accept.specs.Order.{dir_number, event_cmp, strict, is_in}
 use Rattle.occ_accept.specs.Accept.{in_set}
-
--- the place of a channel among the parameters; one that is none has the place after all
-abbrev pub place_in : List (Name × Kind) → Name → ℕ
-place_in [] chan = 0
-place_in (entry ∷ params) chan = if entry.0.0 == chan.0 then 0 else 1 + place_in params chan
+use Rattle.occ_behaviour.specs.Places.{place_in}
 
 -- Events by their channel's place among the parameters, then by value. The direction and the channel's number come last,
 -- so that no two events have one place, whatever the parameters.

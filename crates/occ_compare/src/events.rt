@@ -1,38 +1,25 @@
 ghost use Rattle.std.specs.Prelude.{◌≡◌, IfOk};
 ghost use Rattle.std.specs.Ordering.{is_lt};
-ghost use Rattle.occ_compare.specs.Orders.{place_in, print_cmp, list_cmp, set_cmp, IsListOf};
+ghost use Rattle.occ_compare.specs.Orders.{print_cmp, list_cmp, set_cmp, IsListOf};
 
 use occ_base::{Event, Events, Memory, Name};
+use occ_behaviour::place_in;
 use occ_syntax::Kind;
 use std::alloc::Global;
 use std::cmp::Ordering;
-
-// The place of a channel among the parameters, or the place after all.
-fn place(params: &[(Name, Kind)], chan: Name) -> usize
-    ensures { result ≡ place_in params.now chan }
-{
-    let mut place = 0;
-    for (name, _) in params {
-        if *name == chan {
-            return place;
-        }
-        place += 1;
-    }
-    place
-}
 
 // The order of printing: by the place of the channel, then by value. Direction and number come last.
 pub(crate) fn print_order(params: &[(Name, Kind)], a: Event, b: Event) -> Ordering
     ensures { result ≡ print_cmp params.now a b }
 {
-    let places = place(params, a.chan).cmp(&place(params, b.chan));
+    let places = place_in(params, a.chan).cmp(&place_in(params, b.chan));
     let values = a.value.cmp(&b.value);
     let rest = a.dir.cmp(&b.dir).then(a.chan.0.cmp(&b.chan.0));
     places.then(values.then(rest))
 }
 
-// The events in the order of printing, each once.
-pub(crate) fn in_order(params: &[(Name, Kind)], mut events: Vec<Event>) -> Vec<Event>
+/// The events in the order of printing, each once.
+pub fn in_order(params: &[(Name, Kind)], mut events: Vec<Event>) -> Vec<Event>
     ensures { IsListOf params.now events.items result.items }
 {
     events.sort_unstable_by(|a, b| print_order(params, *a, *b));
@@ -40,8 +27,8 @@ pub(crate) fn in_order(params: &[(Name, Kind)], mut events: Vec<Event>) -> Vec<E
     events
 }
 
-// Lists of events by their first difference.
-fn list_order(params: &[(Name, Kind)], a: &[Event], b: &[Event]) -> Ordering
+/// Lists of events by their first difference.
+pub fn list_order(params: &[(Name, Kind)], a: &[Event], b: &[Event]) -> Ordering
     ensures { result ≡ list_cmp params.now a.now b.now }
 {
     let mut place = 0;
@@ -62,8 +49,8 @@ pub(crate) fn is_less(params: &[(Name, Kind)], a: &[Event], b: &[Event]) -> bool
     a.len().cmp(&b.len()).then(list_order(params, a, b)).is_lt()
 }
 
-// The list of the same events.
-pub(crate) fn listed(alloc: Global, events: &[Event]) -> Result<Events, Memory>
+/// The list of the same events.
+pub fn listed(alloc: Global, events: &[Event]) -> Result<Events, Memory>
     ensures { IfOk result (λ list. list ≡ events.now) }
 {
     let mut list = Events::new(alloc);

@@ -11,4 +11,6 @@ mod sets;
 mod step;
 mod walk;
 
+pub use events::{in_order, list_order, listed};
+pub use places::assignment;
 pub use roots::{compare, same_root};

@@ -3,20 +3,9 @@ ghost use Rattle.occ_syntax.specs.Counts.{bits_of_scope};
 ghost use Rattle.occ_compare.specs.Places.{assignment_at, byte_state};
 
 use occ_base::{Memory, Name, State};
+use occ_behaviour::interface_bits;
 use occ_syntax::Kind;
 use std::alloc::Global;
-
-// The bits of the variables of an interface together.
-pub(crate) fn interface_bits(params: &[(Name, Kind)]) -> u32
-    requires { bits_of_scope params.now ≤ 64 }
-    ensures { result ≡ bits_of_scope params.now }
-{
-    let mut bits: u32 = 0;
-    for (_, kind) in params {
-        bits += u32::from(kind.bits());
-    }
-    bits
-}
 
 // The lowest bits of a number, so many, and the number of the bits above them.
 fn parted(number: u64, bits: u32) -> (u64, u64)
@@ -48,8 +37,8 @@ pub(crate) fn last_number(params: &[(Name, Kind)]) -> u64
     if bits < 64 { (1 << bits) - 1 } else { u64::MAX }
 }
 
-// The assignment whose state has that place among the states, in their order from 0.
-pub(crate) fn assignment(params: &[(Name, Kind)], number: u64) -> u64
+/// The assignment whose state has that place among the states, in their order from 0.
+pub fn assignment(params: &[(Name, Kind)], number: u64) -> u64
     requires few { bits_of_scope params.now ≤ 64 }
     requires within { number < 2 ^ bits_of_scope params.now }
     ensures { result ≡ assignment_at params.now number }

@@ -27,7 +27,8 @@ pub rows_step : (names : List (List ℕ)) (rows : List TableRow) (i : ℕ) (d : 
 rows_step names rows i d old new all h e is =
     let next : suc i ≡ i + 1 = omega arith in
     let here : drop i rows ≡ get_or rows i d ∷ drop (i + 1) rows = drop-cons rows i d h ∙ ap (λ n. get_or rows i d ∷ drop n rows) next in
-    ap (λ l. l ++ rows_text names (i + 1) (drop (i + 1) rows)) is ∙ append_assoc old (row_lines names i (get_or rows i d)) (rows_text names (i + 1) (drop (i + 1) rows)) ∙ ap (λ r. old ++ r) (rows_cons names i (get_or rows i d) (drop (i + 1) rows)) ∙ ap (λ r. old ++ rows_text names i r) (sym here) ∙ e
+    ap (λ l. l ++ rows_text names (i + 1) (drop (i + 1) rows)) is ∙ append_assoc old (row_lines names i (get_or rows i d)) (rows_text names (i + 1) (drop (i + 1) rows))
+    ∙ ap (λ r. old ++ r) (rows_cons names i (get_or rows i d) (drop (i + 1) rows)) ∙ ap (λ r. old ++ rows_text names i r) (sym here) ∙ e
 
 pub rows_end : (names : List (List ℕ)) (rows : List TableRow) (i : ℕ) (text all : List ℕ) → length rows ≤ i → text ++ rows_text names i (drop i rows) ≡ all → text ≡ all
 unfolding rows_text
@@ -40,7 +41,8 @@ pub states_step : (params : List (Name × Kind)) (states : List ℕ) (i d : ℕ)
 states_step params states i d old new all h e is =
     let next : suc i ≡ i + 1 = omega arith in
     let here : drop i states ≡ get_or states i d ∷ drop (i + 1) states = drop-cons states i d h ∙ ap (λ n. get_or states i d ∷ drop n states) next in
-    ap (λ l. l ++ states_text params (i + 1) (drop (i + 1) states)) is ∙ append_assoc old (state_line params i (get_or states i d)) (states_text params (i + 1) (drop (i + 1) states)) ∙ ap (λ r. old ++ r) (states_cons params i (get_or states i d) (drop (i + 1) states)) ∙ ap (λ r. old ++ states_text params i r) (sym here) ∙ e
+    ap (λ l. l ++ states_text params (i + 1) (drop (i + 1) states)) is ∙ append_assoc old (state_line params i (get_or states i d)) (states_text params (i + 1) (drop (i + 1) states))
+    ∙ ap (λ r. old ++ r) (states_cons params i (get_or states i d) (drop (i + 1) states)) ∙ ap (λ r. old ++ states_text params i r) (sym here) ∙ e
 
 pub states_end : (params : List (Name × Kind)) (states : List ℕ) (i : ℕ) (text all : List ℕ) → length states ≤ i → text ++ states_text params i (drop i states) ≡ all → text ≡ all
 unfolding states_text

@@ -27,9 +27,9 @@ use Rattle.occ_base.specs.Names.{IsDistinct}
 use Rattle.occ_nform_table.specs.Normal.{text_read}
 use Rattle.occ_nform_table.specs.Tables.{AreRowsOf, IsNormal}
 use Rattle.occ_nform_table.specs.Texts.{table_text}
-use Rattle.occ_nform_number.specs.Lines.{RowIsNamed}
+use Rattle.occ_nform_table.specs.Rows.{RowIsNamed}
 use Rattle.occ_nform_number.specs.Tabulated.{IsTabulated}
-use Rattle.occ_nform_number.proofs.Named.{row_named}
+use Rattle.occ_nform_table.proofs.Named.{row_named}
 use Rattle.occ_nform_unique.proofs.States.{place_below}
 use Rattle.occ_nform.specs.Written.{IsNormalText, IsRootOf}
 use Rattle.occ_nform.specs.Lines.{RowsAreNamed}

@@ -8,7 +8,7 @@ use Rattle.occ_nform_table.specs.Judging.{row_text}
 use Rattle.occ_nform_table.specs.Lines.{text_of}
 use Rattle.occ_nform_table.specs.Texts.{param_text, state_at_place}
 use Rattle.occ_nform_table.specs.declared.table.TableRow.{TableRow}
-use Rattle.occ_nform_number.specs.Lines.{RowIsNamed}
+use Rattle.occ_nform_table.specs.Rows.{RowIsNamed}
 
 abbrev pub param_line : List (List ℕ) → Name × Kind → List ℕ
 param_line names p = codes "PARAM " ++ param_text (text_of names p.0) p.1 ++ codes "\n"

@@ -1,6 +1,4 @@
 mod Faults
-mod Texts
-mod Powers
 mod Ranks
 mod Names
 mod Rows

@@ -15,11 +15,13 @@ use Rattle.occ_nform_table.specs.Lines.{rank, state_place, is_rising}
 use Rattle.occ_nform_table.specs.Judging.{Mark, placed, comes_after, row_text, height_over, list_marks, accept_marks, row_marks, rows_marks, is_empty_row, is_reached}
 use Rattle.occ_nform_table.specs.Normal.{Parts, first_mark, first_empty, first_unreached, or_fault, table_fault}
 use Rattle.occ_nform_table.specs.Tables.{IsInterface, AreRowsOf}
-use Rattle.occ_nform_check.specs.Marks.{Offer, RowIsNamed}
+use Rattle.occ_nform_table.specs.Rows.{RowIsNamed}
+use Rattle.occ_nform_table.proofs.Named.{row_named}
+use Rattle.occ_nform_check.specs.Marks.{Offer}
 use Rattle.occ_nform_check.specs.Walk.{Walked}
 use Rattle.occ_nform_check.proofs.Faults.{stops, goes, fault_in_front, fine_in_front, length_marks}
 use Rattle.occ_nform_check.proofs.Ranks.{length_accepts}
-use Rattle.occ_nform_check.proofs.Names.{row_named, row_rising, row_below}
+use Rattle.occ_nform_check.proofs.Names.{row_rising, row_below}
 
 pub drop_item : {A : Type 0} (xs : List A) (i : ℕ) (x : A) → i < length xs → x ≡ get_or xs i x → drop i xs ≡ x ∷ drop (i + 1) xs
 drop_item xs i x lt e = drop_more xs i x lt ∙ ap (λ y. y ∷ drop (i + 1) xs) (sym e)
@@ -101,7 +103,8 @@ rows_few names params rows h = omega (arith, h, rows_long names params [] None r
 
 -- ---- the way through the rows
 
-pub walked_start : (names : List (List ℕ)) (params : List (Name × Kind)) (rows : List TableRow) (heights : List ℕ) → heights ≡ [] → AreRowsOf params 0 rows → 2 + length params + length (rows_marks names params [] None rows) ≤ 4294967295 → Walked names params rows 0 (2 + length params) heights None (drop 0 rows)
+pub walked_start : (names : List (List ℕ)) (params : List (Name × Kind)) (rows : List TableRow) (heights : List ℕ) → heights ≡ [] → AreRowsOf params 0 rows
+    → 2 + length params + length (rows_marks names params [] None rows) ≤ 4294967295 → Walked names params rows 0 (2 + length params) heights None (drop 0 rows)
 walked_start names params rows heights none forms fits = subst (λ hs. Walked names params rows 0 (2 + length params) hs None rows) (sym none)
     (record { same = refl; fits = fits; few = omega (arith, rows_few names params rows fits); forms = forms; count = refl; low = All-nil (λ h. h ≤ 0) })
 
@@ -123,7 +126,7 @@ faces names params all n line heights before row rows interface w =
       low = subst (λ m. All (λ h. h ≤ m) heights) (sym w.count) w.low;
       within = row_below params n (length heights) row (omega (arith, w.count)) w.forms.0;
       few = omega (arith, w.count, w.few);
-      named = row_named names params n row interface.named w.forms.0;
+      named = row_named names params interface.named n row w.forms.0;
       rising = row_rising params n row w.forms.0;
       fits = omega (arith, w.fits, long, length_row params row);
     }
@@ -161,7 +164,8 @@ walked_more names params all n line heights before row rows height text next new
       low = All-same P new (heights ++ height ∷ []) grown (All-push P heights height (All-weaker (λ x. x ≤ n) P (λ x k. omega (arith, k)) heights w.low) low);
     }
 
-pub walked_on : (names : List (List ℕ)) (params : List (Name × Kind)) (all : List TableRow) (n line : ℕ) (heights : List ℕ) (before : Option (ℕ × List ℕ)) (row : TableRow) (height : ℕ) (text : List ℕ) (next : ℕ) (new : List ℕ) (f : Option TableFault) → n < length all → row ≡ get_or all n row
+pub walked_on : (names : List (List ℕ)) (params : List (Name × Kind)) (all : List TableRow) (n line : ℕ) (heights : List ℕ) (before : Option (ℕ × List ℕ)) (row : TableRow) (height : ℕ) (text : List ℕ)
+    (next : ℕ) (new : List ℕ) (f : Option TableFault) → n < length all → row ≡ get_or all n row
     → Walked names params all n line heights before (drop n all) → height ≡ height_over heights row.offers → text ≡ row_text names row → height ≤ length heights + 1 → is_some f ≡ false → f ≡ first_mark line (marks_of params before (height, text) row)
     → next ≡ line + lines row → new ≡ heights ++ height ∷ [] → Walked names params all (n + 1) next new (Some (height, text)) (drop (n + 1) all)
 walked_on names params all n line heights before row height text next new f lt e w h t low none found on grown =

@@ -5,9 +5,6 @@ mod lines;
 mod places;
 mod reach;
 mod sets;
-#[cfg(test)]
-mod tests;
-mod text;
 mod whole;
 
 pub use whole::judge;

@@ -8,10 +8,10 @@ ghost use Rattle.occ_nform_table.specs.Judging.{height_over, text_less, comes_af
 ghost use Rattle.occ_nform_table.specs.Normal.{first_mark};
 ghost use Rattle.occ_nform_check.specs.Marks.{Offer, seen};
 
-use crate::places::{Places, rank, ranks, state_places};
+use crate::places::{Places, ranks, state_places};
 use crate::sets::sets_fault;
 use occ_base::{Event, Events, List, Memory, Name, State};
-use occ_nform_table::{TableFault, TableRow};
+use occ_nform_table::{TableFault, TableRow, rank};
 use occ_syntax::Kind;
 use std::alloc::Global;
 

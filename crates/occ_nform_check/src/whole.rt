@@ -6,9 +6,8 @@ ghost use Rattle.occ_nform_table.specs.Tables.{IsInterface, AreRowsOf};
 
 use crate::lines::{Standing, height_over, lines_of, row_fault};
 use crate::reach::reach_fault;
-use crate::text::row_text;
 use occ_base::{Memory, Name, Names};
-use occ_nform_table::{TableFault, TableRow};
+use occ_nform_table::{TableFault, TableRow, row_text};
 use occ_syntax::Kind;
 use std::alloc::Global;
 

@@ -5,7 +5,6 @@ pub mod Moves
 pub mod Graph
 pub mod Final
 pub mod Steps
-pub mod Named
 pub mod Sorting
 pub mod Texts
 pub mod Placing

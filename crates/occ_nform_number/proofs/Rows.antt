@@ -14,7 +14,8 @@ use Rattle.occ_nform_table.specs.declared.table.TableRow.{TableRow}
 use Rattle.occ_nform_table.specs.declared.table.TableFault.TheVariants as fault
 use Rattle.occ_nform_table.specs.Behaviours.{next_row, row_at, no_row}
 use Rattle.occ_nform_table.specs.Judging.{Mark, Fine, Misplaced, Excessive, placed, list_marks, row_marks, rows_marks, row_text, height_over, comes_after, reached, is_reached, is_empty_row}
-use Rattle.occ_nform_table.specs.Lines.{rank, place_in}
+use Rattle.occ_behaviour.specs.Places.{place_in}
+use Rattle.occ_nform_table.specs.Lines.{rank}
 use Rattle.occ_nform_table.specs.Normal.{Parts, table_fault, first_mark, first_empty, first_unreached, or_fault}
 use Rattle.occ_nform_table.specs.Tables.{IsRowOf, AreRowsOf}
 

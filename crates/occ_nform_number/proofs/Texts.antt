@@ -15,7 +15,7 @@ use Rattle.occ_nform_table.specs.Lines.{is_rising}
 use Rattle.occ_nform_table.specs.Tables.{are_params, IsInterface, IsRowOf}
 use Rattle.occ_nform_text.proofs.Rows.{one_row}
 use Rattle.occ_nform_number.specs.Numbering.{HaveOneText}
-use Rattle.occ_nform_number.proofs.Named.{event_named}
+use Rattle.occ_nform_table.proofs.Named.{event_named}
 
 no_event : (e : Event) → in_interface (environment []) e ≡ true → ⊥
 no_event e h = let none : e.chan.0 < 0 = event_named 0 [] tt e h in omega arith

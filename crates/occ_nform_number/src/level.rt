@@ -8,10 +8,9 @@ ghost use Rattle.occ_nform_rows.specs.Listed.{are_marked};
 ghost use Rattle.occ_nform_number.specs.Numbering.{AreDrafts, AreReady, AreSorted, IsDraft, IsReady};
 
 use crate::order::Placed;
-use crate::text::written;
 use occ_base::{Memory, Name, Names};
 use occ_nform_rows::listed_row;
-use occ_nform_table::TableRow;
+use occ_nform_table::{TableRow, row_text};
 use occ_node::World;
 use occ_syntax::Kind;
 use std::alloc::Global;
@@ -42,7 +41,7 @@ fn drafted(
     ensures draft { IfOk result (IsDraft world.old names.now params.now numbers.now placed) }
 {
     let row = listed_row(alloc, world, params, numbers, placed.node)?;
-    let text = written(alloc, names, &row)?;
+    let text = row_text(alloc, names, &row)?;
     Ok(Draft { placed, row, text })
 }
 

@@ -6,12 +6,7 @@ mod level;
 mod marks;
 mod numbering;
 mod order;
-mod places;
 mod root;
 mod starts;
-#[cfg(test)]
-mod tests;
-mod text;
 
 pub use root::tabulate;
-pub use text::{push_state, written};

@@ -1,12 +1,22 @@
-ghost use Rattle.std.specs.Prelude.{◌≡◌, ◌≤◌, IfOk};
+ghost use Rattle.std.specs.Prelude.{◌≡◌, ◌≤◌, ◌^◌, IfOk};
 ghost use Rattle.occ_syntax.specs.Counts.{bits_of_scope};
 ghost use Rattle.occ_compare.specs.Interface.{HasNodes};
 ghost use Rattle.occ_nform_number.specs.Numbering.{AreStarts};
 
-use crate::places::{assignment, state_count};
-use occ_base::Memory;
+use occ_base::{Memory, Name};
+use occ_behaviour::interface_bits;
+use occ_compare::assignment;
 use occ_node::{NodeId, Root, World};
+use occ_syntax::Kind;
 use std::alloc::Global;
+
+// How many states an interface has.
+fn state_count(params: &[(Name, Kind)]) -> u64
+    requires { bits_of_scope params.now ≤ 16 }
+    ensures { result ≡ 2 ^ bits_of_scope params.now }
+{
+    1 << interface_bits(params)
+}
 
 // The nodes of the initial states in their order.
 pub(crate) fn start_nodes(alloc: Global, world: &World, root: &Root) -> Result<Vec<NodeId>, Memory>

@@ -1,6 +1,5 @@
 pub mod Numerals
 pub mod Splitting
-pub mod Powers
 pub mod Rising
 pub mod Taking
 pub mod Steps

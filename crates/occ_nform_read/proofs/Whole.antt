@@ -74,7 +74,8 @@ rows_marks_count names params (suc most) n (line ∷ lines) heights before =
     from (is_row n line) (λ heights before. rows_marks_count names params most (n + 1) (row_behind names params n lines).1 heights before)
   where
     from : (b : Bool)
-        → ((heights : List ℕ) (before : Option (ℕ × List ℕ)) → length (rows_marks names params heights before (rows_in names params most (n + 1) (row_behind names params n lines).1).0) + length (rows_in names params most (n + 1) (row_behind names params n lines).1).1 ≡ length (row_behind names params n lines).1)
+        → ((heights : List ℕ) (before : Option (ℕ × List ℕ)) → length (rows_marks names params heights before (rows_in names params most (n + 1) (row_behind names params n lines).1).0)
+        + length (rows_in names params most (n + 1) (row_behind names params n lines).1).1 ≡ length (row_behind names params n lines).1)
         → length (rows_marks names params heights before (cond b (with_row (row_behind names params n lines) (rows_in names params most (n + 1))) ([], line ∷ lines)).0)
         + length (cond b (with_row (row_behind names params n lines) (rows_in names params most (n + 1))) ([], line ∷ lines)).1 ≡ suc (length lines)
     from true more =

@@ -1,11 +1,12 @@
 ghost use Rattle.std.specs.Prelude.{◌≡◌, ◌∷◌, [], ◌++◌, ◌+◌, ◌*◌, ◌≤◌, ◌<◌, length, IfOk, Option, Some, None};
 ghost use Rattle.occ_behaviour.specs.Texts.{mark_text};
 ghost use Rattle.occ_nform_table.specs.Words.{Finds, each, items_of};
-ghost use Rattle.occ_nform_table.specs.Lines.{AreNamed, HasWidth, HaveWidths, event_on, event_of, text_of, rank, is_rising, set_of, accept_of, offer_of, place_in};
+ghost use Rattle.occ_nform_table.specs.Lines.{AreNamed, HasWidth, HaveWidths, event_on, event_of, text_of, rank, is_rising, set_of, accept_of, offer_of};
 
 use crate::states::fitting;
 use crate::words::{behind, between, cut, lower, small_number_of};
 use occ_base::{Dir, Event, Events, Memory, Name, Names};
+use occ_nform_table::rank;
 use occ_syntax::Kind;
 use std::alloc::Global;
 
@@ -63,31 +64,6 @@ pub fn event_of(names: &Names, params: &[(Name, Kind)], word: &[u8]) -> Option<E
             None => event_of(names, rest, word),
         },
     }
-}
-
-fn place_in(params: &[(Name, Kind)], chan: Name) -> u64
-    ensures place { result ≡ place_in params.now chan }
-    ensures within { result ≤ length params.now }
-{
-    match params {
-        [] => 0,
-        [(name, _), rest @ ..] => {
-            if *name == chan {
-                0
-            } else {
-                1 + place_in(rest, chan)
-            }
-        }
-    }
-}
-
-/// The place of an event in the order of events.
-pub fn rank(params: &[(Name, Kind)], event: Event) -> u64
-    requires { length params.now ≤ 16 }
-    ensures rank { result ≡ rank params.now event }
-    ensures within { result < 256 * (length params.now + 1) }
-{
-    256 * place_in(params, event.chan) + u64::from(event.value)
 }
 
 /// The events that words are, with single spaces between them, where each is one.

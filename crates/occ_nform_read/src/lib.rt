@@ -11,8 +11,7 @@ mod tests;
 mod text;
 mod words;
 
-pub use events::{event_of, events_of, rank, set_of};
-pub use params::bits_of;
+pub use events::{event_of, events_of, set_of};
 pub use reading::first_line;
 pub use states::state_of;
 pub use text::read;

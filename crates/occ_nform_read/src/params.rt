@@ -7,6 +7,7 @@ ghost use Rattle.occ_nform_table.specs.Lines.{AreNamed, digit_width, width_of, i
 
 use crate::words::{before, behind, between, cut, small_number_of};
 use occ_base::{Dir, Name, Names, Width};
+use occ_behaviour::interface_bits;
 use occ_lex::{TokenKind, kind_of};
 use occ_syntax::Kind;
 
@@ -149,18 +150,6 @@ fn is_among(names: &Names, params: &[(Name, Kind)], text: &[u8]) -> bool
     }
 }
 
-/// The bits of the variables of an interface together.
-pub fn bits_of(params: &[(Name, Kind)]) -> u32
-    requires { bits_of_scope params.now ≤ 16 }
-    ensures { result ≡ bits_of_scope params.now }
-{
-    let mut bits: u32 = 0;
-    for (_, kind) in params {
-        bits += u32::from(kind.bits());
-    }
-    bits
-}
-
 #[tactic(auto, unfolding(occ_nform_table::specs::Lines::can_follow))]
 fn can_follow(names: &Names, params: &[(Name, Kind)], text: &[u8], kind: Kind) -> bool
     requires named { AreNamed names.now params.now }
@@ -169,7 +158,7 @@ fn can_follow(names: &Names, params: &[(Name, Kind)], text: &[u8], kind: Kind) -
 {
     params.len() < 16
         && !is_among(names, params, text)
-        && bits_of(params) + u32::from(kind.bits()) <= 16
+        && interface_bits(params) + u32::from(kind.bits()) <= 16
 }
 
 /// The parameter of a line that can follow those before it.

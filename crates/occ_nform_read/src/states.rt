@@ -1,12 +1,12 @@
-ghost use Rattle.std.specs.Prelude.{◌≡◌, ◌∷◌, [], ◌++◌, ◌≤◌, ◌<◌, ◌^◌, ◌*◌, IfOk, length, codes, Option, Some, None};
+ghost use Rattle.std.specs.Prelude.{◌≡◌, ◌∷◌, [], ◌++◌, ◌≤◌, ◌<◌, ◌*◌, IfOk, length, codes, Option, Some, None};
 ghost use Rattle.occ_base.specs.Width.{IsWidth};
 ghost use Rattle.occ_syntax.specs.Counts.{bits_of_scope};
 ghost use Rattle.occ_nform_table.specs.Words.{Finds, then_read, behind, number_of};
 ghost use Rattle.occ_nform_table.specs.Lines.{Adds, HaveWidths, fitting, paired, state_of, end_of, state_place, row_of_state, below};
 
-use crate::params::bits_of;
 use crate::words::{behind, between, cut, lower, numbers_of};
 use occ_base::{Memory, Name, State, Width};
+use occ_nform_table::state_place;
 use occ_syntax::Kind;
 use std::alloc::Global;
 
@@ -74,34 +74,6 @@ pub fn end_of(alloc: Global, params: &[(Name, Kind)], line: &[u8]) -> Result<Opt
     match between(b"END [", b"]\n", line) {
         Some(text) => state_of(alloc, params, text),
         None => Ok(None),
-    }
-}
-
-// A value with so many bits behind it.
-fn shifted(value: u8, bits: u32) -> u64
-    requires { bits ≤ 16 }
-    ensures value { result ≡ value * 2 ^ bits }
-    ensures within { result ≤ 16711680 }
-{
-    u64::from(value) * (1 << bits)
-}
-
-/// The place of a state among the states in their order, counted from 0.
-pub fn state_place(params: &[(Name, Kind)], state: &[(Name, u8)]) -> u64
-    requires bits { bits_of_scope params.now ≤ 16 }
-    requires few { length params.now ≤ 16 }
-    ensures place { result ≡ state_place params.now state.now }
-    ensures within { result ≤ 16711680 * length params.now }
-{
-    match params {
-        [] => 0,
-        [(_, Kind::Chan(_, _)), rest @ ..] => state_place(rest, state),
-        [(_, Kind::Var(_)), rest @ ..] => match state {
-            [] => 0,
-            [(_, value), others @ ..] => {
-                shifted(*value, bits_of(rest)) + state_place(rest, others)
-            }
-        },
     }
 }
 

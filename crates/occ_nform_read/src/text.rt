@@ -8,10 +8,10 @@ ghost use Rattle.occ_nform_table.specs.Reading.{params_in};
 ghost use Rattle.occ_nform_table.specs.Tables.{IsInterface, AreRowsOf};
 ghost use Rattle.occ_nform_read.specs.Found.{IsRead};
 
-use crate::params::bits_of;
 use crate::reading::first_line;
 use crate::sections::{params_in, rows_in, states_in};
 use occ_base::{Memory, Name, Names};
+use occ_behaviour::interface_bits;
 use occ_nform_check::judge;
 use occ_nform_table::{Table, TableFault};
 use occ_syntax::Kind;
@@ -49,7 +49,7 @@ fn is_whole(params: &[(Name, Kind)], states: &[u32], rest: &[u8]) -> bool
     requires { bits_of_scope params.now ≤ 16 }
     ensures { result ≡ is_whole params.now (states.now, rows rest.now) }
 {
-    states.len() == 1 << bits_of(params) && rest.is_empty()
+    states.len() == 1 << interface_bits(params) && rest.is_empty()
 }
 
 // The table, or its fault.

@@ -5,4 +5,3 @@ pub mod Ranking
 pub mod Listing
 pub mod Marking
 pub mod Rows
-pub mod Waiting

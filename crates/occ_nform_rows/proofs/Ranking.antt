@@ -20,9 +20,10 @@ use Rattle.occ_syntax.specs.Scopes.{environment, in_interface, in_scope, allows,
 use Rattle.occ_accept.specs.Order.{event_cmp, dir_number, strict}
 use Rattle.occ_accept.proofs.Strict.{same_tests, tied, tied_same}
 use Rattle.occ_accept.proofs.Events.{cmp_total, event_exact}
-use Rattle.occ_compare.specs.Orders.{place_in, print_cmp, list_cmp}
+use Rattle.occ_behaviour.specs.Places.{place_in}
+use Rattle.occ_compare.specs.Orders.{print_cmp, list_cmp}
 use Rattle.occ_compare.proofs.Printing.{print_total, print_exact}
-use Rattle.occ_nform_table.specs.Lines.{rank, is_rising, place_in as place_of}
+use Rattle.occ_nform_table.specs.Lines.{rank, is_rising}
 use Rattle.occ_nform_table.specs.Judging.{set_less}
 use Rattle.occ_nform_table.specs.Tables.{is_marked}
 use Rattle.occ_nform_rows.specs.Listed.{are_marked}
@@ -31,11 +32,6 @@ use Rattle.occ_nform_rows.proofs.Placing.{kept_width, kept_rest}
 -- ---- channels of an interface
 abbrev pub IsOwn : List (Name × Kind) → Event → Type 0
 IsOwn ps e = in_interface (environment ps) e ≡ true
-
--- the two definitions of places are one
-place_is : (ps : List (Name × Kind)) (c : Name) → place_of ps c ≡ place_in ps c
-place_is [] c = refl
-place_is (entry ∷ ps) c = ap (λ n. cond (entry.0.0 == c.0) 0 (1 + n)) (place_is ps c)
 
 own_small : (v : ℕ) (kind : Kind) → bits_of (width_of_kind kind) ≤ 8 → has_width (channel_kind (Some kind)) v ≡ true → v < 256
 own_small v (Var w) few k = absurd (false≢true k)
@@ -153,7 +149,7 @@ module _ (ps : List (Name × Kind)) (kept : scope_kept ps ≡ true) (marked : ar
       let n : ℕ = place_in ps f.chan in
       let small : e.value < 256 = byte e h in
       let small_too : f.value < 256 = byte f k in
-      let ranks : 256 * m + e.value ≡ 256 * n + f.value = ap (λ p. 256 * p + e.value) (sym (place_is ps e.chan)) ∙ same ∙ ap (λ p. 256 * p + f.value) (place_is ps f.chan) in
+      let ranks : 256 * m + e.value ≡ 256 * n + f.value = same in
       let places : m ≡ n = omega arith in
       let values : e.value ≡ f.value = omega arith in
       one_event e f h k places values
@@ -171,7 +167,7 @@ module _ (ps : List (Name × Kind)) (kept : scope_kept ps ≡ true) (marked : ar
       let small : e.value < 256 = byte e h in
       let small_too : f.value < 256 = byte f k in
       let ranks : 256 * m + e.value < 256 * n + f.value = by (nat_cmp m n) (nat_cmp e.value f.value) refl refl less in
-      subst (λ p. 256 * p + e.value < rank ps f) (sym (place_is ps e.chan)) (subst (λ p. 256 * m + e.value < 256 * p + f.value) (sym (place_is ps f.chan)) ranks)
+      ranks
     where
       rest : Ordering
       rest = ordering_then (nat_cmp (dir_number e.dir) (dir_number f.dir)) (nat_cmp e.chan.0 f.chan.0)

@@ -9,8 +9,9 @@ ghost use Rattle.occ_syntax.specs.Counts.{bits_of_scope};
 ghost use Rattle.occ_syntax.specs.Types.{scope_kept};
 
 use crate::members::add_members;
-use crate::places::{interface_bits, state_at};
+use crate::places::state_at;
 use occ_base::{Memory, Name};
+use occ_behaviour::interface_bits;
 use occ_dd::{SetId, Store};
 use occ_nform_table::States;
 use occ_syntax::Kind;

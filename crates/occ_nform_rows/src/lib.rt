@@ -3,13 +3,10 @@
 #![tactic(auto)]
 
 mod ends;
-mod events;
 mod members;
 mod offers;
 mod places;
 mod row;
 mod sets;
-#[cfg(test)]
-mod tests;
 
 pub use row::listed_row;

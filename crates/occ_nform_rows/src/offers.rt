@@ -3,8 +3,8 @@ ghost use Rattle.occ_accept.specs.Order.{strict};
 ghost use Rattle.occ_nform_rows.specs.Lists.{AreOffers, with_number};
 ghost use Rattle.occ_node.specs.Offers.{are_below, offer_cmp};
 
-use crate::events::in_order;
 use occ_base::{Event, Memory, Name};
+use occ_compare::in_order;
 use occ_nform_table::TableOffers;
 use occ_node::{NodeId, Offers};
 use occ_syntax::Kind;

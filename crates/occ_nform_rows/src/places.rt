@@ -4,20 +4,9 @@ ghost use Rattle.occ_nform_rows.specs.Ends.{byte_state_at};
 ghost use Rattle.occ_syntax.specs.Counts.{bits_of_scope};
 
 use occ_base::{Memory, Name, State};
+use occ_behaviour::interface_bits;
 use occ_syntax::Kind;
 use std::alloc::Global;
-
-// The bits of the variables of an interface together.
-pub(crate) fn interface_bits(params: &[(Name, Kind)]) -> u32
-    requires { bits_of_scope params.now ≤ 16 }
-    ensures { result ≡ bits_of_scope params.now }
-{
-    let mut bits: u32 = 0;
-    for (_, kind) in params {
-        bits += u32::from(kind.bits());
-    }
-    bits
-}
 
 // How many values so many bits have.
 pub(crate) fn size(bits: u32) -> u32

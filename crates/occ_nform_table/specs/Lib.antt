@@ -6,3 +6,4 @@ pub mod Normal
 pub mod Texts
 pub mod Tables
 pub mod Behaviours
+pub mod Rows

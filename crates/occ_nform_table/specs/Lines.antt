@@ -1,8 +1,7 @@
 -- The lines of a normal text, and what each is read as.
-use Rattle.std.specs.Prelude.{ℕ, ◌+◌, ◌*◌, ◌-◌, ◌^◌, ◌≡◌, ◌<◌, ◌==◌, Bool, true, false, not, ◌&&◌, ◌||◌, nat_lt, nat_le, if◌then◌else◌, List, [], ◌∷◌, ◌++◌, length, slice_get, unwrap_or, Option, Some, None, codes}
-use Rattle.std.specs.List.{list_all, list_any, AllByRecursion}
+use Rattle.std.specs.Prelude.{ℕ, ◌+◌, ◌*◌, ◌-◌, ◌^◌, ◌≡◌, ◌<◌, ◌==◌, Bool, true, false, not, ◌&&◌, nat_lt, nat_le, if◌then◌else◌, List, [], ◌∷◌, ◌++◌, length, slice_get, unwrap_or, Option, Some, None, codes}
+use Rattle.std.specs.List.{list_any, AllByRecursion}
 use Rattle.std.specs.Str.{bytes_eq}
-use Rattle.occ_base.specs.declared.event.Dir.{Dir}
 use Rattle.occ_base.specs.declared.event.Dir.TheVariants.{Input, Output}
 use Rattle.occ_base.specs.declared.event.Event.{Event}
 use Rattle.occ_base.specs.declared.names.Name.{Name}
@@ -15,6 +14,7 @@ use Rattle.occ_lex.specs.Spelling.{kind_of}
 use Rattle.occ_syntax.specs.declared.scope.Kind.{Kind}
 use Rattle.occ_syntax.specs.declared.scope.Kind.TheVariants.{Var, Chan}
 use Rattle.occ_syntax.specs.Counts.{bits_of_kind, bits_of_scope}
+use Rattle.occ_behaviour.specs.Places.{place_in}
 use Rattle.occ_behaviour.specs.Texts.{mark_text}
 use Rattle.occ_nform_table.specs.Words.{then_read, or_else, behind, before, between, cut, items_of, each, number_of, small_number_of}
 
@@ -143,11 +143,6 @@ Adds old new false (Some xs) = ⊥
 Adds old new false None = Unit {0}
 
 -- ---- the order of events
-
--- the place of a channel among the parameters
-abbrev pub place_in : List (Name × Kind) → Name → ℕ
-place_in [] chan = 0
-place_in (entry ∷ params) chan = if entry.0.0 == chan.0 then 0 else 1 + place_in params chan
 
 -- Events are ordered by their channel's place among the parameters and then by value, which is below 256.
 abbrev pub rank : List (Name × Kind) → Event → ℕ

@@ -13,7 +13,8 @@ use Rattle.occ_base.specs.Width.{bits_of, IsWidth}
 use Rattle.occ_syntax.specs.declared.scope.Kind.{Kind}
 use Rattle.occ_syntax.specs.declared.scope.Kind.TheVariants.{Var, Chan}
 use Rattle.occ_syntax.specs.Scopes.{allows, channel_kind, environment, has_width, in_interface, same_dir, same_event}
-use Rattle.occ_nform_table.specs.Lines.{HasWidth, HaveWidths, place_in, rank}
+use Rattle.occ_behaviour.specs.Places.{place_in}
+use Rattle.occ_nform_table.specs.Lines.{HasWidth, HaveWidths, rank}
 use Rattle.occ_nform_table.specs.Tables.{is_marked, are_params}
 
 -- what an interface's parameters are like

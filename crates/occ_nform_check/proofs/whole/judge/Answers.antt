@@ -13,7 +13,8 @@ pub empty_fault-fault-requires : goal.empty_fault-fault-requires
 empty_fault-fault-requires c = rows_few c.args.names.now c.args.params.now c.args.rows.now c.requires.lines
 
 pub returns-then-is_some-2 : goal.returns-then-is_some-2
-returns-then-is_some-2 c = let t : Parts = record { names = c.args.names.now; params = c.args.params.now; rows = c.args.rows.now; states = c.args.states.now } in table_empty t c.in_ok-fault.fault c.empty_fault-fault.result (sym c.if-is_some.ensures) c.in_ok-fault.ensures (sym c.if-is_some-2.ensures) c.empty_fault-fault.ensures
+returns-then-is_some-2 c = let t : Parts = record { names = c.args.names.now; params = c.args.params.now; rows = c.args.rows.now; states = c.args.states.now } in
+    table_empty t c.in_ok-fault.fault c.empty_fault-fault.result (sym c.if-is_some.ensures) c.in_ok-fault.ensures (sym c.if-is_some-2.ensures) c.empty_fault-fault.ensures
 
 pub reach_fault-requires-clause-offers : goal.reach_fault-requires-clause-offers
 reach_fault-requires-clause-offers c = rows_below c.args.params.now 0 (length c.args.rows.now) c.args.rows.now (omega arith) c.requires.rows

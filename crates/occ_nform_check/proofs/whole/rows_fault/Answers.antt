@@ -22,12 +22,15 @@ pub lines_of-line-requires : goal.lines_of-line-requires
 lines_of-line-requires c = let w = faces_at c.args.names.now c.args.params.now c.args.rows.now c.loop-row.row-index c.loop-row.line c.loop-row.heights.items (seen c.loop-row.before) c.row-item.result c.requires.interface (omega arith) c.row-item.is c.loop-row.invariant in omega (arith, w.fits)
 
 pub overflow_add-line-in-loop-row : goal.overflow_add-line-in-loop-row
-overflow_add-line-in-loop-row c = let w = faces_at c.args.names.now c.args.params.now c.args.rows.now c.loop-row.row-index c.loop-row.line c.loop-row.heights.items (seen c.loop-row.before) c.row-item.result c.requires.interface (omega arith) c.row-item.is c.loop-row.invariant in omega (arith, w.fits, c.lines_of-line.ensures)
+overflow_add-line-in-loop-row c = let w = faces_at c.args.names.now c.args.params.now c.args.rows.now c.loop-row.row-index c.loop-row.line c.loop-row.heights.items
+    (seen c.loop-row.before) c.row-item.result c.requires.interface (omega arith) c.row-item.is c.loop-row.invariant in omega (arith, w.fits, c.lines_of-line.ensures)
 
 pub loop-row-preserved : goal.loop-row-preserved
 loop-row-preserved c =
-    walked_on c.args.names.now c.args.params.now c.args.rows.now c.loop-row.row-index c.loop-row.line c.loop-row.heights.items (seen c.loop-row.before) c.row-item.result c.height_over-height.result c.in_ok-text.text.items (c.loop-row.line + c.lines_of-line.result) c.push.new.self.items c.in_ok-fault.fault (omega arith) c.row-item.is c.loop-row.invariant
-    (c.height_over-height.ensures.value ∙ ap (λ hs. height_over hs c.items.result.now) c.as_slice.ensures.value ∙ ap (height_over c.loop-row.heights.items) c.items.ensures) c.in_ok-text.ensures (omega (arith, c.height_over-height.ensures.low, ap length c.as_slice.ensures.value)) (sym c.if-is_some.ensures) c.in_ok-fault.ensures (ap (λ m. c.loop-row.line + m) c.lines_of-line.ensures) c.in_ok-push.ensures.items
+    walked_on c.args.names.now c.args.params.now c.args.rows.now c.loop-row.row-index c.loop-row.line c.loop-row.heights.items (seen c.loop-row.before) c.row-item.result
+    c.height_over-height.result c.in_ok-text.text.items (c.loop-row.line + c.lines_of-line.result) c.push.new.self.items c.in_ok-fault.fault (omega arith) c.row-item.is c.loop-row.invariant
+    (c.height_over-height.ensures.value ∙ ap (λ hs. height_over hs c.items.result.now) c.as_slice.ensures.value ∙ ap (height_over c.loop-row.heights.items) c.items.ensures) c.in_ok-text.ensures
+    (omega (arith, c.height_over-height.ensures.low, ap length c.as_slice.ensures.value)) (sym c.if-is_some.ensures) c.in_ok-fault.ensures (ap (λ m. c.loop-row.line + m) c.lines_of-line.ensures) c.in_ok-push.ensures.items
 
 pub returns : goal.returns
 returns c = walked_end c.args.names.now c.args.params.now c.args.rows.now c.loop-row.row-index c.loop-row.line c.loop-row.heights.items (seen c.loop-row.before) (omega arith) c.loop-row.invariant

@@ -16,10 +16,12 @@ loop-word-smaller c = omega (arith, cut_shorter 32 c.loop-word.rest.now c.in-Som
 pub loop-word-preserved : goal.loop-word-preserved
 loop-word-preserved c =
     ap (λ xs. with_items xs (each (event_of c.args.names.now c.args.params.now) (words c.in-Some.others.now))) c.in_ok-push.ensures.ok
-    ∙ each_goes (event_of c.args.names.now c.args.params.now) c.loop-word.events c.loop-word.rest.now c.in-Some.word.now c.in-Some.others.now c.in-Some-event_of.event (each (event_of c.args.names.now c.args.params.now) (items_of c.args.text.now)) c.in-Some.ensures (sym c.in-Some-event_of.ensures) c.loop-word.invariant
+    ∙ each_goes (event_of c.args.names.now c.args.params.now) c.loop-word.events c.loop-word.rest.now c.in-Some.word.now c.in-Some.others.now c.in-Some-event_of.event
+    (each (event_of c.args.names.now c.args.params.now) (items_of c.args.text.now)) c.in-Some.ensures (sym c.in-Some-event_of.ensures) c.loop-word.invariant
 
 pub returns-in_default-event_of : goal.returns-in_default-event_of
-returns-in_default-event_of c = each_stops (event_of c.args.names.now c.args.params.now) c.loop-word.events c.loop-word.rest.now c.in-Some.word.now c.in-Some.others.now (each (event_of c.args.names.now c.args.params.now) (items_of c.args.text.now)) c.in-Some.ensures (sym c.in_default-event_of.ensures) c.loop-word.invariant
+returns-in_default-event_of c = each_stops (event_of c.args.names.now c.args.params.now) c.loop-word.events c.loop-word.rest.now c.in-Some.word.now c.in-Some.others.now
+    (each (event_of c.args.names.now c.args.params.now) (items_of c.args.text.now)) c.in-Some.ensures (sym c.in_default-event_of.ensures) c.loop-word.invariant
 
 pub returns-in_default-event_of-2 : goal.returns-in_default-event_of-2
 returns-in_default-event_of-2 c = each_fails (event_of c.args.names.now c.args.params.now) c.loop-word.events c.loop-word.rest.now (each (event_of c.args.names.now c.args.params.now) (items_of c.args.text.now)) c.in_default.ensures (sym c.in_default-event_of-2.ensures) c.loop-word.invariant

@@ -21,7 +21,8 @@ loop-line-smaller c = rows_smaller c.args.names.now c.args.params.now (length c.
 pub loop-line-preserved : goal.loop-line-preserved
 loop-line-preserved c = record {
   so_far = rows_goes c.args.names.now c.args.params.now (length (rows c.args.text.now)) (length c.items.result.now) c.loop-line.found _ (rows c.loop-line.rest.now) c.in-Some.line.now (rows c.in-Some.after.now) c.in_ok-row.row (rows c.in_ok-row.left.now)
-      (rows_in c.args.names.now c.args.params.now (length (rows c.args.text.now)) 0 (rows c.args.text.now)) c.in-Some.ensures.0 (ap length c.items.ensures) c.loop-line.invariant.fits (sym c.is_row.ensures ∙ c.if-not-is_row.false) c.in_ok-row.ensures c.in_ok-push.ensures.ok c.loop-line.invariant.so_far;
+      (rows_in c.args.names.now c.args.params.now (length (rows c.args.text.now)) 0 (rows c.args.text.now)) c.in-Some.ensures.0 (ap length c.items.ensures)
+      c.loop-line.invariant.fits (sym c.is_row.ensures ∙ c.if-not-is_row.false) c.in_ok-row.ensures c.in_ok-push.ensures.ok c.loop-line.invariant.so_far;
   fits = rows_fit c.args.names.now c.args.params.now (length (rows c.args.text.now)) (length c.items.result.now) c.loop-line.found _ (rows c.loop-line.rest.now) c.in-Some.line.now (rows c.in-Some.after.now) c.in_ok-row.row (rows c.in_ok-row.left.now)
       c.in-Some.ensures.0 c.loop-line.invariant.fits c.in_ok-row.ensures c.in_ok-push.ensures.ok;
 }

@@ -3,12 +3,12 @@ use Rattle.std.proofs.lemmas.Bool.{eq-eqb}
 use Rattle.occ_lex.specs.Rows.{rows}
 use Rattle.occ_syntax.specs.Counts.{bits_of_scope}
 use Rattle.occ_nform_table.specs.Judging.{is_none}
-use Rattle.occ_nform_read.proofs.Powers.{power_fits}
+use Rattle.occ_nform_table.proofs.Powers.{power_fits}
 use Rattle.occ_nform_read.proofs.Whole.{nothing_left}
 use Rattle.occ_nform_read.proofs.text.is_whole.Goals as goal
 
-pub returns-then-states-bits_of : goal.returns-then-states-bits_of
-returns-then-states-bits_of c =
-    let count : length c.args.states.now ≡ 2 ^ bits_of_scope c.args.params.now = c.if-states-bits_of.true ∙ ap (λ b. 1 * 2 ^ b % 18446744073709551616) c.bits_of.ensures ∙ power_fits (bits_of_scope c.args.params.now) c.requires in
+pub returns-then-states-interface_bits : goal.returns-then-states-interface_bits
+returns-then-states-interface_bits c =
+    let count : length c.args.states.now ≡ 2 ^ bits_of_scope c.args.params.now = c.if-states-interface_bits.true ∙ ap (λ b. 1 * 2 ^ b % 18446744073709551616) c.interface_bits.ensures ∙ power_fits (bits_of_scope c.args.params.now) c.requires in
     c.is_empty.ensures ∙ sym (nothing_left c.args.rest.now)
     ∙ sym (ap (λ b. b && is_none (rows c.args.rest.now)) (eq-eqb (length c.args.states.now) (2 ^ bits_of_scope c.args.params.now) count))

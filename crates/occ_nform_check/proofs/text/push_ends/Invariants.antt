@@ -1,7 +1,0 @@
-use Rattle.std.proofs.Common.{◌≡◌, ◌++◌, take}
-use Rattle.std.specs.List.{flat_map}
-use Rattle.occ_nform_check.specs.Marks.{end_text}
-use Rattle.occ_nform_check.proofs.text.push_ends.Given as goal
-
-abbrev pub invariant-loop-end : goal.invariant-loop-end
-invariant-loop-end l = l.text.items ≡ l.fn.text.items ++ flat_map end_text (take l.end-index l.ends)

@@ -1,7 +1,0 @@
-use Rattle.std.proofs.Common.{◌≡◌, ◌++◌, take}
-use Rattle.std.specs.List.{flat_map}
-use Rattle.occ_nform_number.specs.Lines.{accept_line}
-use Rattle.occ_nform_number.proofs.text.push_accepts.Given as goal
-
-abbrev pub invariant-loop-set : goal.invariant-loop-set
-invariant-loop-set l = l.text.items ≡ l.fn.text.items ++ flat_map (accept_line l.names) (take l.set-index l.accepts)

@@ -1,7 +1,0 @@
-use Rattle.std.proofs.Common.{◌≡◌, ◌++◌, take}
-use Rattle.std.specs.List.{flat_map}
-use Rattle.occ_nform_number.specs.Lines.{end_line}
-use Rattle.occ_nform_number.proofs.text.push_ends.Given as goal
-
-abbrev pub invariant-loop-state : goal.invariant-loop-state
-invariant-loop-state l = l.text.items ≡ l.fn.text.items ++ flat_map end_line (take l.state-index l.ends)

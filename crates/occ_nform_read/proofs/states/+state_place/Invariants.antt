@@ -1,5 +1,0 @@
-use Rattle.std.proofs.Common.{length}
-use Rattle.occ_nform_read.proofs.states.+state_place.Given as goal
-
-abbrev pub decreases-state_place : goal.decreases-state_place
-decreases-state_place l = length l.params.now
