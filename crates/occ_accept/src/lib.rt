@@ -7,8 +7,6 @@ mod compared;
 mod law;
 mod pairs;
 mod set;
-#[cfg(test)]
-mod tests;
 
 pub use antichain::{Antichain, join, least, without};
 pub use law::refusals_tell_antichains;

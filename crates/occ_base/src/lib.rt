@@ -5,8 +5,6 @@ mod event;
 mod list;
 mod memory;
 mod names;
-#[cfg(test)]
-mod tests;
 mod width;
 
 pub use event::{Dir, Event};

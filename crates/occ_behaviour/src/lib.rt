@@ -4,8 +4,6 @@
 
 mod behaviour;
 mod places;
-#[cfg(test)]
-mod tests;
 mod text;
 
 pub use behaviour::{Behaviour, Last, Side, Verdict};

@@ -4,7 +4,5 @@
 
 mod claim;
 mod lines;
-#[cfg(test)]
-mod tests;
 
 pub use claim::{ClaimFault, read};

@@ -8,8 +8,6 @@ mod expr;
 mod law;
 mod layout;
 mod named;
-#[cfg(test)]
-mod tests;
 
 pub use digits::WordBits;
 pub use equal::equal_under;

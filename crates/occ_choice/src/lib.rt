@@ -5,8 +5,6 @@ mod alternatives;
 mod branch;
 mod join;
 mod prefix;
-#[cfg(test)]
-mod tests;
 mod unions;
 mod unite;
 

@@ -4,8 +4,6 @@
 mod law;
 mod set;
 mod store;
-#[cfg(test)]
-mod tests;
 
 pub use law::sets_have_one_number;
 pub use set::SetId;

@@ -4,8 +4,6 @@
 mod desk;
 mod memory;
 mod real;
-#[cfg(test)]
-mod tests;
 
 pub use desk::{Desk, ReadError, WriteFailed, send};
 pub use memory::MemoryDesk;

@@ -7,8 +7,6 @@ mod law;
 mod memo;
 mod node;
 mod table;
-#[cfg(test)]
-mod tests;
 
 pub use label::Label;
 pub use law::functions_have_one_number;

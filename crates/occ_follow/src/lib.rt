@@ -5,8 +5,6 @@ mod calls;
 mod following;
 mod follows;
 mod nexts;
-#[cfg(test)]
-mod tests;
 
 pub use calls::{follow, follow_with};
 pub use follows::Follows;

@@ -10,8 +10,6 @@ mod fault;
 mod line;
 mod program;
 mod shape;
-#[cfg(test)]
-mod tests;
 
 pub use fault::GenFault;
 pub use program::generate;

@@ -8,8 +8,6 @@ mod combine;
 mod law;
 mod map;
 mod maps;
-#[cfg(test)]
-mod tests;
 
 pub use both::Both;
 pub use law::maps_have_one_number;

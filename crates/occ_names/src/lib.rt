@@ -10,8 +10,6 @@ mod name_set;
 mod renaming;
 mod replace;
 mod substitution;
-#[cfg(test)]
-mod tests;
 
 pub use end_set::EndSet;
 pub use listing::{ends, free, written};

@@ -6,8 +6,6 @@ mod params;
 mod reading;
 mod sections;
 mod states;
-#[cfg(test)]
-mod tests;
 mod text;
 mod words;
 

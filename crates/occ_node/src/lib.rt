@@ -10,8 +10,6 @@ mod node;
 mod offers;
 mod root;
 mod row;
-#[cfg(test)]
-mod tests;
 mod world;
 
 pub use law::{behaviours_have_one_number, rows_are_recovered};

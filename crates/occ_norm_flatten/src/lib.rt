@@ -2,7 +2,5 @@
 #![tactic(auto)]
 
 mod flat;
-#[cfg(test)]
-mod tests;
 
 pub use flat::flattened;

@@ -8,8 +8,6 @@ mod nodes;
 mod sequel;
 mod simple;
 mod step;
-#[cfg(test)]
-mod tests;
 
 pub use bits::{choose, cofactor, constant, depends, flip};
 pub use calls::{finished, merged, prefixed, shifted, united, woven};

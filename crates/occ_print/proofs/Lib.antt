@@ -3,4 +3,3 @@ pub mod Texts
 pub mod Naming
 pub mod Parts
 pub mod Counting
-pub mod Below

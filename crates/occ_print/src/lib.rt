@@ -6,16 +6,12 @@
 #![tactic(auto)]
 
 mod expression;
-#[cfg(test)]
-mod known;
 mod level;
 mod line;
 mod part;
 mod program;
 mod simple;
 mod spelling;
-#[cfg(test)]
-mod tests;
 mod widest;
 
 pub use program::{print, print_part};

@@ -9,8 +9,6 @@ mod changing;
 mod forgets;
 mod restricts;
 mod shifts;
-#[cfg(test)]
-mod tests;
 
 pub use calls::{forget, forget_with, restrict, restrict_with, shift, shift_with};
 pub use forgets::Forgets;

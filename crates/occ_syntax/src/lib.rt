@@ -8,8 +8,6 @@ mod law;
 mod proc;
 mod same;
 mod scope;
-#[cfg(test)]
-mod tests;
 
 pub use counts::{controls, interface_bits, scope_bits};
 pub use expr::{Expr, Exprs, Guard, NameList, Op, Wait};

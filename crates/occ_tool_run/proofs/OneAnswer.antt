@@ -35,7 +35,8 @@ use Rattle.occ_tool_run.specs.declared.answer.Answer.TheVariants.{Usage, Refused
 use Rattle.occ_tool_run.specs.Files.{Files}
 use Rattle.occ_tool_run.specs.Texts.{status_of, text_of}
 use Rattle.occ_tool_run.specs.Accepts.{ReadsAs, IsAccepted, IsRefused, IsUnusable, node_of}
-use Rattle.occ_tool_run.specs.Answers.{Takes, refused, unusable, accepted, Compares, apart, compared, Settles, IsNormalised, Normalises, IsChecked, too_long_table, faulty_table, normal_table, Checks, IsJudged, too_long_claim, faulty_claim, judged_claim, Judges, IsStressed, Stresses, IsAnswer, usage, comparison, normalisation, checking, membership, stressing, Answers}
+use Rattle.occ_tool_run.specs.Answers.{Takes, refused, unusable, accepted, Compares, apart, compared, Settles, IsNormalised, Normalises, IsChecked, too_long_table, faulty_table, normal_table, Checks}
+use Rattle.occ_tool_run.specs.Answers.{IsJudged, too_long_claim, faulty_claim, judged_claim, Judges, IsStressed, Stresses, IsAnswer, usage, comparison, normalisation, checking, membership, stressing, Answers}
 use Rattle.occ_tool_run.proofs.Once.{IsOneReading, IsOnce, IsOneText, faultless}
 
 some_is : {X : Type 0} (x y : X) → Some x ≡ Some y → x ≡ y

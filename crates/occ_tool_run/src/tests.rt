@@ -313,9 +313,20 @@ const CHOICE: &str =
 const NORMAL: &str =
     "occam-normal 1\nPARAM CHAN OF BOOL a!\nPARAM CHAN OF BOOL b!\nROW 0\nEND []\nROW 1\nACCEPT {a!1}\nOFFER a!1 0\nOFFER b!1 0\nSTATE [] 1\n";
 
+// States are ordered by their values from the left; in an assignment the first variable has the lowest bit.
+const ONE_OF_TWO: &str =
+    "PROC p (BOOL x, y)\n  ALT\n    TRUE & SKIP\n      x, y := TRUE, FALSE\n    TRUE & SKIP\n      x, y := FALSE, TRUE\n:\n";
+
+const ONE_OF_TWO_NORMAL: &str =
+    "occam-normal 1\nPARAM BOOL x\nPARAM BOOL y\nROW 0\nEND [0 1]\nEND [1 0]\nSTATE [0 0] 0\nSTATE [0 1] 0\nSTATE [1 0] 0\nSTATE [1 1] 0\n";
+
 #[test]
 fn a_normal_text_is_written(rt: HostRuntime) -> Result<(), Fail> {
-    for (program, status, text) in [(CHOICE, 0, NORMAL), ("x", 3, "REFUSED FIRST 1 Form\n")] {
+    for (program, status, text) in [
+        (CHOICE, 0, NORMAL),
+        (ONE_OF_TWO, 0, ONE_OF_TWO_NORMAL),
+        ("x", 3, "REFUSED FIRST 1 Form\n"),
+    ] {
         let words = ["occam", "normalise", "A"].as_slice();
         let (answer, desk) = command(rt.alloc(), words, program, "")?;
         assert_eq!(rt; answer, status);
@@ -339,6 +350,11 @@ fn a_normal_text_is_told_from_others(rt: HostRuntime) -> Result<(), Fail> {
             3,
             "REFUSED FIRST ROW 0 Empty\n",
         ),
+        (
+            "occam-normal 1\nROW 0\nACCEPT {}\nROW 1\nEND []\nSTATE [] 1\n",
+            3,
+            "REFUSED FIRST ROW 0 Unreached\n",
+        ),
     ] {
         let words = ["occam", "normal", "A"].as_slice();
         let (answer, desk) = command(rt.alloc(), words, text, "")?;
@@ -347,6 +363,9 @@ fn a_normal_text_is_told_from_others(rt: HostRuntime) -> Result<(), Fail> {
     }
     Ok(())
 }
+
+// Where x begins makes no difference, and so not more runs.
+const WIDE: &str = "PROC p (WORD3 y, CHAN OF WORD3 c?)\n  WORD3 x:\n  c ? x\n:\n";
 
 #[test]
 fn a_behaviour_belongs_or_not(rt: HostRuntime) -> Result<(), Fail> {
@@ -360,6 +379,8 @@ fn a_behaviour_belongs_or_not(rt: HostRuntime) -> Result<(), Fail> {
             3,
             "REFUSED SECOND 2 Form\n",
         ),
+        (WIDE, "STATE [2]\nTRACE c?3\nENDS [2]\n", 0, "YES\n"),
+        (WIDE, "STATE [2]\nTRACE\nREFUSES {c?7}\n", 1, "NO\n"),
         ("x", "", 3, "REFUSED FIRST 1 Form\n"),
     ] {
         let words = ["occam", "belongs", "A", "B"].as_slice();

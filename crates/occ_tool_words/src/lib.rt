@@ -4,8 +4,6 @@
 #![tactic(auto)]
 
 mod stages;
-#[cfg(test)]
-mod tests;
 mod words;
 
 pub use words::{Command, command_in};

@@ -9,8 +9,6 @@ mod keeping;
 mod kinds;
 mod share;
 mod sharing;
-#[cfg(test)]
-mod tests;
 mod types;
 mod typing;
 

@@ -9,8 +9,6 @@ mod merge;
 mod resting;
 mod steady;
 mod step;
-#[cfg(test)]
-mod tests;
 mod weaves;
 mod weaving;
 

@@ -1,0 +1,11 @@
+use Rattle.std.proofs.Common.{◌<◌, List, refl, subst}
+use Rattle.std.specs.List.{AllByRecursion}
+use Rattle.occ_base.specs.declared.names.Name.{Name}
+use Rattle.occ_syntax.specs.declared.scope.Kind.{Kind}
+use Rattle.occ_core_tests.proofs.Below.{program_within}
+use Rattle.occ_core_tests.proofs.tests.print.printed.Goals as goal
+
+pub print-requires : goal.print-requires
+print-requires c =
+    let params = subst (λ (ps : List (Name × Kind)). AllByRecursion (λ (p : Name × Kind). p.0.0 < c.in_ok-last.last.0) ps) c.items.ensures (c.if-params_below.ensures refl) in
+    program_within _ _ _ _ _ c.in_ok-last.ensures c.if-program-last.true params (c.if-part_below.ensures refl)

@@ -1,0 +1,14 @@
+mod base;
+mod behaviour;
+mod behaviour_read;
+mod desk;
+mod generated;
+mod known;
+mod member_runs;
+mod names;
+mod nform_read;
+mod nform_table;
+mod print;
+mod syntax;
+mod tool_words;
+mod usage;

@@ -1,0 +1,13 @@
+mod accept;
+mod bits;
+mod choice;
+mod dd;
+mod diagram;
+mod events;
+mod follow;
+mod mdd;
+mod node;
+mod norm_flatten;
+mod norm_maps;
+mod scope;
+mod weave;

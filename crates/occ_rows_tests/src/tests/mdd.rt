@@ -1,0 +1,115 @@
+ghost use Rattle.std.specs.Prelude.{◌≡◌, ⊤, IfOk};
+ghost use Rattle.occ_dd.specs.Store.{IsKnown};
+
+use occ_base::Memory;
+use occ_dd::{SetId, Store};
+use occ_mdd::{Both, Maps};
+
+// The first of two labels.
+#[derive(Drop)]
+struct First;
+
+impl Both<bool> for First {
+    ghost accepts = { λ f x. ⊤ };
+
+    ghost relates = { λ f a b r. r ≡ a };
+
+    ghost leads = { λ f g. ⊤ };
+
+    ghost leads_refl = { λ f. tt };
+
+    ghost leads_trans = { λ f g h p q. tt };
+
+    ghost accepts_later = { λ f g x p q. tt };
+
+    ghost relates_later = { λ f g x y z p q. q };
+
+    fn both(&mut self, a: Option<bool>, _b: Option<bool>) -> Result<Option<bool>, Memory>
+        ensures leads { ⊤ }
+        ensures relates { IfOk result (λ r. r ≡ a) }
+    {
+        Ok(a)
+    }
+}
+
+#[test]
+fn a_bit_chooses(rt: HostRuntime) -> Result<(), Memory> {
+    let mut store = Store::new(rt.alloc())?;
+    let mut maps = Maps::new(rt.alloc());
+    let bit = store.bit(0)?;
+    let label = maps.constant(Some(true))?;
+    let none = maps.constant(None)?;
+    let map = maps.ite(&mut store, bit, label, none)?;
+    assert_eq!(rt; maps.get(map, 1), Some(true));
+    assert_eq!(rt; maps.get(map, 0), None);
+    Ok(())
+}
+
+#[test]
+fn a_flip_turns_the_bit(rt: HostRuntime) -> Result<(), Memory> {
+    let mut store = Store::new(rt.alloc())?;
+    let mut maps = Maps::new(rt.alloc());
+    let bit = store.bit(0)?;
+    let label = maps.constant(Some(true))?;
+    let none = maps.constant(None)?;
+    let map = maps.ite(&mut store, bit, label, none)?;
+    let turned = maps.flip(map, 0)?;
+    assert_eq!(rt; maps.get(turned, 1), None);
+    assert_eq!(rt; maps.get(turned, 0), Some(true));
+    Ok(())
+}
+
+#[test]
+fn the_first_of_a_map_and_itself(rt: HostRuntime) -> Result<(), Memory> {
+    let mut store = Store::new(rt.alloc())?;
+    let mut maps = Maps::new(rt.alloc());
+    let bit = store.bit(0)?;
+    let label = maps.constant(Some(true))?;
+    let none = maps.constant(None)?;
+    let map = maps.ite(&mut store, bit, label, none)?;
+    assert_eq!(rt; maps.apply2(map, map, &mut First)?, map);
+    Ok(())
+}
+
+// The assignments with an odd number of ones among 40 bits, of which a table would have 2^40 rows.
+fn odd_of_forty(store: &mut Store) -> Result<SetId, Memory>
+    ensures { IfOk result (IsKnown store.new) }
+{
+    let mut odd = store.empty();
+    for k in 0..40 {
+        let bit = store.bit(k)?;
+        let even = store.not(odd)?;
+        odd = store.ite(bit, even, odd)?;
+    }
+    Ok(odd)
+}
+
+#[test]
+fn a_set_of_forty_bits_chooses(rt: HostRuntime) -> Result<(), Memory> {
+    let mut store = Store::new(rt.alloc())?;
+    let mut maps = Maps::new(rt.alloc());
+    let odd = odd_of_forty(&mut store)?;
+    // nothing and all; each bit; odd and even of so many bits, which are the bit itself where it is one
+    assert_eq!(rt; store.sets(), 2 + 40 + 39 + 39);
+    let label = maps.constant(Some(true))?;
+    let none = maps.constant(None)?;
+    let map = maps.ite(&mut store, odd, label, none)?;
+    assert_eq!(rt; maps.get(map, 7), Some(true));
+    assert_eq!(rt; maps.get(map, 0), None);
+    Ok(())
+}
+
+#[test]
+fn one_label_on_a_bit(rt: HostRuntime) -> Result<(), Memory> {
+    let mut store = Store::new(rt.alloc())?;
+    let mut maps = Maps::new(rt.alloc());
+    let bit = store.bit(0)?;
+    let label = maps.constant(Some(true))?;
+    let none = maps.constant(None)?;
+    let map = maps.ite(&mut store, bit, label, none)?;
+    assert_eq!(rt;
+        maps.leaves_under(&mut store, map, bit)?.as_slice(),
+        [true].as_slice()
+    );
+    Ok(())
+}

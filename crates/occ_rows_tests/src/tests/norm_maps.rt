@@ -1,0 +1,37 @@
+use crate::tests::events::A;
+use occ_base::Memory;
+use occ_node::World;
+use occ_norm_maps::{cofactor, merged, prefixed, shifted, skip, stop};
+
+#[test]
+fn a_shift_and_back(rt: HostRuntime) -> Result<(), Memory> {
+    let alloc = rt.alloc();
+    let mut world = World::new(alloc)?;
+    let ended = skip(alloc, &mut world, 3)?;
+    let there = shifted(alloc, &mut world, ended, 2)?;
+    let back = shifted(alloc, &mut world, there, 2)?;
+    assert!(rt; there != ended);
+    assert_eq!(rt; back, ended);
+    Ok(())
+}
+
+#[test]
+fn the_sides_of_a_bit(rt: HostRuntime) -> Result<(), Memory> {
+    let alloc = rt.alloc();
+    let mut world = World::new(alloc)?;
+    let stopped = stop(alloc, &mut world)?;
+    let before = prefixed(alloc, &mut world, stopped, A)?;
+    let one = cofactor(&mut world, before, 0, true)?;
+    assert_eq!(rt; one, before);
+    Ok(())
+}
+
+#[test]
+fn an_offer_beside_stop(rt: HostRuntime) -> Result<(), Memory> {
+    let alloc = rt.alloc();
+    let mut world = World::new(alloc)?;
+    let stopped = stop(alloc, &mut world)?;
+    let both = merged(alloc, &mut world, stopped, stopped)?;
+    assert_eq!(rt; both, stopped);
+    Ok(())
+}
