@@ -5,10 +5,7 @@ use Rattle.occ_scope.specs.declared.change.Change.TheVariants.{Shift}
 use Rattle.occ_scope.specs.declared.shifts.Shifts.{Shifts}
 use Rattle.occ_scope.proofs.Altering.{are_changed_later}
 
-<<<<<<< HEAD
-=======
 -- what is remembered stays right as the world grows
->>>>>>> 2c1564ff (scope, weave: three lemmas that nothing cites are gone)
 pub shifts-lead : (v w : World) (shifts : Shifts) → Leads v w → KeepShifted v shifts → KeepShifted w shifts
 unfolding KeepShifted
 shifts-lead v w shifts k keep = are_changed_later v w k (Shift 0) shifts.memo keep
