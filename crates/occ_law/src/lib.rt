@@ -1,0 +1,9 @@
+//! The table of the laws: their names and numbers, and the macros that take parts apart for a law.
+#![tactic(auto)]
+
+mod macros;
+mod table;
+#[cfg(test)]
+mod tests;
+
+pub use table::{Cases, LawId, TABLE, find, name, names_are_distinct};
