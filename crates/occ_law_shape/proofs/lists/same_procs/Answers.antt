@@ -1,0 +1,10 @@
+use Rattle.occ_syntax.specs.View.{trees}
+use Rattle.occ_syntax.proofs.Rows.{refuted}
+use Rattle.occ_law_shape.proofs.Fronts.{never_same, same_where_none, test_of}
+use Rattle.occ_law_shape.proofs.lists.same_procs.Goals as goal
+
+pub returns-in-Some : goal.returns-in-Some
+returns-in-Some c = same_where_none (trees c.args.left.now) (trees c.args.right.now) c.in-Some.rest.now _ c.in-Some.ensures (test_of _ _ c.is_empty.ensures)
+
+pub returns-in-None : goal.returns-in-None
+returns-in-None c = refuted (never_same (trees c.args.left.now) (trees c.args.right.now) c.in-None.ensures)

@@ -1,0 +1,22 @@
+-- The parts that a list has, what stands behind the front of a list, and expressions that are variables.
+use Rattle.std.specs.Prelude.{◌≡◌, ℕ, List, Option, None, Some}
+use Rattle.std.specs.Borrow.{Bor}
+use Rattle.occ_syntax.specs.declared.proc.Proc.{Proc}
+use Rattle.occ_syntax.specs.Tree.{Tree, Trees}
+use Rattle.occ_syntax.specs.View.{tree, trees}
+use Rattle.occ_meaning.specs.Parallel.{all_of, one, two}
+
+-- the list has one part, which is this; or it hasn't one
+abbrev pub IsOnly : Trees → Option (Bor Proc) → Type 0
+IsOnly ps None = (p : Tree) → ps ≡ one p → ⊥
+IsOnly ps (Some found) = ps ≡ one (tree found.now)
+
+-- the list has two parts, which are these; or it hasn't two
+abbrev pub IsPair : Trees → Option (Bor Proc × Bor Proc) → Type 0
+IsPair ps None = (p q : Tree) → ps ≡ two p q → ⊥
+IsPair ps (Some found) = ps ≡ two (tree found.0.now) (tree found.1.now)
+
+-- the list begins with these parts, and has this rest; or it doesn't begin so
+abbrev pub IsBehind : Trees → Trees → Option (Bor (List Proc)) → Type 0
+IsBehind first all None = (rest : Trees) → all ≡ all_of first rest → ⊥
+IsBehind first all (Some found) = all ≡ all_of first (trees found.now)
