@@ -1,8 +1,7 @@
 -- The front of a slice, as a list of trees.
-use Rattle.std.proofs.Common.{◌≡◌, ℕ, ◌+◌, ◌<◌, ◌-◌, ◌==◌, ◌↔◌, Bool, IsTrue, List, [], ◌∷◌, length, get_or, take, drop, arith, refl, ap, sym, ◌∙◌}
+use Rattle.std.proofs.Common.{◌≡◌, ℕ, ◌<◌, ◌-◌, ◌==◌, ◌↔◌, Bool, IsTrue, List, [], ◌∷◌, length, get_or, take, drop, arith, refl, ap, sym, ◌∙◌}
 use Rattle.std.proofs.Math.Seq.{take-length}
 use Rattle.std.proofs.lemmas.Bool.{eqb-true}
-use Rattle.occ_base.specs.declared.names.Name.{Name}
 use Rattle.occ_syntax.specs.declared.expr.Expr.{Expr}
 use Rattle.occ_syntax.specs.declared.expr.Guard.{Guard}
 use Rattle.occ_syntax.specs.declared.proc.Proc.{Proc}

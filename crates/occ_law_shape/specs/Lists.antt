@@ -1,5 +1,5 @@
 -- The parts that a list has, what stands behind the front of a list, and expressions that are variables.
-use Rattle.std.specs.Prelude.{◌≡◌, ℕ, List, Option, None, Some}
+use Rattle.std.specs.Prelude.{◌≡◌, List, Option, None, Some}
 use Rattle.std.specs.Borrow.{Bor}
 use Rattle.occ_syntax.specs.declared.proc.Proc.{Proc}
 use Rattle.occ_syntax.specs.Tree.{Tree, Trees}

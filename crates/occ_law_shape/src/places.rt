@@ -1,6 +1,6 @@
 ghost use Rattle.std.specs.Prelude.{◌↔◌, IsTrue};
-ghost use Rattle.occ_syntax.specs.Tree.{Trees, no_tree};
-ghost use Rattle.occ_syntax.specs.View.{trees};
+ghost use Rattle.occ_syntax.specs.Tree.{Trees, and_tree, no_tree};
+ghost use Rattle.occ_syntax.specs.View.{tree, trees};
 ghost use Rattle.occ_law_shape.specs.Places.{Somewhere};
 
 use occ_syntax::{Proc, same_proc};
@@ -10,9 +10,9 @@ use occ_syntax::{Proc, same_proc};
 pub trait Place {
     ghost joins: { Self → Trees → Trees → Type 0 };
 
-    /// Whether the place is here, at the beginning of both lists.
-    fn holds(&self, parts: &[Proc], others: &[Proc]) -> bool
-        ensures { IsTrue result ↔ joins self.now (trees parts.now) (trees others.now) };
+    /// Whether the place is here: at the beginning of a list, given as its first part and the rest, and of the other list.
+    fn holds(&self, first: &Proc, rest: &[Proc], others: &[Proc]) -> bool
+        ensures { IsTrue result ↔ joins self.now (and_tree (tree first.now) (trees rest.now)) (trees others.now) };
 
     ghost starts: { (place : Self) (us : Trees) → joins place no_tree us → ⊥ };
 }
@@ -24,7 +24,7 @@ pub fn somewhere<P: Place>(place: &P, parts: &[Proc], others: &[Proc]) -> bool
     let mut rest = parts;
     let mut other_rest = others;
     while let [first, behind @ ..] = rest {
-        if place.holds(rest, other_rest) {
+        if place.holds(first, behind, other_rest) {
             return true;
         }
         let [other, other_behind @ ..] = other_rest else {

@@ -1,5 +1,4 @@
 use Rattle.std.proofs.Common.{◌<◌, length, arith}
-use Rattle.occ_syntax.specs.View.{trees}
 use Rattle.occ_law_shape.proofs.Fronts.{behind_differs, behind_ends, behind_step, behind_whole, trees_end, trees_front}
 use Rattle.occ_law_shape.proofs.lists.behind.Goals as goal
 

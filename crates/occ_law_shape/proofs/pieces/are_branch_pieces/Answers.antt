@@ -1,5 +1,4 @@
 use Rattle.std.proofs.Common.{◌<◌, length, arith}
-use Rattle.occ_syntax.specs.View.{branches}
 use Rattle.occ_syntax.proofs.Rows.{refuted}
 use Rattle.occ_law_shape.proofs.Fronts.{branch_differs, branch_ends, branch_step, branches_end, branches_front, branches_whole, test_of}
 use Rattle.occ_law_shape.proofs.pieces.are_branch_pieces.Goals as goal

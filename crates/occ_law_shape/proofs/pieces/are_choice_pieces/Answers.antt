@@ -1,5 +1,4 @@
 use Rattle.std.proofs.Common.{◌<◌, length, arith}
-use Rattle.occ_syntax.specs.View.{cases}
 use Rattle.occ_syntax.proofs.Rows.{refuted}
 use Rattle.occ_law_shape.proofs.Fronts.{cases_end, cases_front, cases_whole, choice_differs, choice_ends, choice_step, test_of}
 use Rattle.occ_law_shape.proofs.pieces.are_choice_pieces.Goals as goal
