@@ -3,12 +3,14 @@
 //! declaration governs has the number 0.
 #![tactic(auto)]
 
+mod direction;
 mod laws;
 mod part;
 #[cfg(test)]
 mod tests;
 mod text;
 
+pub use direction::Direction;
 pub use laws::{same_parts_make_same_programs, scopes_at_paths};
 pub use part::{at, scope_at};
 pub use text::{cut, path};

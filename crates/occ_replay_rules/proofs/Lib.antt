@@ -1,0 +1,3 @@
+pub mod Deriving
+pub mod Stopping
+pub mod Answering
