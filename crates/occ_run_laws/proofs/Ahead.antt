@@ -7,7 +7,7 @@ use Rattle.occ_syntax.specs.Meaning.{Followed, Meaning, Outcome, ended, followed
 use Rattle.occ_syntax.specs.Scopes.{Environment, EventSet, Trace, Values}
 use Rattle.std.proofs.Common.{List, None, Option, Some, ap, false, refl, sym, ℕ, ◌++◌, ◌∙◌, ◌≡◌}
 
-seen_more : (v : Option Event) (a b : Trace) → seen v (a ++ b) ≡ seen v a ++ b
+pub seen_more : (v : Option Event) (a b : Trace) → seen v (a ++ b) ≡ seen v a ++ b
 seen_more None a b = refl
 seen_more (Some e) a b = refl
 

@@ -1,19 +1,15 @@
 -- Changes of variables, and a part of a PAR that ignores them.
-use Rattle.occ_base.specs.declared.event.Event.{Event}
-use Rattle.occ_meaning.proofs.Facts.{at_itself, if_true, false_not_true, value_off, off_turned}
+use Rattle.occ_meaning.proofs.Facts.{at_itself, if_true, value_off, off_turned}
 use Rattle.occ_meaning.proofs.Frame.{KeepsValue}
 use Rattle.occ_meaning.proofs.Moved.{MovedSecond, second_moved, second_moved_back}
 use Rattle.occ_meaning.proofs.OffValues.{Ignores, value_again, value_back}
 use Rattle.occ_meaning.specs.Foundation.{with_result}
-use Rattle.occ_run_steps.specs.Step.{changed, changes_but, seen}
-use Rattle.occ_syntax.specs.Eval.{eval}
-use Rattle.occ_syntax.specs.Meaning.{Combines, Meaning, Outcome, Weave, of_first, of_second, assigned, both_ended, ended, first_ended, join, neither_ended, second_ended}
+use Rattle.occ_run_steps.specs.Step.{changed, changes_but}
+use Rattle.occ_syntax.specs.Meaning.{Combines, Meaning, Outcome, both_ended, ended, first_ended, join, neither_ended, second_ended}
 use Rattle.occ_syntax.specs.Scopes.{Environment, Trace, Values, with_value}
-use Rattle.occ_syntax.specs.Tree.{Exp}
-use Rattle.std.proofs.Common.{Bool, List, None, Option, Some, [], ap, append_assoc, false, if◌then◌else◌, inl, inr, not, refl, subst, sym, true, ℕ, ◌++◌, ◌==◌, ◌∙◌, ◌∷◌, ◌≡◌}
+use Rattle.std.proofs.Common.{Bool, List, [], ap, false, if◌then◌else◌, inl, inr, not, refl, subst, sym, true, ℕ, ◌==◌, ◌∙◌, ◌∷◌, ◌≡◌}
 use Rattle.std.proofs.lemmas.Bool.{eq-eqb, eqb-true}
 use Rattle.std.proofs.lemmas.Bool.Decides.{eqb_tells}
-use Rattle.std.specs.List.{filter}
 use mathlib.Core.Path.{fun_ext}
 
 -- the part neither reads nor writes a variable that is changed

@@ -9,7 +9,7 @@ use Rattle.occ_run_steps.specs.Step.{Step, changed, changes_but, outside, seen, 
 use Rattle.occ_syntax.specs.Meaning.{Meaning, Outcome, ended, refusing}
 use Rattle.occ_syntax.specs.Scopes.{Environment, EventSet, Trace, Values, with_name, with_value}
 use Rattle.occ_syntax.specs.declared.scope.Kind.TheVariants.{Var}
-use Rattle.std.proofs.Common.{Bool, List, Option, [], ap, refl, subst, sym, true, ℕ, ◌∙◌, ◌≡◌}
+use Rattle.std.proofs.Common.{Bool, List, Option, [], ap, subst, sym, true, ℕ, ◌∙◌, ◌≡◌}
 
 held_behind : (Γ : Environment) (s : Values) (x : ℕ) (w : Width) (v : ℕ) (m : Meaning) (u : Option Event) (cs : List (ℕ × ℕ)) (p : Meaning)
     → Sound (with_name Γ x (Var w)) (with_value s x v) m u cs p → (t : Trace) (o : Outcome)

@@ -6,3 +6,11 @@ pub mod OffChannel
 pub mod Held
 pub mod Same
 pub mod SettledMeans
+pub mod Ignoring
+pub mod Lists
+pub mod Less
+pub mod KeptSettled
+pub mod StepKeeps
+pub mod Alternatives
+pub mod Waiting
+pub mod Stepping

@@ -1,13 +1,13 @@
 -- The steps of a meaning with a channel of its own: those of the inside that aren't on the channel.
 use Rattle.occ_base.specs.declared.event.Event.{Event}
 use Rattle.occ_base.specs.declared.width.Width.{Width}
-use Rattle.occ_meaning.proofs.Facts.{and_second, false_not_true}
+use Rattle.occ_meaning.proofs.Facts.{and_second}
 use Rattle.occ_run_laws.proofs.Moves.{AtRest, Sound, Unfolded, Unfolds, ends, moves, waits}
 use Rattle.occ_run_steps.specs.Step.{Step, changed, off, outside, seen}
 use Rattle.occ_syntax.specs.Meaning.{Meaning, Outcome, WithChannel, ended, is_silent, off_channel, over_channel, refusing}
 use Rattle.occ_syntax.specs.Scopes.{Environment, EventSet, Trace, Values, with_name}
 use Rattle.occ_syntax.specs.declared.scope.Kind.TheVariants.{Chan}
-use Rattle.std.proofs.Common.{Bool, List, None, Option, Some, [], ap, false, not, refl, subst, sym, true, ℕ, ◌&&◌, ◌==◌, ◌∷◌, ◌≡◌}
+use Rattle.std.proofs.Common.{Bool, List, None, Option, Some, ap, false, not, refl, subst, true, ℕ, ◌&&◌, ◌==◌, ◌≡◌}
 use Rattle.std.proofs.lemmas.Bool.{and_from, and_parts, not-true}
 
 silent_seen : (c : ℕ) (v : Option Event) (t : Trace) → off c v ≡ true → is_silent c t ≡ true → is_silent c (seen v t) ≡ true

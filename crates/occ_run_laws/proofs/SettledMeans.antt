@@ -9,11 +9,11 @@ use Rattle.occ_run_laws.specs.Controlled.{Holding, all_controlled, controlled, h
 use Rattle.occ_run_steps.specs.Control.{Control, Controls, after, all_done, and_control, both, channel, done, is_done, local, no_control, unbegun}
 use Rattle.occ_run_steps.specs.Settled.{all_settled, begun, begun_all, begun_choice, begun_turn, in_channel, in_variable, settled, side_by_side, then_turn}
 use Rattle.occ_syntax.specs.Eval.{is_true}
-use Rattle.occ_syntax.specs.Meaning.{Meaning, Outcome, WithChannel, at_once, at_the_same_time, beside, beside_all, chosen, ended, first_choice, followed, in_turn, is_silent, meaning, never, off_channel, over_channel, refusing}
+use Rattle.occ_syntax.specs.Meaning.{Meaning, Outcome, WithChannel, at_the_same_time, beside, beside_all, chosen, ended, first_choice, followed, in_turn, is_silent, meaning, never, over_channel, refusing}
 use Rattle.occ_syntax.specs.Scopes.{Environment, EventSet, Trace, Values, with_name, with_value}
 use Rattle.occ_syntax.specs.Tree.{Cases, Exp, Tree, Trees, alt, and_case, and_tree, assign, connect, declare, no_case, no_tree, par, receive, select, send, seq, skip, stop}
 use Rattle.occ_syntax.specs.declared.scope.Kind.TheVariants.{Chan, Var}
-use Rattle.std.proofs.Common.{Bool, MatchBool, None, [], ap, false, if◌then◌else◌, refl, subst, sym, true, ℕ, ◌&&◌, ◌∙◌, ◌≡◌}
+use Rattle.std.proofs.Common.{Bool, MatchBool, None, ap, false, if◌then◌else◌, refl, subst, sym, true, ℕ, ◌∙◌, ◌≡◌}
 use Rattle.std.proofs.lemmas.Bool.{and_parts}
 
 -- ---- where a part is over
