@@ -71,13 +71,23 @@ taken_begins Γ s ready p t u a o at_ready d = record { by = step None [] (unbeg
 taken_begins Γ s ready p t u a o (at_event h) d = absurd h
 taken_begins Γ s (output c z) p t u a o (at_event {e = e} {t = b} h) d =
     let P : Values → Type 0 = λ r. (meaning p).does Γ r b o in
-    record { by = step (Some (record { chan = record { 0 = c }; dir = Output; value = eval Γ z s })) [] (unbegun p); rest = b; member = first;
-      whole = ap (λ f. f ∷ b) h.0; does = subst P h.1 d }
+    record {
+      by = step (Some (record { chan = record { 0 = c }; dir = Output; value = eval Γ z s })) [] (unbegun p);
+      rest = b;
+      member = first;
+      whole = ap (λ f. f ∷ b) h.0;
+      does = subst P h.1 d;
+    }
 taken_begins Γ s (input c x) p t u a o (at_event {e = e} {t = b} h) d =
     let F : ℕ → Step Control = λ v. step (Some (record { chan = record { 0 = c }; dir = Input; value = v })) ((x, v) ∷ []) (unbegun p) in
     let P : Values → Type 0 = λ r. (meaning p).does Γ r b o in
-    record { by = F h.0; rest = b; member = is_mapped F h.0 (values_of (channel_width Γ c)) (value_is (channel_width Γ c) h.0 h.1);
-      whole = ap (λ f. f ∷ b) h.2; does = subst P h.3 d }
+    record {
+      by = F h.0;
+      rest = b;
+      member = is_mapped F h.0 (values_of (channel_width Γ c)) (value_is (channel_width Γ c) h.0 h.1);
+      whole = ap (λ f. f ∷ b) h.2;
+      does = subst P h.3 d;
+    }
 
 goes_begins : (Γ : Environment) (s : Values) (bs : Branches) (t : Trace) (o : Outcome) → (guards bs).goes Γ s t o → Begins (branch_steps Γ s bs) Γ s t o
 goes_begins Γ s no_branch t o d = absurd d
@@ -128,14 +138,14 @@ quiet_from Γ s ready p X h = false_not_true (h (step None [] (unbegun p)) first
 quiet_from Γ s (output c z) p X h = record {
   not_ready = λ i. absurd (cc);
   refused = λ e u a. let P : Event → Type 0 = λ f. X f ≡ false in
-    subst P (sym a.0) (not-true (X (record { chan = record { 0 = c }; dir = Output; value = eval Γ z s })) (h (step (Some (record { chan = record { 0 = c }; dir = Output; value = eval Γ z s })) [] (unbegun p)) first));
+      subst P (sym a.0) (not-true (X (record { chan = record { 0 = c }; dir = Output; value = eval Γ z s })) (h (step (Some (record { chan = record { 0 = c }; dir = Output; value = eval Γ z s })) [] (unbegun p)) first));
 }
 quiet_from Γ s (input c x) p X h =
     let F : ℕ → Step Control = λ v. step (Some (record { chan = record { 0 = c }; dir = Input; value = v })) ((x, v) ∷ []) (unbegun p) in
     record {
       not_ready = λ i. absurd (cc);
       refused = λ e u a. let P : Event → Type 0 = λ f. X f ≡ false in
-        subst P (sym a.2) (not-true (X (record { chan = record { 0 = c }; dir = Input; value = a.0 })) (h (F a.0) (is_mapped F a.0 (values_of (channel_width Γ c)) (value_is (channel_width Γ c) a.0 a.1))));
+          subst P (sym a.2) (not-true (X (record { chan = record { 0 = c }; dir = Input; value = a.0 })) (h (F a.0) (is_mapped F a.0 (values_of (channel_width Γ c)) (value_is (channel_width Γ c) a.0 a.1))));
     }
 
 by_truth : (b : Bool) {P : Type 0} → (b ≡ true → P) → MatchBool b P (Unit {0})
@@ -146,9 +156,10 @@ refuses_from : (Γ : Environment) (s : Values) (bs : Branches) (X : EventSet) �
     → (guards bs).refuses Γ s X
 refuses_from Γ s no_branch X h = tt
 refuses_from Γ s (and_branch e w p bs) X h =
-    let ks : List (Step Control) = if is_true Γ e s then guard_steps Γ s w p else [] in
-    (by_truth (is_true Γ e s) (λ i. quiet_from Γ s w p X (λ k j. h k (is_left k ks (branch_steps Γ s bs) (enable (is_true Γ e s) (guard_steps Γ s w p) k i j)))),
-     refuses_from Γ s bs X (λ k j. h k (is_right k ks (branch_steps Γ s bs) j)))
+    let ks : List (Step Control) = if is_true Γ e s then guard_steps Γ s w p else [] in (
+      by_truth (is_true Γ e s) (λ i. quiet_from Γ s w p X (λ k j. h k (is_left k ks (branch_steps Γ s bs) (enable (is_true Γ e s) (guard_steps Γ s w p) k i j)))),
+      refuses_from Γ s bs X (λ k j. h k (is_right k ks (branch_steps Γ s bs) j)),
+    )
 
 pub alt_at_rest : (Γ : Environment) (s : Values) (bs : Branches) → AtRest Control (λ k. Is k (branch_steps Γ s bs)) false Γ s (alternatives (guards bs))
 alt_at_rest Γ s bs = record { over = λ i. false_not_true i; refused = λ i X out. stable (refuses_from Γ s bs X out) }

@@ -108,9 +108,10 @@ mutual
   control_ignores (both Cs) Θ h x k = all_ignore Cs Θ h x k
   control_ignores (local y w v C) Θ h x k =
       let Δ : Environment = with_name Θ y (Var w) in
-      let j = (and_parts (can_declare Θ y w && nat_lt v (2 ^ bits_of w)) (types_held C Δ) h).1 in
-      (holding_ignores x y w v (controlled C) (λ off. (control_ignores C Δ j x (unless_below Θ x y (Var w) (names_free C x) off k)).0),
-       holding_value x y w v (controlled C) (λ off. (control_ignores C Δ j x (unless_below Θ x y (Var w) (names_free C x) off k)).1))
+      let j = (and_parts (can_declare Θ y w && nat_lt v (2 ^ bits_of w)) (types_held C Δ) h).1 in (
+        holding_ignores x y w v (controlled C) (λ off. (control_ignores C Δ j x (unless_below Θ x y (Var w) (names_free C x) off k)).0),
+        holding_value x y w v (controlled C) (λ off. (control_ignores C Δ j x (unless_below Θ x y (Var w) (names_free C x) off k)).1),
+      )
   control_ignores (channel c w C) Θ h x k =
       let Δ : Environment = with_name Θ c (Chan w None) in
       let j = (and_parts (can_declare Θ c w) (types_held C Δ) h).1 in

@@ -14,3 +14,7 @@ pub mod StepKeeps
 pub mod Alternatives
 pub mod Waiting
 pub mod Stepping
+pub mod Whole
+pub mod Leading
+pub mod Work
+pub mod Complete

@@ -137,9 +137,9 @@ output_keeps Γ s b c z p bs state t kept = record {
   only = tt;
   state = state;
   scope = λ e i.
-    let j = output_types Γ c z t in
-    let P : Event → Type 0 = λ f. in_scope Γ f ≡ true in
-    subst P (some_is i) (in_width (channel_width Γ c) j.1.0 (eval Γ z s) j.1.1 (eval_below Γ s state z j.1.0 j.1.2));
+      let j = output_types Γ c z t in
+      let P : Event → Type 0 = λ f. in_scope Γ f ≡ true in
+      subst P (some_is i) (in_width (channel_width Γ c) j.1.0 (eval Γ z s) j.1.1 (eval_below Γ s state z j.1.0 j.1.2));
   unchanged = λ e i d. refl;
 }
 
@@ -151,8 +151,8 @@ input_keeps Γ s b c x v p bs state t kept fits = record {
   kept = kept;
   only = (or_left ((x == x) || written p x) (written_in_branches bs x) (or_left (x == x) (written p x) (at_itself x)), tt);
   state = value_state Γ s x v state (λ w h.
-    let j = input_types Γ c x t in
-    width_in (channel_width Γ c) w v (j.1.1 ∙ (sym j.1.2 ∙ h)) fits);
+      let j = input_types Γ c x t in
+      width_in (channel_width Γ c) w v (j.1.1 ∙ (sym j.1.2 ∙ h)) fits);
   scope = λ e i. let P : Event → Type 0 = λ f. in_scope Γ f ≡ true in subst P (some_is i) fits;
   unchanged = λ e i d. input_not_output (ap (λ f. f.dir) (some_is i) ∙ d);
 }
@@ -300,7 +300,7 @@ channel_keeps Γ s c w C v cs D kept apart k =
       less = less_channel D C c w k.less;
       kept = kept_channel Γ c w D t.0 k.kept;
       only = only_more (writes C) (writes (channel c w C)) cs (λ x h. and_from (not (x == c)) (writes C x)
-        (not_from_false (x == c) (false_from_ne_true (x == c) (λ i. clash (writes C x) h (unwritten C Δ t.1 x (no_variable_at Γ x c w i))))) h) k.only;
+          (not_from_false (x == c) (false_from_ne_true (x == c) (λ i. clash (writes C x) h (unwritten C Δ t.1 x (no_variable_at Γ x c w i))))) h) k.only;
       state = unconnected_state Γ (changed cs s) c w (fresh_name Γ c w t.0) k.state;
       scope = λ e i. scope_below Γ c (Chan w None) e (off_event c v e apart i) (k.scope e i);
       unchanged = k.unchanged;
@@ -353,8 +353,8 @@ pair_keeps Γ s C Cs u v cs ds D Ds kept k l h = record {
   less = less_both D C Ds Cs k.less l.less;
   kept = kept_and Γ D Ds k.kept l.kept (apart_less D C (both Ds) (both Cs) k.less l.less kept.usage.1.0);
   only = only_joined (writes (both (and_control C Cs))) cs ds
-    (only_more (writes C) (writes (both (and_control C Cs))) cs (λ x i. or_left (writes C x) (some_write Cs x) i) k.only)
-    (only_more (some_write Cs) (writes (both (and_control C Cs))) ds (λ x i. or_right (writes C x) (some_write Cs x) i) l.only);
+      (only_more (writes C) (writes (both (and_control C Cs))) cs (λ x i. or_left (writes C x) (some_write Cs x) i) k.only)
+      (only_more (some_write Cs) (writes (both (and_control C Cs))) ds (λ x i. or_right (writes C x) (some_write Cs x) i) l.only);
   state = joint_state Γ s cs ds k.state l.state (one_unchanged Γ s C (both Cs) u v cs ds D (both Ds) k l h);
   scope = λ e i. none_not_some i;
   unchanged = λ e i d. none_not_some i;
@@ -374,14 +374,24 @@ with_is Γ s ks (and_control D Ds) j i =
     elim (is_either j (map (leaving F) (meetings ks (steps Γ s D))) (map (leaving G) (steps_with Γ s ks Ds)) i) [
       | inl h ↦ (let m = mapped_is (leaving F) j (meetings ks (steps Γ s D)) h in
           let q = meeting_is m.0 ks (steps Γ s D) m.1 in
-          record { one = q.one; other = leaving H q.other; of_one = q.of_one;
+          record {
+            one = q.one;
+            other = leaving H q.other;
+            of_one = q.of_one;
             of_other = is_left (leaving H q.other) (map (leaving H) (steps Γ s D)) (map (leaving L) (alone_steps Γ s Ds)) (is_mapped (leaving H) q.other (steps Γ s D) q.of_other);
-            meets = q.meets; both = m.2 ∙ ap (leaving F) q.both })
+            meets = q.meets;
+            both = m.2 ∙ ap (leaving F) q.both;
+          })
       | inr h ↦ (let m = mapped_is (leaving G) j (steps_with Γ s ks Ds) h in
           let q = with_is Γ s ks Ds m.0 m.1 in
-          record { one = q.one; other = leaving L q.other; of_one = q.of_one;
+          record {
+            one = q.one;
+            other = leaving L q.other;
+            of_one = q.of_one;
             of_other = is_right (leaving L q.other) (map (leaving H) (steps Γ s D)) (map (leaving L) (alone_steps Γ s Ds)) (is_mapped (leaving L) q.other (alone_steps Γ s Ds) q.of_other);
-            meets = q.meets; both = m.2 ∙ ap (leaving G) q.both })
+            meets = q.meets;
+            both = m.2 ∙ ap (leaving G) q.both;
+          })
     ]
 
 mutual
@@ -409,7 +419,7 @@ mutual
       let t = and_parts (can_declare Γ x w && nat_lt v (2 ^ bits_of w)) (types_held C Δ) kept.types in
       let lt : v < 2 ^ bits_of w = ltb-true v (2 ^ bits_of w) (and_parts (can_declare Γ x w) (nat_lt v (2 ^ bits_of w)) t.0).1 in
       subst P (sym m.2) (local_keeps Γ s x w v C m.0.event m.0.changes m.0.next kept state
-        (step_keeps Δ r C (record { types = t.1; usage = kept.usage }) (declared_state Γ s x w v lt state) m.0 m.1))
+      (step_keeps Δ r C (record { types = t.1; usage = kept.usage }) (declared_state Γ s x w v lt state) m.0 m.1))
   step_keeps Γ s (channel c w C) kept state k i =
       let Δ : Environment = with_name Γ c (Chan w None) in
       let F : Control → Control = channel c w in
@@ -418,7 +428,7 @@ mutual
       let P : Step Control → Type 0 = λ j. KeepsAt Γ s (channel c w C) j in
       let t = and_parts (can_declare Γ c w) (types_held C Δ) kept.types in
       subst P (sym m.2) (channel_keeps Γ s c w C m.0.event m.0.changes m.0.next kept f.1
-        (step_keeps Δ s C (record { types = t.1; usage = kept.usage }) (connected_state Γ s c w state) m.0 f.0))
+      (step_keeps Δ s C (record { types = t.1; usage = kept.usage }) (connected_state Γ s c w state) m.0 f.0))
 
   pub alone_keeps : (Γ : Environment) (s : Values) (Cs : Controls) → Kept Γ (both Cs) → IsState Γ s → (k : Step Controls) → Is k (alone_steps Γ s Cs)
       → StepKeeps Γ s (both Cs) k.event k.changes (both k.next)
@@ -445,7 +455,7 @@ mutual
         | inl h ↦ (let m = mapped_is (leaving F) k (steps_with Γ s (steps Γ s C) Cs) h in
             let q = with_is Γ s (steps Γ s C) Cs m.0 m.1 in
             subst P (sym (m.2 ∙ ap (leaving F) q.both)) (pair_keeps Γ s C Cs q.one.event q.other.event q.one.changes q.other.changes q.one.next q.other.next kept
-              (step_keeps Γ s C (first_kept Γ C Cs kept) state q.one q.of_one) (alone_keeps Γ s Cs (rest_kept Γ C Cs kept) state q.other q.of_other) q.meets))
+            (step_keeps Γ s C (first_kept Γ C Cs kept) state q.one q.of_one) (alone_keeps Γ s Cs (rest_kept Γ C Cs kept) state q.other q.of_other) q.meets))
         | inr h ↦ (let m = mapped_is (leaving G) k (pair_steps Γ s Cs) h in
             subst P (sym m.2) (later_keeps Γ s C Cs m.0.event m.0.changes m.0.next kept (pairs_keep Γ s Cs (rest_kept Γ C Cs kept) state m.0 m.1)))
       ]

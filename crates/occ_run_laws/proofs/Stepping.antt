@@ -30,10 +30,10 @@ module _ (A B : Type 0) (F : A → B) (g : B → Meaning) (M : Step A → Type 0
   leaving_at t o (waits {X = X} i out) = waits i (λ j n. let P : Option Event → Type 0 = λ u. outside X u ≡ true in subst P (sym (from j n).2) (out (from j n).0 (from j n).1))
   leaving_at t o (moves k a i e dk) = moves (leaving F k) a (into k i) e dk
 
-  leaving_unfolds : (m : Meaning) → Unfolds A (λ a. g (F a)) M d Γ s m → Unfolds B g N d Γ s m
+  pub leaving_unfolds : (m : Meaning) → Unfolds A (λ a. g (F a)) M d Γ s m → Unfolds B g N d Γ s m
   leaving_unfolds m h = record { comes = λ t o e. leaving_at t o (h.comes t o e) }
 
-  leaving_rests : (m : Meaning) → AtRest A M d Γ s m → AtRest B N d Γ s m
+  pub leaving_rests : (m : Meaning) → AtRest A M d Γ s m → AtRest B N d Γ s m
   leaving_rests m h = record { over = h.over; refused = λ i X out. h.refused i X (λ k j. out (leaving F k) (into k j)) }
 
 -- the events of a list of steps
@@ -70,7 +70,7 @@ pub data Which (Γ : Environment) (s : Values) (C : Control) (Cs : Controls) : S
   of_two : (k : Step Control) (l : Step Controls) → Is k (steps Γ s C) → AllIs Γ s Cs l → answers k.event l.event ≡ true
       → Which Γ s C Cs (leaving (λ m. and_control m.0 m.1) (joint k l))
 
-which : (Γ : Environment) (s : Values) (C : Control) (Cs : Controls) (j : Step Controls) → AllIs Γ s (and_control C Cs) j → Which Γ s C Cs j
+pub which : (Γ : Environment) (s : Values) (C : Control) (Cs : Controls) (j : Step Controls) → AllIs Γ s (and_control C Cs) j → Which Γ s C Cs j
 which Γ s C Cs j i =
     let F : Control → Controls = λ D. and_control D Cs in
     let G : Controls → Controls = λ Ds. and_control C Ds in
@@ -89,7 +89,7 @@ which Γ s C Cs j i =
       ]
     ]
 
-one_member : (Γ : Environment) (s : Values) (C : Control) (Cs : Controls) (k : Step Control) → Is k (steps Γ s C)
+pub one_member : (Γ : Environment) (s : Values) (C : Control) (Cs : Controls) (k : Step Control) → Is k (steps Γ s C)
     → AllIs Γ s (and_control C Cs) (leaving (λ D. and_control D Cs) k)
 one_member Γ s C Cs k i =
     let F : Control → Controls = λ D. and_control D Cs in
@@ -97,7 +97,7 @@ one_member Γ s C Cs k i =
     is_left (leaving F k) (alone_steps Γ s (and_control C Cs)) (pair_steps Γ s (and_control C Cs))
     (is_left (leaving F k) (map (leaving F) (steps Γ s C)) (map (leaving G) (alone_steps Γ s Cs)) (is_mapped (leaving F) k (steps Γ s C) i))
 
-rest_member : (Γ : Environment) (s : Values) (C : Control) (Cs : Controls) (l : Step Controls) → AllIs Γ s Cs l
+pub rest_member : (Γ : Environment) (s : Values) (C : Control) (Cs : Controls) (l : Step Controls) → AllIs Γ s Cs l
     → AllIs Γ s (and_control C Cs) (leaving (λ Ds. and_control C Ds) l)
 rest_member Γ s C Cs l i =
     let F : Control → Controls = λ D. and_control D Cs in
@@ -126,14 +126,14 @@ in_with Γ s ks (and_control D Ds) k l i j h =
     elim (is_either l (map (leaving H) (steps Γ s D)) (map (leaving L) (alone_steps Γ s Ds)) j) [
       | inl n ↦ (let m = mapped_is (leaving H) l (steps Γ s D) n in
           subst P (sym m.2) (is_left (joint k (leaving H m.0)) first_part second_part
-            (is_mapped (leaving F) (joint k m.0) (meetings ks (steps Γ s D)) (is_meeting k m.0 ks (steps Γ s D) i m.1 (subst Q m.2 h)))))
+          (is_mapped (leaving F) (joint k m.0) (meetings ks (steps Γ s D)) (is_meeting k m.0 ks (steps Γ s D) i m.1 (subst Q m.2 h)))))
       | inr n ↦ (let m = mapped_is (leaving L) l (alone_steps Γ s Ds) n in
           subst P (sym m.2) (is_right (joint k (leaving L m.0)) first_part second_part
-            (is_mapped (leaving G) (joint k m.0) (steps_with Γ s ks Ds) (in_with Γ s ks Ds k m.0 i m.1 (subst Q m.2 h)))))
+          (is_mapped (leaving G) (joint k m.0) (steps_with Γ s ks Ds) (in_with Γ s ks Ds k m.0 i m.1 (subst Q m.2 h)))))
     ]
 
 -- a pair of events that meet isn't seen
-pair_unseen : (Γ : Environment) (s : Values) (Cs : Controls) (l : Step Controls) → Is l (pair_steps Γ s Cs) → l.event ≡ None
+pub pair_unseen : (Γ : Environment) (s : Values) (Cs : Controls) (l : Step Controls) → Is l (pair_steps Γ s Cs) → l.event ≡ None
 pair_unseen Γ s no_control l i = elim i [ ]
 pair_unseen Γ s (and_control C Cs) l i =
     let G : Controls → Controls = λ Ds. and_control C Ds in
@@ -149,7 +149,7 @@ none_answers : (u : Option Event) → answers u None ≡ true → ⊥
 none_answers None h = false_not_true h
 none_answers (Some e) h = false_not_true h
 
-two_member : (Γ : Environment) (s : Values) (C : Control) (Cs : Controls) (k : Step Control) (l : Step Controls) → Is k (steps Γ s C) → AllIs Γ s Cs l
+pub two_member : (Γ : Environment) (s : Values) (C : Control) (Cs : Controls) (k : Step Control) (l : Step Controls) → Is k (steps Γ s C) → AllIs Γ s Cs l
     → answers k.event l.event ≡ true → AllIs Γ s (and_control C Cs) (leaving (λ m. and_control m.0 m.1) (joint k l))
 two_member Γ s C Cs k l i j h =
     let G : Controls → Controls = λ Ds. and_control C Ds in
@@ -157,7 +157,7 @@ two_member Γ s C Cs k l i j h =
     elim (is_either l (alone_steps Γ s Cs) (pair_steps Γ s Cs) j) [
       | inl n ↦ is_right (leaving H (joint k l)) (alone_steps Γ s (and_control C Cs)) (pair_steps Γ s (and_control C Cs))
           (is_left (leaving H (joint k l)) (map (leaving H) (steps_with Γ s (steps Γ s C) Cs)) (map (leaving G) (pair_steps Γ s Cs))
-            (is_mapped (leaving H) (joint k l) (steps_with Γ s (steps Γ s C) Cs) (in_with Γ s (steps Γ s C) Cs k l i n h)))
+          (is_mapped (leaving H) (joint k l) (steps_with Γ s (steps Γ s C) Cs) (in_with Γ s (steps Γ s C) Cs k l i n h)))
       | inr n ↦ absurd (let P : Option Event → Type 0 = λ v. answers k.event v ≡ true in none_answers k.event (subst P (pair_unseen Γ s Cs l n) h))
     ]
 
@@ -181,11 +181,11 @@ module _ (Γ : Environment) (s : Values) (C : Control) (Cs : Controls) (kept : K
   rest_types : all_types_held Cs Γ ≡ true
   rest_types = (and_parts (types_held C Γ) (all_types_held Cs Γ) kept.types).1
 
-  first_aside_of : (k : Step Control) → Is k (steps Γ s C) → IgnoresChanges (all_controlled Cs) k.changes
+  pub first_aside_of : (k : Step Control) → Is k (steps Γ s C) → IgnoresChanges (all_controlled Cs) k.changes
   first_aside_of k i = only_ignored (all_controlled Cs) (writes C) k.changes
       (λ x h. all_ignore Cs Γ rest_types x (inl (kept.usage.1.0.first_writes x h))) (step_keeps Γ s C (first_kept Γ C Cs kept) state k i).only
 
-  second_aside_of : (l : Step Controls) → AllIs Γ s Cs l → IgnoresChanges (controlled C) l.changes
+  pub second_aside_of : (l : Step Controls) → AllIs Γ s Cs l → IgnoresChanges (controlled C) l.changes
   second_aside_of l i = only_ignored (controlled C) (some_write Cs) l.changes
       (λ x h. control_ignores C Γ first_types x (inl (kept.usage.1.0.second_writes x h))) (rests_keep Γ s Cs (rest_kept Γ C Cs kept) state l i).only
 

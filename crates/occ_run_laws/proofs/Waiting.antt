@@ -85,7 +85,7 @@ declare_stepping Γ s x w p = record {
   rests = record {
     over = λ i. false_not_true i;
     refused = λ i X out. let F : ℕ → Step Control = λ u. step None [] (local x w u (unbegun p)) in
-      false_not_true (out (F 0) (is_mapped F 0 (values_of (Some w)) (values_is w 0 (some_value w))));
+        false_not_true (out (F 0) (is_mapped F 0 (values_of (Some w)) (values_is w 0 (some_value w))));
   };
 }
 

@@ -1,1 +1,2 @@
 pub mod Controlled
+pub mod Reached
