@@ -25,9 +25,6 @@ empty_is (x ∷ l) h = absurd (omega (arith, h))
 
 -- ---- two lists are the same where their fronts and their rests are
 
-pub further_trees : {P : Type 0} (xs ys : Trees) (p q : Tree) (ps qs : Trees) → xs ≡ and_tree p ps → ys ≡ and_tree q qs → p ≡ q → ((xs ≡ ys) ↔ P) → (ps ≡ qs) ↔ P
-further_trees xs ys p q ps qs e f g same = (λ h. same.0 (cc), λ r. let u : xs ≡ ys = same.1 r in cc)
-
 pub further_exps : {P : Type 0} (xs ys : List Exp) (p q : Exp) (ps qs : List Exp) → xs ≡ p ∷ ps → ys ≡ q ∷ qs → p ≡ q → ((xs ≡ ys) ↔ P) → (ps ≡ qs) ↔ P
 further_exps xs ys p q ps qs e f g same = (λ h. same.0 (cc), λ r. let u : xs ≡ ys = same.1 r in cc)
 
@@ -60,9 +57,10 @@ trees_end l h = ap trees (empty_is l h)
 
 pub behind_step : (first all xs ys : Trees) (p q : Tree) (ps qs : Trees) → xs ≡ and_tree p ps → ys ≡ and_tree q qs → p ≡ q
     → ((r : Trees) → (ys ≡ all_of xs r) ↔ (all ≡ all_of first r)) → (r : Trees) → (qs ≡ all_of ps r) ↔ (all ≡ all_of first r)
-behind_step first all xs ys p q ps qs e f g same r =
-    ((λ h. (same r).0 (f ∙ ap (and_tree q) h ∙ ap (λ z. and_tree z (all_of ps r)) (sym g) ∙ ap (λ z. all_of z r) (sym e))),
-     (λ k. let u : and_tree q qs ≡ and_tree p (all_of ps r) = sym f ∙ (same r).1 k ∙ ap (λ z. all_of z r) e in cc))
+behind_step first all xs ys p q ps qs e f g same r = (
+  (λ h. (same r).0 (f ∙ ap (and_tree q) h ∙ ap (λ z. and_tree z (all_of ps r)) (sym g) ∙ ap (λ z. all_of z r) (sym e))),
+  (λ k. let u : and_tree q qs ≡ and_tree p (all_of ps r) = sym f ∙ (same r).1 k ∙ ap (λ z. all_of z r) e in cc),
+)
 
 pub behind_differs : (first all xs ys : Trees) (p q : Tree) (ps qs : Trees) → xs ≡ and_tree p ps → ys ≡ and_tree q qs → (p ≡ q → ⊥)
     → ((r : Trees) → (ys ≡ all_of xs r) ↔ (all ≡ all_of first r)) → (r : Trees) → all ≡ all_of first r → ⊥
@@ -81,9 +79,10 @@ behind_whole first all xs ys e same = (same ys).0 (ap (λ z. all_of z ys) (sym e
 
 -- two lists are the same where one has nothing behind the other
 pub same_where_none : (xs ys : Trees) (rest : List Proc) (b : Bool) → ys ≡ all_of xs (trees rest) → (IsTrue b ↔ (length rest ≡ 0)) → IsTrue b ↔ (xs ≡ ys)
-same_where_none xs ys rest b e test =
-    ((λ h. sym (e ∙ ap (all_of xs) (none_there rest (test.0 h)) ∙ all_of-none xs)),
-     (λ g. test.1 (trees_none rest (rests_are xs (trees rest) no_tree (sym e ∙ sym g ∙ sym (all_of-none xs))))))
+same_where_none xs ys rest b e test = (
+  (λ h. sym (e ∙ ap (all_of xs) (none_there rest (test.0 h)) ∙ all_of-none xs)),
+  (λ g. test.1 (trees_none rest (rests_are xs (trees rest) no_tree (sym e ∙ sym g ∙ sym (all_of-none xs))))),
+)
   where
     none_there : (rest : List Proc) → length rest ≡ 0 → trees rest ≡ no_tree
     none_there [] h = refl
@@ -96,9 +95,10 @@ never_same xs ys never e = never no_tree (sym e ∙ sym (all_of-none xs))
 
 pub choice_step : {P : Type 0} (f : Exp → Exp) (g : Tree → Tree) (xs ys : Cases) (b c : Exp) (p q : Tree) (cs ds : Cases) → xs ≡ and_case b p cs → ys ≡ and_case c q ds
     → c ≡ f b → q ≡ g p → ((ys ≡ each_choice f g xs) ↔ P) → (ds ≡ each_choice f g cs) ↔ P
-choice_step f g xs ys b c p q cs ds e h k m same =
-    ((λ r. same.0 (h ∙ ap (and_case c q) r ∙ ap (λ z. and_case z q (each_choice f g cs)) k ∙ ap (λ z. and_case (f b) z (each_choice f g cs)) m ∙ ap (each_choice f g) (sym e))),
-     (λ r. let u : and_case c q ds ≡ and_case (f b) (g p) (each_choice f g cs) = sym h ∙ same.1 r ∙ ap (each_choice f g) e in cc))
+choice_step f g xs ys b c p q cs ds e h k m same = (
+  (λ r. same.0 (h ∙ ap (and_case c q) r ∙ ap (λ z. and_case z q (each_choice f g cs)) k ∙ ap (λ z. and_case (f b) z (each_choice f g cs)) m ∙ ap (each_choice f g) (sym e))),
+  (λ r. let u : and_case c q ds ≡ and_case (f b) (g p) (each_choice f g cs) = sym h ∙ same.1 r ∙ ap (each_choice f g) e in cc),
+)
 
 pub choice_differs : {P : Type 0} (f : Exp → Exp) (g : Tree → Tree) (xs ys : Cases) (b c : Exp) (p q : Tree) (cs ds : Cases) → xs ≡ and_case b p cs → ys ≡ and_case c q ds
     → ((c ≡ f b) × (q ≡ g p) → ⊥) → ((ys ≡ each_choice f g xs) ↔ P) → P → ⊥
@@ -121,10 +121,11 @@ cases_end l h = ap cases (empty_is l h)
 
 pub branch_step : {P : Type 0} (f : Exp → Exp) (j : Waiting → Waiting) (g : Waiting → Tree → Tree) (xs ys : Branches) (b c : Exp) (v w : Waiting) (p q : Tree) (cs ds : Branches)
     → xs ≡ and_branch b v p cs → ys ≡ and_branch c w q ds → c ≡ f b → w ≡ j v → q ≡ g v p → ((ys ≡ each_branch f j g xs) ↔ P) → (ds ≡ each_branch f j g cs) ↔ P
-branch_step f j g xs ys b c v w p q cs ds e h k n m same =
-    ((λ r. same.0 (h ∙ ap (and_branch c w q) r ∙ ap (λ z. and_branch z w q (each_branch f j g cs)) k ∙ ap (λ z. and_branch (f b) z q (each_branch f j g cs)) n
-        ∙ ap (λ z. and_branch (f b) (j v) z (each_branch f j g cs)) m ∙ ap (each_branch f j g) (sym e))),
-     (λ r. let u : and_branch c w q ds ≡ and_branch (f b) (j v) (g v p) (each_branch f j g cs) = sym h ∙ same.1 r ∙ ap (each_branch f j g) e in cc))
+branch_step f j g xs ys b c v w p q cs ds e h k n m same = (
+  (λ r. same.0 (h ∙ ap (and_branch c w q) r ∙ ap (λ z. and_branch z w q (each_branch f j g cs)) k ∙ ap (λ z. and_branch (f b) z q (each_branch f j g cs)) n
+      ∙ ap (λ z. and_branch (f b) (j v) z (each_branch f j g cs)) m ∙ ap (each_branch f j g) (sym e))),
+  (λ r. let u : and_branch c w q ds ≡ and_branch (f b) (j v) (g v p) (each_branch f j g cs) = sym h ∙ same.1 r ∙ ap (each_branch f j g) e in cc),
+)
 
 pub branch_differs : {P : Type 0} (f : Exp → Exp) (j : Waiting → Waiting) (g : Waiting → Tree → Tree) (xs ys : Branches) (b c : Exp) (v w : Waiting) (p q : Tree) (cs ds : Branches)
     → xs ≡ and_branch b v p cs → ys ≡ and_branch c w q ds → ((c ≡ f b) × (w ≡ j v) × (q ≡ g v p) → ⊥) → ((ys ≡ each_branch f j g xs) ↔ P) → P → ⊥
@@ -174,6 +175,7 @@ exps_whole xs rest b e same test =
     none_there : (rest : List Expr) → length rest ≡ 0 → [] ≡ exps rest
     none_there [] h = refl
     none_there (p ∷ ps) h = absurd (omega (arith, h))
+
     nothing : (rest : List Expr) → [] ≡ exps rest → length rest ≡ 0
     nothing [] h = refl
     nothing (p ∷ ps) h = cc
@@ -188,6 +190,7 @@ cases_whole f g xs rest b e same test =
     none_there : (rest : List (Expr × Proc)) → length rest ≡ 0 → cases rest ≡ no_case
     none_there [] h = refl
     none_there (p ∷ ps) h = absurd (omega (arith, h))
+
     nothing : (rest : List (Expr × Proc)) → cases rest ≡ no_case → length rest ≡ 0
     nothing [] h = refl
     nothing (p ∷ ps) h = cc
@@ -200,6 +203,7 @@ branches_whole f j g xs rest b e same test =
     none_there : (rest : List (Guard × Proc)) → length rest ≡ 0 → branches rest ≡ no_branch
     none_there [] h = refl
     none_there (p ∷ ps) h = absurd (omega (arith, h))
+
     nothing : (rest : List (Guard × Proc)) → branches rest ≡ no_branch → length rest ≡ 0
     nothing [] h = refl
     nothing (p ∷ ps) h = cc

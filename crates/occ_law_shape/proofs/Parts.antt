@@ -46,6 +46,7 @@ turns {P} J xs ys p q ps qs e f g not_here so_far = (into, out)
   where
     into : Somewhere J ps qs → P
     into h = so_far.0 (subst (λ z. Somewhere J z ys) (sym e) (subst (λ z. Somewhere J (and_tree p ps) z) (ap (λ z. and_tree z qs) g ∙ sym f) (behind h)))
+
     out : P → Somewhere J ps qs
     out r = elim (opens J (subst (λ z. Somewhere J (and_tree p ps) z) f (subst (λ z. Somewhere J z ys) e (so_far.1 r)))) [
       | inl j ↦ absurd (not_here (subst (λ z. J z ys) (sym e) (subst (λ z. J (and_tree p ps) z) (sym f) j)))

@@ -16,7 +16,12 @@ pub trait ChoicePiece {
     ghost process: { Self → Tree → Tree };
 
     /// Whether the second choice is what the law makes of the first one.
-    fn fits(&self, alloc: Global, choice: &(Expr, Proc), other: &(Expr, Proc)) -> Result<bool, Memory>
+    fn fits(
+        &self,
+        alloc: Global,
+        choice: &(Expr, Proc),
+        other: &(Expr, Proc),
+    ) -> Result<bool, Memory>
         requires { is_ready self.now }
         ensures { IfOk result (λ answer. IsTrue answer
             ↔ ((exp other.now.0 ≡ condition self.now (exp choice.now.0)) × (tree other.now.1 ≡ process self.now (tree choice.now.1)))) };
@@ -33,12 +38,17 @@ pub trait BranchPiece {
     ghost process: { Self → Waiting → Tree → Tree };
 
     /// Whether the second branch is what the law makes of the first one.
-    fn fits(&self, alloc: Global, branch: &(Guard, Proc), other: &(Guard, Proc)) -> Result<bool, Memory>
+    fn fits(
+        &self,
+        alloc: Global,
+        branch: &(Guard, Proc),
+        other: &(Guard, Proc),
+    ) -> Result<bool, Memory>
         requires { is_ready self.now }
         ensures { IfOk result (λ answer. IsTrue answer
             ↔ ((exp other.now.0.condition ≡ condition self.now (exp branch.now.0.condition))
-                × (waiting other.now.0.wait ≡ wait self.now (waiting branch.now.0.wait))
-                × (tree other.now.1 ≡ process self.now (waiting branch.now.0.wait) (tree branch.now.1)))) };
+            × (waiting other.now.0.wait ≡ wait self.now (waiting branch.now.0.wait))
+            × (tree other.now.1 ≡ process self.now (waiting branch.now.0.wait) (tree branch.now.1)))) };
 }
 
 /// Whether a list of choices is what a law makes of another one, choice by choice.

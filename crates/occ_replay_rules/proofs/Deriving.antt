@@ -37,10 +37,6 @@ follow S p q r (step ∷ steps) more d e =
     let b = begun S p q step steps d in
     and_step p r step (steps ++ more) b.0 (follow S (new_whole S p step) q r steps more b.1 e)
 
--- one good step more
-pub derives-push : (S : List (Name × Kind)) (p q : Tree) (steps : List Step) (step : Step) → Derives S p steps q → IsGoodStep S q step → Derives S p (steps ++ step ∷ []) (new_whole S q step)
-derives-push S p q steps step d good = follow S p q (new_whole S q step) steps (step ∷ []) d (and_step q (new_whole S q step) step [] good (no_step (new_whole S q step)))
-
 -- the two parts that a law joins are the same
 joined_same : AreSound → (dir : Direction) (n : ℕ) (S : List (Name × Kind)) (old new : Tree) → Joins dir n S old new → SAME (environment S) old new
 joined_same sound direction.Forward n S old new j = sound n S old new j

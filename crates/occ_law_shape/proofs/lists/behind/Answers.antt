@@ -13,14 +13,14 @@ returns-then-not-same_proc c =
     let some : 0 < length c.loop-front.front.now = omega arith in
     let other : 0 < length c.loop-front.rest.now = omega arith in
     behind_differs _ _ _ _ _ _ _ _ (trees_front c.loop-front.front.now c.part-item.result some c.part-item.is) (trees_front c.loop-front.rest.now c.other-item.result other c.other-item.is)
-        (λ e. cc (c.same_proc.ensures.1 e)) c.loop-front.invariant
+    (λ e. cc (c.same_proc.ensures.1 e)) c.loop-front.invariant
 
 pub loop-front-preserved : goal.loop-front-preserved
 loop-front-preserved c =
     let some : 0 < length c.loop-front.front.now = omega arith in
     let other : 0 < length c.loop-front.rest.now = omega arith in
     behind_step _ _ _ _ _ _ _ _ (trees_front c.loop-front.front.now c.part-item.result some c.part-item.is) (trees_front c.loop-front.rest.now c.other-item.result other c.other-item.is)
-        (c.same_proc.ensures.0 c.if-not-same_proc.false) c.loop-front.invariant
+    (c.same_proc.ensures.0 c.if-not-same_proc.false) c.loop-front.invariant
 
 pub returns : goal.returns
 returns c =

@@ -14,14 +14,14 @@ returns-then-not-same_expr c =
     let some : 0 < length c.loop-rest.rest.now = omega arith in
     let other : 0 < length c.loop-rest.others.now = omega arith in
     refuted (exps_differ _ _ _ _ _ _ (exps_front c.loop-rest.rest.now c.expr-item.result some c.expr-item.is) (exps_front c.loop-rest.others.now c.other-item.result other c.other-item.is)
-        (λ e. cc (c.same_expr.ensures.1 e)) c.loop-rest.invariant)
+    (λ e. cc (c.same_expr.ensures.1 e)) c.loop-rest.invariant)
 
 pub loop-rest-preserved : goal.loop-rest-preserved
 loop-rest-preserved c =
     let some : 0 < length c.loop-rest.rest.now = omega arith in
     let other : 0 < length c.loop-rest.others.now = omega arith in
     further_exps _ _ _ _ _ _ (exps_front c.loop-rest.rest.now c.expr-item.result some c.expr-item.is) (exps_front c.loop-rest.others.now c.other-item.result other c.other-item.is)
-        (c.same_expr.ensures.0 c.if-not-same_expr.false) c.loop-rest.invariant
+    (c.same_expr.ensures.0 c.if-not-same_expr.false) c.loop-rest.invariant
 
 pub returns : goal.returns
 returns c =

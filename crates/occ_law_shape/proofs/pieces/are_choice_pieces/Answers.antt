@@ -8,14 +8,14 @@ returns-in_default-other_rest g c =
     let some : 0 < length c.loop-rest.rest.now = omega arith in
     let none : length c.loop-rest.other_rest.now < 1 = omega arith in
     refuted (choice_ends (g.P.ChoicePiece.condition c.args.piece.now) (g.P.ChoicePiece.process c.args.piece.now) _ _ _ _ _ (cases_front c.loop-rest.rest.now c.choice-item.result some c.choice-item.is)
-        (cases_end c.loop-rest.other_rest.now none) c.loop-rest.invariant)
+    (cases_end c.loop-rest.other_rest.now none) c.loop-rest.invariant)
 
 pub returns-then-not-is_piece : goal.returns-then-not-is_piece
 returns-then-not-is_piece g c =
     let some : 0 < length c.loop-rest.rest.now = omega arith in
     let other : 0 < length c.loop-rest.other_rest.now = omega arith in
     refuted (choice_differs (g.P.ChoicePiece.condition c.args.piece.now) (g.P.ChoicePiece.process c.args.piece.now) _ _ _ _ _ _ _ _ (cases_front c.loop-rest.rest.now c.choice-item.result some c.choice-item.is)
-        (cases_front c.loop-rest.other_rest.now c.other-item.result other c.other-item.is) (λ e. cc (c.in_ok-is_piece.ensures.1 e)) c.loop-rest.invariant)
+    (cases_front c.loop-rest.other_rest.now c.other-item.result other c.other-item.is) (λ e. cc (c.in_ok-is_piece.ensures.1 e)) c.loop-rest.invariant)
 
 pub loop-rest-preserved : goal.loop-rest-preserved
 loop-rest-preserved g c =
@@ -23,7 +23,7 @@ loop-rest-preserved g c =
     let other : 0 < length c.loop-rest.other_rest.now = omega arith in
     let fits = c.in_ok-is_piece.ensures.0 c.if-not-is_piece.false in
     choice_step (g.P.ChoicePiece.condition c.args.piece.now) (g.P.ChoicePiece.process c.args.piece.now) _ _ _ _ _ _ _ _ (cases_front c.loop-rest.rest.now c.choice-item.result some c.choice-item.is)
-        (cases_front c.loop-rest.other_rest.now c.other-item.result other c.other-item.is) fits.0 fits.1 c.loop-rest.invariant
+    (cases_front c.loop-rest.other_rest.now c.other-item.result other c.other-item.is) fits.0 fits.1 c.loop-rest.invariant
 
 pub returns : goal.returns
 returns g c =
