@@ -1,2 +1,2 @@
-mod Counting
-mod Stating
+pub mod Counting
+pub mod Stating

@@ -6,3 +6,4 @@ mod claim;
 mod lines;
 
 pub use claim::{ClaimFault, read};
+pub use lines::{bare, last_number, line, state_line};

@@ -13,4 +13,4 @@ pub use events::{event_of, events_of, set_of};
 pub use reading::first_line;
 pub use states::state_of;
 pub use text::read;
-pub use words::{before, behind, between, cut};
+pub use words::{before, behind, between, cut, small_number_of};

@@ -1,0 +1,8 @@
+//! Schedule texts: a state of a program's parameters, and the numbers of the steps that are to be taken.
+#![tactic(auto)]
+
+mod schedule;
+#[cfg(test)]
+mod tests;
+
+pub use schedule::{Schedule, ScheduleFault, read};
