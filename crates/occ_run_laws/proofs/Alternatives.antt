@@ -18,14 +18,17 @@ use Rattle.occ_syntax.specs.Tree.{Branches, Tree, Waiting, and_branch, input, no
 use Rattle.std.proofs.Common.{arith, Bool, List, MatchBool, None, Option, Some, [], ap, false, if◌then◌else◌, inl, inr, not, refl, subst, sym, true, ℕ, ◌<◌, ◌^◌, ◌∷◌, ◌≡◌}
 use Rattle.std.proofs.lemmas.Bool.{ltb-true, not-true}
 
+-- a step of an enabled guard
 enabled : (b : Bool) (ks : List (Step Control)) (k : Step Control) → Is k (if b then ks else []) → (b ≡ true) × Is k ks
 enabled true ks k i = (refl, i)
 enabled false ks k i = elim i [ ]
 
+-- an enabled guard has its steps
 enable : (b : Bool) (ks : List (Step Control)) (k : Step Control) → b ≡ true → Is k ks → Is k (if b then ks else [])
 enable true ks k e i = i
 enable false ks k e i = false_not_true e
 
+-- a value of the width is in the list
 value_is : (o : Option Width) (v : ℕ) → has_width o v ≡ true → Is v (values_of o)
 value_is (Some w) v h = is_in_range 0 (2 ^ bits_of w) v (omega arith) (let i : v < 2 ^ bits_of w = ltb-true v (2 ^ bits_of w) h in omega arith)
 value_is None v h = false_not_true h
@@ -44,6 +47,7 @@ guard_goes Γ s (input c x) p k i t o d =
     let Q : Step Control → Type 0 = λ j. (u : Values) × (a : Trace) × Taken Γ s (input c x) (seen j.event t) u a × (meaning p).does Γ u a o in
     subst Q (sym m.2) (with_value s x m.0, t, at_event (m.0, has_value (channel_width Γ c) m.0 m.1, refl, refl), subst P m.2 d)
 
+-- the same of a list of branches
 branch_goes : (Γ : Environment) (s : Values) (bs : Branches) (k : Step Control) → Is k (branch_steps Γ s bs) → (t : Trace) (o : Outcome)
     → (controlled k.next).does Γ (changed k.changes s) t o → (guards bs).goes Γ s (seen k.event t) o
 branch_goes Γ s no_branch k i t o d = elim i [ ]
@@ -53,6 +57,7 @@ branch_goes Γ s (and_branch e w p bs) k i t o d =
       | inr h ↦ inr (branch_goes Γ s bs k h t o d)
     ]
 
+-- each step of an ALT is sound
 pub alt_sound : (Γ : Environment) (s : Values) (bs : Branches) (k : Step Control) → Is k (branch_steps Γ s bs)
     → Sound Γ s (alternatives (guards bs)) k.event k.changes (controlled k.next)
 alt_sound Γ s bs k i = record { behind = λ t o d. taken (branch_goes Γ s bs k i t o d) }
@@ -65,6 +70,7 @@ pub record Begins (ks : List (Step Control)) (Γ : Environment) (s : Values) (t 
   pub whole : t ≡ seen by.event rest
   pub does : (controlled by.next).does Γ (changed by.changes s) rest o
 
+-- a guard is taken by one of its steps
 taken_begins : (Γ : Environment) (s : Values) (w : Waiting) (p : Tree) (t : Trace) (u : Values) (a : Trace) (o : Outcome) → Taken Γ s w t u a
     → (meaning p).does Γ u a o → Begins (guard_steps Γ s w p) Γ s t o
 taken_begins Γ s ready p t u a o at_ready d = record { by = step None [] (unbegun p); rest = t; member = first; whole = refl; does = d }
@@ -89,6 +95,7 @@ taken_begins Γ s (input c x) p t u a o (at_event {e = e} {t = b} h) d =
       does = subst P h.3 d;
     }
 
+-- an ALT goes on by one of its steps
 goes_begins : (Γ : Environment) (s : Values) (bs : Branches) (t : Trace) (o : Outcome) → (guards bs).goes Γ s t o → Begins (branch_steps Γ s bs) Γ s t o
 goes_begins Γ s no_branch t o d = absurd d
 goes_begins Γ s (and_branch e w p bs) t o d =
@@ -100,6 +107,7 @@ goes_begins Γ s (and_branch e w p bs) t o d =
           record { by = m.by; rest = m.rest; member = is_right m.by ks (branch_steps Γ s bs) m.member; whole = m.whole; does = m.does })
     ]
 
+-- the steps of a guard without an event of the set are outside it
 quiet_outside : (Γ : Environment) (s : Values) (w : Waiting) (p : Tree) (X : EventSet) → IsQuiet Γ s w X → (k : Step Control) → Is k (guard_steps Γ s w p)
     → outside X k.event ≡ true
 quiet_outside Γ s ready p X h k i = absurd (h.not_ready refl)
@@ -115,6 +123,7 @@ at_yes : (b : Bool) {P : Type 0} → b ≡ true → MatchBool b P (Unit {0}) →
 at_yes true e h = h
 at_yes false e h = false_not_true e
 
+-- where the set is refused, each step is outside it
 refused_outside : (Γ : Environment) (s : Values) (bs : Branches) (X : EventSet) → (guards bs).refuses Γ s X → (k : Step Control) → Is k (branch_steps Γ s bs)
     → outside X k.event ≡ true
 refused_outside Γ s no_branch X h k i = elim i [ ]
@@ -124,14 +133,17 @@ refused_outside Γ s (and_branch e w p bs) X h k i =
       | inr j ↦ refused_outside Γ s bs X h.1 k j
     ]
 
+-- each behaviour of an ALT comes of its steps
 alt_at : (Γ : Environment) (s : Values) (bs : Branches) (t : Trace) (o : Outcome) → Alternates (guards bs) Γ s t o
     → Unfolded Control controlled (λ k. Is k (branch_steps Γ s bs)) false Γ s t o
 alt_at Γ s bs t o (stable {X = X} h) = waits refl (refused_outside Γ s bs X h)
 alt_at Γ s bs t o (taken h) = let m = goes_begins Γ s bs t o h in moves m.by m.rest m.member m.whole m.does
 
+-- the steps of an ALT are all that it can do
 pub alt_unfolds : (Γ : Environment) (s : Values) (bs : Branches) → Unfolds Control controlled (λ k. Is k (branch_steps Γ s bs)) false Γ s (alternatives (guards bs))
 alt_unfolds Γ s bs = record { comes = alt_at Γ s bs }
 
+-- a guard whose steps are outside the set has no event of it
 quiet_from : (Γ : Environment) (s : Values) (w : Waiting) (p : Tree) (X : EventSet) → ((k : Step Control) → Is k (guard_steps Γ s w p) → outside X k.event ≡ true)
     → IsQuiet Γ s w X
 quiet_from Γ s ready p X h = false_not_true (h (step None [] (unbegun p)) first)
@@ -152,6 +164,7 @@ by_truth : (b : Bool) {P : Type 0} → (b ≡ true → P) → MatchBool b P (Uni
 by_truth true h = h refl
 by_truth false h = tt
 
+-- a set is refused where each step is outside it
 refuses_from : (Γ : Environment) (s : Values) (bs : Branches) (X : EventSet) → ((k : Step Control) → Is k (branch_steps Γ s bs) → outside X k.event ≡ true)
     → (guards bs).refuses Γ s X
 refuses_from Γ s no_branch X h = tt
@@ -161,5 +174,6 @@ refuses_from Γ s (and_branch e w p bs) X h =
       refuses_from Γ s bs X (λ k j. h k (is_right k ks (branch_steps Γ s bs) j)),
     )
 
+-- an ALT refuses each set that has no event of a step
 pub alt_at_rest : (Γ : Environment) (s : Values) (bs : Branches) → AtRest Control (λ k. Is k (branch_steps Γ s bs)) false Γ s (alternatives (guards bs))
 alt_at_rest Γ s bs = record { over = λ i. false_not_true i; refused = λ i X out. stable (refuses_from Γ s bs X out) }

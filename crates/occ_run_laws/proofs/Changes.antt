@@ -19,6 +19,7 @@ IgnoresChanges n (c ∷ cs) = (Ignores c.0 n × KeepsValue c.0 n) × IgnoresChan
 
 -- ---- the second part under changes of the first
 
+-- the second part does the same from changed values
 pub second_changed : (n : Meaning) (Γ : Environment) (s : Values) (t : Trace) (cs : List (ℕ × ℕ)) → IgnoresChanges n cs
     → (o1 o2 o : Outcome) → Combines Γ s o1 o2 o → n.does Γ s t o2 → MovedSecond n Γ (changed cs s) t o1 o
 second_changed n Γ s t [] h o1 o2 o c d = record { other = o2; combines = c; does = d }
@@ -26,6 +27,7 @@ second_changed n Γ s t (x ∷ cs) h o1 o2 o c d =
     let k = second_changed n Γ s t cs h.1 o1 o2 o c d in
     second_moved n x.0 h.0.0 h.0.1 Γ (changed cs s) x.1 t o1 k.other o k.combines k.does
 
+-- and back
 pub second_changed_back : (n : Meaning) (Γ : Environment) (s : Values) (t : Trace) (cs : List (ℕ × ℕ)) → IgnoresChanges n cs
     → (o1 o2 o : Outcome) → Combines Γ (changed cs s) o1 o2 o → n.does Γ (changed cs s) t o2 → MovedSecond n Γ s t o1 o
 second_changed_back n Γ s t [] h o1 o2 o c d = record { other = o2; combines = c; does = d }
@@ -55,11 +57,13 @@ combined_first_moved Γ s x v o1 o2 o kept first_ended = first_ended
 combined_first_moved Γ s x v o1 o2 o kept second_ended = second_ended
 combined_first_moved Γ s x v o1 o2 o kept (neither_ended X Y) = neither_ended X Y
 
+-- what the first part does from other values, with the same result of both
 pub record MovedFirst (m : Meaning) (Γ : Environment) (s : Values) (t : Trace) (o2 o : Outcome) : Type 0 where
   pub other : Outcome
   pub combines : Combines Γ s other o2 o
   pub does : m.does Γ s t other
 
+-- the first part may begin with another value of a variable that it ignores
 first_moved : (m : Meaning) (x : ℕ) → Ignores x m → KeepsValue x m
     → (Γ : Environment) (s : Values) (v : ℕ) (t : Trace) (o1 o2 o : Outcome) → Combines Γ s o1 o2 o → m.does Γ s t o1
     → MovedFirst m Γ (with_value s x v) t o2 o
@@ -69,6 +73,7 @@ first_moved m x ignores keeps Γ s v t o1 o2 o c d = record {
   does = ignores.ignored Γ s v t o1 d;
 }
 
+-- and back
 first_moved_back : (m : Meaning) (x : ℕ) → Ignores x m → KeepsValue x m
     → (Γ : Environment) (s : Values) (v : ℕ) (t : Trace) (o1 o2 o : Outcome) → Combines Γ (with_value s x v) o1 o2 o
     → m.does Γ (with_value s x v) t o1 → MovedFirst m Γ s t o2 o
@@ -76,6 +81,7 @@ first_moved_back m x ignores keeps Γ s v t o1 o2 o c d =
     let P : Values → Type 0 = λ r. MovedFirst m Γ r t o2 o in
     subst P (value_again s x v (s x) ∙ value_back s x) (first_moved m x ignores keeps Γ (with_value s x v) (s x) t o1 o2 o c d)
 
+-- the first part does the same from changed values
 pub first_changed : (m : Meaning) (Γ : Environment) (s : Values) (t : Trace) (cs : List (ℕ × ℕ)) → IgnoresChanges m cs
     → (o1 o2 o : Outcome) → Combines Γ s o1 o2 o → m.does Γ s t o1 → MovedFirst m Γ (changed cs s) t o2 o
 first_changed m Γ s t [] h o1 o2 o c d = record { other = o1; combines = c; does = d }
@@ -83,6 +89,7 @@ first_changed m Γ s t (x ∷ cs) h o1 o2 o c d =
     let k = first_changed m Γ s t cs h.1 o1 o2 o c d in
     first_moved m x.0 h.0.0 h.0.1 Γ (changed cs s) x.1 t k.other o2 o k.combines k.does
 
+-- and back
 pub first_changed_back : (m : Meaning) (Γ : Environment) (s : Values) (t : Trace) (cs : List (ℕ × ℕ)) → IgnoresChanges m cs
     → (o1 o2 o : Outcome) → Combines Γ (changed cs s) o1 o2 o → m.does Γ (changed cs s) t o1 → MovedFirst m Γ s t o2 o
 first_changed_back m Γ s t [] h o1 o2 o c d = record { other = o1; combines = c; does = d }

@@ -25,20 +25,24 @@ use Rattle.std.proofs.Common.{List, None, Option, Some, [], ap, append-nil, arit
 use Rattle.std.proofs.lemmas.Bool.{and_from, and_parts, cases_Bool, not-true, not_from_false}
 use Rattle.std.specs.List.{list_all}
 
+-- each step is outside, so all are
 all_outside : (X : EventSet) (ks : List (Step Control)) → ((k : Step Control) → Is k ks → outside X k.event ≡ true) → list_all (is_outside X) ks ≡ true
 all_outside X [] h = refl
 all_outside X (k ∷ ks) h = and_from (is_outside X k) (list_all (is_outside X) ks) (h k first) (all_outside X ks (λ j i. h j (later i)))
 
+-- all are outside, so each is
 each_outside : (X : EventSet) (ks : List (Step Control)) → list_all (is_outside X) ks ≡ true → (k : Step Control) → Is k ks → outside X k.event ≡ true
 each_outside X (j ∷ ks) h k first = (and_parts (is_outside X j) (list_all (is_outside X) ks) h).0
 each_outside X (j ∷ ks) h k (later i) = each_outside X ks (and_parts (is_outside X j) (list_all (is_outside X) ks) h).1 k i
 each_outside X [] h k i = elim i [ ]
 
+-- what a step leaves is settled
 stepped_settled : (Γ : Environment) (s : Values) (k : Step Control) → is_settled (stepped Γ s k) ≡ true
 stepped_settled Γ s k = settled_is_settled Γ (changed k.changes s) k.next
 
 -- ---- each behaviour is reached
 
+-- by induction on what is left to do
 reach : (n : ℕ) (Γ : Environment) (s : Values) (C : Control) → work C ≤ n → Kept Γ C → IsState Γ s → (t : Trace) (o : Outcome)
     → Unfolded Control controlled (λ k. Is k (steps Γ s C)) (is_done C) Γ s t o → Reached Γ s C t o
 reach n Γ s C low kept state t o (ends d idle) = record { schedule = []; values = s; control = C; leads = at_rest; rests = (d, refl) }
@@ -56,12 +60,14 @@ reach (suc n) Γ s C low kept state t o (moves k a i e d) =
     let P : Trace → Type 0 = λ z. Leads Γ s C (m.0 ∷ q.schedule) z q.values q.control in
     record { schedule = m.0 ∷ q.schedule; values = q.values; control = q.control; leads = subst P (sym e) (by_step m.0 k m.1 q.leads); rests = q.rests }
 
+-- each behaviour of a settled tree is reached
 pub reached : (Γ : Environment) (s : Values) (C : Control) → Kept Γ C → IsState Γ s → is_settled C ≡ true → (t : Trace) (o : Outcome)
     → (controlled C).does Γ s t o → Reached Γ s C t o
 reached Γ s C kept state still t o d = reach (work C) Γ s C (omega arith) kept state t o ((step_stepping Γ s C kept state still).unfolds.comes t o d)
 
 -- ---- what is reached is a behaviour
 
+-- where it rests, a tree has that outcome
 rests_does : (Γ : Environment) (s : Values) (C : Control) → Kept Γ C → IsState Γ s → is_settled C ≡ true → (o : Outcome) → Rests Γ s C o → (controlled C).does Γ s [] o
 rests_does Γ s C kept state still (ended r) h =
     let P : Values → Type 0 = λ z. (controlled C).does Γ s [] (ended z) in subst P (sym h.1) ((step_stepping Γ s C kept state still).rests.over h.0)
@@ -69,11 +75,13 @@ rests_does Γ s C kept state still (refusing X) h =
     let j = and_parts (not (is_done C)) (list_all (is_outside X) (steps Γ s C)) h in
     (step_stepping Γ s C kept state still).rests.refused (not-true (is_done C) j.0) X (each_outside X (steps Γ s C) j.1)
 
+-- a schedule leads to settled trees
 leads_settled : (Γ : Environment) (s : Values) (C : Control) (ns : List ℕ) (t : Trace) (r : Values) (D : Control) → is_settled C ≡ true → Leads Γ s C ns t r D
     → is_settled D ≡ true
 leads_settled Γ s C ns t r D h at_rest = h
 leads_settled Γ s C ns t r D h (by_step {ns = ms} {t = a} n k e l) = leads_settled Γ (changed k.changes s) (stepped Γ s k) ms a r D (stepped_settled Γ s k) l
 
+-- what is reached is a behaviour
 pub reached_does : (Γ : Environment) (s : Values) (C : Control) → Kept Γ C → IsState Γ s → is_settled C ≡ true → (t : Trace) (o : Outcome) → Reached Γ s C t o
     → (controlled C).does Γ s t o
 reached_does Γ s C kept state still t o q =
@@ -107,6 +115,7 @@ data Still (Γ : Environment) (s : Values) (C : Control) : Type 0 where
   stands : (controlled C).does Γ s [] (refusing none) → Still Γ s C
   is_over : (r : Values) → (controlled C).does Γ s [] (ended r) → Still Γ s C
 
+-- what it comes to behind an unseen step, it comes to
 still_before : (Γ : Environment) (s : Values) (C : Control) → Kept Γ C → IsState Γ s → (k : Step Control) → Is k (steps Γ s C) → k.event ≡ None
     → Still Γ (changed k.changes s) (stepped Γ s k) → Still Γ s C
 still_before Γ s C kept state k i e (stands d) =
@@ -116,6 +125,7 @@ still_before Γ s C kept state k i e (is_over r d) =
     let P : Trace → Type 0 = λ z. (controlled C).does Γ s z (ended r) in
     is_over r (subst P (ap (λ v. seen v []) e) ((step_sound Γ s C kept state k i).behind [] (ended r) ((settled_means Γ (changed k.changes s) k.next).forth [] (ended r) d)))
 
+-- each tree comes to a rest by unseen steps
 comes_still : (n : ℕ) (Γ : Environment) (s : Values) (C : Control) → work C ≤ n → Kept Γ C → IsState Γ s → is_settled C ≡ true
     → ((is_done C ≡ true) ⊎ (is_done C ≡ false))
     → (((k : Step Control) × Is k (steps Γ s C) × (k.event ≡ None)) ⊎ ((k : Step Control) → Is k (steps Γ s C) → outside none k.event ≡ true)) → Still Γ s C
@@ -131,24 +141,30 @@ comes_still (suc n) Γ s C low kept state still (inr d) (inl m) =
 
 -- ---- programs
 
+-- a program that keeps the rules starts with a tree that keeps them
 start_kept : (Γ : Environment) (s : Values) (p : Tree) → Keeps Γ p → Kept Γ (start Γ s p)
 start_kept Γ s p h = settled_kept Γ s (unbegun p) (record { types = h.types; usage = h.usage })
 
+-- the start is settled
 start_settled : (Γ : Environment) (s : Values) (p : Tree) → is_settled (start Γ s p) ≡ true
 start_settled Γ s p = settled_is_settled Γ s (unbegun p)
 
+-- each behaviour of a program is reached
 pub program_reached : (Γ : Environment) (p : Tree) (s : Values) → Keeps Γ p → IsState Γ s → (t : Trace) (o : Outcome) → (meaning p).does Γ s t o → Reached Γ s (start Γ s p) t o
 program_reached Γ p s h state t o d = reached Γ s (start Γ s p) (start_kept Γ s p h) state (start_settled Γ s p) t o ((settled_means Γ s (unbegun p)).back t o d)
 
+-- what is reached from the start of a program is a behaviour of the program
 pub program_does : (Γ : Environment) (p : Tree) (s : Values) → Keeps Γ p → IsState Γ s → (t : Trace) (o : Outcome) → Reached Γ s (start Γ s p) t o → (meaning p).does Γ s t o
 program_does Γ p s h state t o q =
     (settled_means Γ s (unbegun p)).forth t o (reached_does Γ s (start Γ s p) (start_kept Γ s p h) state (start_settled Γ s p) t o q)
 
+-- a tree that comes to a rest has the trace
 has_trace : (Γ : Environment) (p : Tree) (s : Values) (t : Trace) (C : Control) (r : Values) → ((o : Outcome) → (controlled C).does Γ r [] o → (meaning p).does Γ s t o)
     → Still Γ r C → HasTrace Γ p s t
 has_trace Γ p s t C r h (stands d) = inl (h (refusing none) d)
 has_trace Γ p s t C r h (is_over q d) = inr (q, h (ended q) d)
 
+-- a schedule's trace is a trace of the program
 pub program_trace : (Γ : Environment) (p : Tree) (s : Values) → Keeps Γ p → IsState Γ s → (ns : List ℕ) (t : Trace) (r : Values) (D : Control)
     → Leads Γ s (start Γ s p) ns t r D → HasTrace Γ p s t
 program_trace Γ p s h state ns t r D l =

@@ -54,6 +54,7 @@ held_other x y w u m off hm Γ s v t o (Holding.at_rest {X = X} d) =
     let P : Values → Type 0 = λ q. m.does (with_name Γ y (Var w)) q t (refusing X) in
     Holding.at_rest (subst P (sym (swap_values s x v y u off)) (hm.ignored (with_name Γ y (Var w)) (with_value s y u) v t (refusing X) d))
 
+-- a variable that holds a value is ignored with all else that the inside ignores
 holding_ignores : (x y : ℕ) (w : Width) (u : ℕ) (m : Meaning) → ((x == y) ≡ false → Ignores x m) → Ignores x (holding y w u m)
 holding_ignores x y w u m hm = elim (eqb_tells x y) [
   | inl e ↦ (let P : ℕ → Type 0 = λ z. Ignores x (holding z w u m) in subst P e.1 (record { ignored = held_itself x w u m }))
@@ -68,6 +69,7 @@ held_end x y w u m hm Γ s t s' (Holding.at_end s1 e d) =
       | inr k ↦ if_false (x == y) (s y) (s1 x) k.0 ∙ ((hm k.0).value (with_name Γ y (Var w)) (with_value s y u) t s1 d ∙ value_off s y u x k.0)
     ]
 
+-- and so it is kept
 holding_value : (x y : ℕ) (w : Width) (u : ℕ) (m : Meaning) → ((x == y) ≡ false → KeepsValue x m) → KeepsValue x (holding y w u m)
 holding_value x y w u m hm = record { value = held_end x y w u m hm }
 
@@ -75,6 +77,7 @@ channel_end : (x c : ℕ) (w : Width) (m : Meaning) → KeepsValue x m → (Γ :
     → WithChannel c w m Γ s t (ended s') → s' x ≡ s x
 channel_end x c w m hm Γ s t s' (WithChannel.at_end silent d) = hm.value (with_name Γ c (Chan w None)) s t s' d
 
+-- a channel keeps what the inside keeps
 channel_value : (x c : ℕ) (w : Width) (m : Meaning) → KeepsValue x m → KeepsValue x (over_channel c w m)
 channel_value x c w m hm = record { value = channel_end x c w m hm }
 
@@ -89,13 +92,16 @@ skip_value x = record { value = λ Γ s t s' d. ap (λ r. r x) (ended_is d.1) }
 
 -- ---- control trees
 
+-- a part keeps the value of what is no variable of it
 part_keeps : (p : Tree) (Θ : Environment) → types_kept p Θ ≡ true → (x : ℕ) → Unless Θ x (free p x) → KeepsValue x (meaning p)
 part_keeps p Θ h x k = part_value p Θ h x (elim k [ inl i ↦ not_written p x i | inr i ↦ written_in_scope p Θ h x i ])
 
+-- and so do parts in turn
 turn_keeps : (ps : Trees) (Θ : Environment) → all_types_kept ps Θ ≡ true → (x : ℕ) → Unless Θ x (free_in_some ps x) → KeepsValue x (in_turn ps)
 turn_keeps ps Θ h x k = turn_value ps Θ h x (elim k [ inl i ↦ none_written ps x i | inr i ↦ some_written_in_scope ps Θ h x i ])
 
 mutual
+  -- a control tree ignores and keeps what is no variable of it
   pub control_ignores : (C : Control) (Θ : Environment) → types_held C Θ ≡ true → (x : ℕ) → Unless Θ x (names_free C x)
       → Ignores x (controlled C) × KeepsValue x (controlled C)
   control_ignores done Θ h x k = (skip_ignores x, skip_value x)
@@ -118,6 +124,7 @@ mutual
       let r = control_ignores C Δ j x (unless_channel Θ x c w (names_free C x) k) in
       (channel_ignores x c w (controlled C) r.0, channel_value x c w (controlled C) r.1)
 
+  -- and so do trees at once
   pub all_ignore : (Cs : Controls) (Θ : Environment) → all_types_held Cs Θ ≡ true → (x : ℕ) → Unless Θ x (some_name_free Cs x)
       → Ignores x (all_controlled Cs) × KeepsValue x (all_controlled Cs)
   all_ignore no_control Θ h x k = (skip_ignores x, skip_value x)

@@ -15,15 +15,19 @@ use Rattle.occ_syntax.specs.declared.scope.Kind.TheVariants.{Chan, Var}
 use Rattle.std.proofs.Common.{Bool, None, false, if◌then◌else◌, nat_lt, refl, true, ℕ, ◌&&◌, ◌^◌, ◌≡◌}
 use Rattle.std.proofs.lemmas.Bool.{and_from, and_parts}
 
+-- what is over keeps the rules
 pub done_kept : (Γ : Environment) → Kept Γ done
 done_kept Γ = record { types = refl; usage = tt }
 
+-- a tree with processes behind it keeps the rules
 pub kept_after : (Γ : Environment) (C : Control) (ps : Trees) → Kept Γ C → all_types_kept ps Γ ≡ true → AllKeepUsage ps → Kept Γ (after C ps)
 kept_after Γ C ps h t u = record { types = and_from (types_held C Γ) (all_types_kept ps Γ) h.types t; usage = (h.usage, u) }
 
+-- under a channel
 pub kept_channel : (Γ : Environment) (c : ℕ) (w : Width) (C : Control) → can_declare Γ c w ≡ true → Kept (with_name Γ c (Chan w None)) C → Kept Γ (channel c w C)
 kept_channel Γ c w C t h = record { types = and_from (can_declare Γ c w) (types_held C (with_name Γ c (Chan w None))) t h.types; usage = h.usage }
 
+-- under a variable
 pub kept_local : (Γ : Environment) (x : ℕ) (w : Width) (v : ℕ) (C : Control) → (can_declare Γ x w && nat_lt v (2 ^ bits_of w)) ≡ true
     → Kept (with_name Γ x (Var w)) C → Kept Γ (local x w v C)
 kept_local Γ x w v C t h = record { types = and_from (can_declare Γ x w && nat_lt v (2 ^ bits_of w)) (types_held C (with_name Γ x (Var w))) t h.types; usage = h.usage }
@@ -57,15 +61,18 @@ in_variable_kept Γ x w v (both Cs) h = h
 in_variable_kept Γ x w v (local y u n C) h = h
 in_variable_kept Γ x w v (channel c u C) h = h
 
+-- one more tree at once, apart from the others
 pub kept_and : (Γ : Environment) (C : Control) (Cs : Controls) → Kept Γ C → Kept Γ (both Cs) → IsApart C (both Cs) → Kept Γ (both (and_control C Cs))
 kept_and Γ C Cs h k apart = record {
   types = and_from (types_held C Γ) (all_types_held Cs Γ) h.types k.types;
   usage = ((h.usage, k.usage.0), (apart, k.usage.1));
 }
 
+-- the first of trees at once keeps the rules
 pub first_kept : (Γ : Environment) (C : Control) (Cs : Controls) → Kept Γ (both (and_control C Cs)) → Kept Γ C
 first_kept Γ C Cs h = record { types = (and_parts (types_held C Γ) (all_types_held Cs Γ) h.types).0; usage = h.usage.0.0 }
 
+-- and so do the others
 pub rest_kept : (Γ : Environment) (C : Control) (Cs : Controls) → Kept Γ (both (and_control C Cs)) → Kept Γ (both Cs)
 rest_kept Γ C Cs h = record { types = (and_parts (types_held C Γ) (all_types_held Cs Γ) h.types).1; usage = (h.usage.0.1, h.usage.1.1) }
 
@@ -76,6 +83,7 @@ side_kept : (Γ : Environment) (Cs : Controls) → Kept Γ (both Cs) → Kept Γ
 side_kept Γ Cs h = either_kept Γ (all_done Cs) done (both Cs) (done_kept Γ) h
 
 mutual
+  -- a process that keeps the rules begins as a tree that keeps them
   pub begun_kept : (Γ : Environment) (s : Values) (p : Tree) → types_kept p Γ ≡ true → KeepsUsage p → Kept Γ (begun Γ s p)
   begun_kept Γ s skip t u = done_kept Γ
   begun_kept Γ s stop t u = record { types = refl; usage = tt }
@@ -112,6 +120,7 @@ mutual
       either_kept Γ (is_true Γ e s) (begun Γ s p) (begun_choice Γ s cs) (begun_kept Γ s p j.1 u.0) (choice_kept Γ s cs j.2 u.1)
 
 mutual
+  -- a tree that keeps the rules comes to one that keeps them
   pub settled_kept : (Γ : Environment) (s : Values) (C : Control) → Kept Γ C → Kept Γ (settled Γ s C)
   settled_kept Γ s done h = h
   settled_kept Γ s (unbegun p) h = begun_kept Γ s p h.types h.usage

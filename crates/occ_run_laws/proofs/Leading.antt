@@ -34,6 +34,7 @@ pub stepped_kept : (Γ : Environment) (s : Values) (C : Control) → Kept Γ C �
     → Kept Γ (stepped Γ s k) × IsState Γ (changed k.changes s)
 stepped_kept Γ s C kept state k i = let h = step_keeps Γ s C kept state k i in (settled_kept Γ (changed k.changes s) k.next h.kept, h.state)
 
+-- a schedule leads to trees that keep the rules, from states to states
 pub leads_keeps : (Γ : Environment) (s : Values) (C : Control) (ns : List ℕ) (t : Trace) (s' : Values) (C' : Control) → Kept Γ C → IsState Γ s
     → Leads Γ s C ns t s' C' → Kept Γ C' × IsState Γ s'
 leads_keeps Γ s C ns t s' C' kept state at_rest = (kept, state)
@@ -41,6 +42,7 @@ leads_keeps Γ s C ns t s' C' kept state (by_step {ns = ms} {t = a} n k e l) =
     let h = stepped_kept Γ s C kept state k (numbered_is (steps Γ s C) n k e) in
     leads_keeps Γ (changed k.changes s) (stepped Γ s k) ms a s' C' h.0 h.1 l
 
+-- what is done where a schedule leads, the whole does behind the schedule's trace
 pub leads_sound : (Γ : Environment) (s : Values) (C : Control) (ns : List ℕ) (t : Trace) (s' : Values) (C' : Control) → Kept Γ C → IsState Γ s
     → Leads Γ s C ns t s' C' → (u : Trace) (o : Outcome) → (controlled C').does Γ s' u o → (controlled C).does Γ s (t ++ u) o
 leads_sound Γ s C ns t s' C' kept state at_rest u o d = d

@@ -13,17 +13,21 @@ use Rattle.occ_syntax.specs.declared.scope.Kind.TheVariants.{Chan, Var}
 use Rattle.std.proofs.Common.{Bool, None, false, if◌then◌else◌, inl, inr, not, refl, true, ℕ, ◌&&◌, ◌==◌, ◌||◌, ◌≡◌}
 use Rattle.std.proofs.lemmas.Bool.{and_from, and_parts, false_from_ne_true, or_cases, or_left, or_right}
 
+-- the first names, writes and uses no more than the second
 pub record Less (D C : Control) : Type 0 where
   pub names : (x : ℕ) → names_free D x ≡ true → names_free C x ≡ true
   pub writing : (x : ℕ) → writes D x ≡ true → writes C x ≡ true
   pub using : (c : ℕ) (d : Dir) → uses D c d ≡ true → uses C c d ≡ true
 
+-- each is so of itself
 pub less_itself : (C : Control) → Less C C
 less_itself C = record { names = λ x h. h; writing = λ x h. h; using = λ c d h. h }
 
+-- one below a second below a third
 pub less_through : (B C D : Control) → Less B C → Less C D → Less B D
 less_through B C D h k = record { names = λ x i. k.names x (h.names x i); writing = λ x i. k.writing x (h.writing x i); using = λ c d i. k.using c d (h.using c d i) }
 
+-- what is over names nothing
 pub done_less : (C : Control) → Less done C
 done_less C = record { names = λ x h. false_not_true h; writing = λ x h. false_not_true h; using = λ c d h. false_not_true h }
 
@@ -33,6 +37,7 @@ or_more a b p q f g h = elim (or_cases a b h) [ inl k ↦ or_left p q (f k) | in
 and_more : (a b c : Bool) → (b ≡ true → c ≡ true) → (a && b) ≡ true → (a && c) ≡ true
 and_more a b c f h = let k = and_parts a b h in and_from a c k.0 (f k.1)
 
+-- with processes behind
 pub less_after : (D C : Control) (ps : Trees) → Less D C → Less (after D ps) (after C ps)
 less_after D C ps h = record {
   names = λ x i. or_more (names_free D x) (free_in_some ps x) (names_free C x) (free_in_some ps x) (h.names x) (λ j. j) i;
@@ -40,6 +45,7 @@ less_after D C ps h = record {
   using = λ c d i. or_more (uses D c d) (end_in_some ps c d) (uses C c d) (end_in_some ps c d) (h.using c d) (λ j. j) i;
 }
 
+-- under a variable
 pub less_local : (D C : Control) (x : ℕ) (w : Width) (v u : ℕ) → Less D C → Less (local x w v D) (local x w u C)
 less_local D C x w v u h = record {
   names = λ y i. and_more (not (y == x)) (names_free D y) (names_free C y) (h.names y) i;
@@ -47,6 +53,7 @@ less_local D C x w v u h = record {
   using = λ c d i. and_more (not (c == x)) (uses D c d) (uses C c d) (h.using c d) i;
 }
 
+-- under a channel
 pub less_channel : (D C : Control) (x : ℕ) (w : Width) → Less D C → Less (channel x w D) (channel x w C)
 less_channel D C x w h = record {
   names = λ y i. and_more (not (y == x)) (names_free D y) (names_free C y) (h.names y) i;
@@ -54,6 +61,7 @@ less_channel D C x w h = record {
   using = λ c d i. and_more (not (c == x)) (uses D c d) (uses C c d) (h.using c d) i;
 }
 
+-- at once
 pub less_both : (D C : Control) (Ds Cs : Controls) → Less D C → Less (both Ds) (both Cs) → Less (both (and_control D Ds)) (both (and_control C Cs))
 less_both D C Ds Cs h k = record {
   names = λ x i. or_more (names_free D x) (some_name_free Ds x) (names_free C x) (some_name_free Cs x) (h.names x) (k.names x) i;
@@ -120,6 +128,7 @@ guard_writes true h = refl
 guard_writes false h = h
 
 mutual
+  -- a process begins as a tree that names no more
   pub begun_less : (Γ : Environment) (s : Values) (p : Tree) → Less (begun Γ s p) (unbegun p)
   begun_less Γ s skip = done_less (unbegun skip)
   begun_less Γ s stop = less_itself (unbegun stop)
@@ -151,6 +160,7 @@ mutual
       let k = then_less (begun Γ s p) (unbegun p) ps (begun_turn Γ s ps) (begun_less Γ s p) (turn_less Γ s ps) in
       record { names = k.names; writing = k.writing; using = k.using }
 
+  -- and so do processes at once
   pub all_begun_less : (Γ : Environment) (s : Values) (ps : Trees) → Less (both (begun_all Γ s ps)) (unbegun (par ps))
   all_begun_less Γ s no_tree = record { names = λ x h. h; writing = λ x h. h; using = λ c d h. h }
   all_begun_less Γ s (and_tree p ps) =
@@ -182,6 +192,7 @@ mutual
       })
 
 mutual
+  -- a tree comes to one that names no more
   pub settled_less : (Γ : Environment) (s : Values) (C : Control) → Less (settled Γ s C) C
   settled_less Γ s done = less_itself done
   settled_less Γ s (unbegun p) = begun_less Γ s p
@@ -193,6 +204,7 @@ mutual
   settled_less Γ s (channel c w C) = let D : Control = settled (with_name Γ c (Chan w None)) s C in
       less_through (in_channel c w D) (channel c w D) (channel c w C) (in_channel_less c w D) (less_channel D C c w (settled_less (with_name Γ c (Chan w None)) s C))
 
+  -- and so do trees at once
   pub all_settled_less : (Γ : Environment) (s : Values) (Cs : Controls) → Less (both (all_settled Γ s Cs)) (both Cs)
   all_settled_less Γ s no_control = less_itself (both no_control)
   all_settled_less Γ s (and_control C Cs) = less_both (settled Γ s C) C (all_settled Γ s Cs) Cs (settled_less Γ s C) (all_settled_less Γ s Cs)

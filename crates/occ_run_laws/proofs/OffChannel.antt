@@ -24,6 +24,7 @@ hidden_behind : (Γ : Environment) (s : Values) (c : ℕ) (w : Width) (m : Meani
 hidden_behind Γ s c w m v cs p h apart t o (WithChannel.at_end {s1 = r} silent d) = WithChannel.at_end (silent_seen c v t apart silent) (h.behind t (ended r) d)
 hidden_behind Γ s c w m v cs p h apart t o (WithChannel.at_rest {X = X} silent d) = WithChannel.at_rest (silent_seen c v t apart silent) (h.behind t (refusing (off_channel c X)) d)
 
+-- a step off the channel is a step outside
 pub hidden_sound : (Γ : Environment) (s : Values) (c : ℕ) (w : Width) (m : Meaning) (v : Option Event) (cs : List (ℕ × ℕ)) (p : Meaning)
     → Sound (with_name Γ c (Chan w None)) s m v cs p → off c v ≡ true → Sound Γ s (over_channel c w m) v cs (over_channel c w p)
 hidden_sound Γ s c w m v cs p h apart = record { behind = hidden_behind Γ s c w m v cs p h apart }
@@ -65,10 +66,12 @@ module _ (A : Type 0) (f : A → Meaning) (M : Step A → Type 0) (d : Bool) (c 
   hidden_at h t o (WithChannel.at_end {s1 = r} silent e) = hidden_ended t r silent (h.comes t (ended r) e)
   hidden_at h t o (WithChannel.at_rest {X = X} silent e) = hidden_refusing t (off_channel c X) X refl silent (h.comes t (refusing (off_channel c X)) e)
 
+  -- the steps off the channel are all that can be done outside
   pub hidden_unfolds : Unfolds A f M d (with_name Γ c (Chan w None)) s m
       → Unfolds A (λ a. over_channel c w (f a)) (λ k. M k × (off c k.event ≡ true)) d Γ s (over_channel c w m)
   hidden_unfolds h = record { comes = hidden_at h }
 
+  -- outside it rests as inside
   pub hidden_at_rest : AtRest A M d (with_name Γ c (Chan w None)) s m → AtRest A (λ k. M k × (off c k.event ≡ true)) d Γ s (over_channel c w m)
   hidden_at_rest h = record {
     over = λ i. WithChannel.at_end refl (h.over i);

@@ -7,16 +7,20 @@ use Rattle.occ_syntax.specs.Scopes.{Environment, Trace, Values, with_name, with_
 use Rattle.occ_syntax.specs.declared.scope.Kind.TheVariants.{Chan, Var}
 use Rattle.std.proofs.Common.{None, ℕ}
 
+-- from these values each does what the other does
 pub record SameFrom (Γ : Environment) (s : Values) (m n : Meaning) : Type 0 where
   pub forth : (t : Trace) (o : Outcome) → m.does Γ s t o → n.does Γ s t o
   pub back : (t : Trace) (o : Outcome) → n.does Γ s t o → m.does Γ s t o
 
+-- reflexive
 pub same_itself : (Γ : Environment) (s : Values) (m : Meaning) → SameFrom Γ s m m
 same_itself Γ s m = record { forth = λ t o d. d; back = λ t o d. d }
 
+-- symmetric
 pub same_turned : (Γ : Environment) (s : Values) (m n : Meaning) → SameFrom Γ s m n → SameFrom Γ s n m
 same_turned Γ s m n h = record { forth = h.back; back = h.forth }
 
+-- transitive
 pub same_through : (Γ : Environment) (s : Values) (m n l : Meaning) → SameFrom Γ s m n → SameFrom Γ s n l → SameFrom Γ s m l
 same_through Γ s m n l h k = record { forth = λ t o d. k.forth t o (h.forth t o d); back = λ t o d. h.back t o (k.back t o d) }
 
@@ -29,6 +33,7 @@ followed_forth : (Γ : Environment) (s : Values) (m m' n : Meaning) → SameFrom
 followed_forth Γ s m m' n h t o (in_first {X = X} d) = in_first (h.forth t (refusing X) d)
 followed_forth Γ s m m' n h t o (in_second t1 t2 s1 e d1 d2) = in_second t1 t2 s1 e (h.forth t1 (ended s1) d1) d2
 
+-- SEQ keeps it in its first part
 pub followed_same : (Γ : Environment) (s : Values) (m m' n : Meaning) → SameFrom Γ s m m' → SameFrom Γ s (followed m n) (followed m' n)
 followed_same Γ s m m' n h = record { forth = followed_forth Γ s m m' n h; back = followed_forth Γ s m' m n (same_turned Γ s m m' h) }
 
@@ -36,6 +41,7 @@ beside_forth : (Γ : Environment) (s : Values) (m m' n n' : Meaning) → SameFro
     → Together m n Γ s t o → Together m' n' Γ s t o
 beside_forth Γ s m m' n n' h k t o (together t1 t2 o1 o2 w c d1 d2) = together t1 t2 o1 o2 w c (h.forth t1 o1 d1) (k.forth t2 o2 d2)
 
+-- PAR keeps it
 pub beside_same : (Γ : Environment) (s : Values) (m m' n n' : Meaning) → SameFrom Γ s m m' → SameFrom Γ s n n' → SameFrom Γ s (beside m n) (beside m' n')
 beside_same Γ s m m' n n' h k = record {
   forth = beside_forth Γ s m m' n n' h k;
@@ -47,6 +53,7 @@ channel_forth : (Γ : Environment) (s : Values) (c : ℕ) (w : Width) (m m' : Me
 channel_forth Γ s c w m m' h t o (WithChannel.at_end {s1 = r} silent d) = WithChannel.at_end silent (h.forth t (ended r) d)
 channel_forth Γ s c w m m' h t o (WithChannel.at_rest {X = X} silent d) = WithChannel.at_rest silent (h.forth t (refusing (off_channel c X)) d)
 
+-- a channel keeps it
 pub channel_same : (Γ : Environment) (s : Values) (c : ℕ) (w : Width) (m m' : Meaning) → SameFrom (with_name Γ c (Chan w None)) s m m'
     → SameFrom Γ s (over_channel c w m) (over_channel c w m')
 channel_same Γ s c w m m' h = record {
@@ -59,6 +66,7 @@ holding_forth : (Γ : Environment) (s : Values) (x : ℕ) (w : Width) (v : ℕ) 
 holding_forth Γ s x w v m m' h t o (Holding.at_end s1 e d) = Holding.at_end s1 e (h.forth t (ended s1) d)
 holding_forth Γ s x w v m m' h t o (Holding.at_rest {X = X} d) = Holding.at_rest (h.forth t (refusing X) d)
 
+-- a variable that holds a value keeps it
 pub holding_same : (Γ : Environment) (s : Values) (x : ℕ) (w : Width) (v : ℕ) (m m' : Meaning)
     → SameFrom (with_name Γ x (Var w)) (with_value s x v) m m' → SameFrom Γ s (holding x w v m) (holding x w v m')
 holding_same Γ s x w v m m' h = record {

@@ -117,6 +117,7 @@ choice_means : (Γ : Environment) (s : Values) (e : Exp) (C D : Control) (m n : 
 choice_means Γ s e C D m n h k = let i = choice_case Γ s (is_true Γ e s) C D m n h k in record { forth = i.forth; back = i.back }
 
 mutual
+  -- a process means what it begins as
   pub begun_means : (Γ : Environment) (s : Values) (p : Tree) → SameFrom Γ s (controlled (begun Γ s p)) (meaning p)
   begun_means Γ s skip = same_itself Γ s (meaning skip)
   begun_means Γ s stop = same_itself Γ s (meaning stop)
@@ -135,6 +136,7 @@ mutual
       same_through Γ s (controlled (in_channel c w (begun Δ s p))) (over_channel c w (controlled (begun Δ s p))) (over_channel c w (meaning p))
       (channel_means Γ s c w (begun Δ s p)) (channel_same Γ s c w (controlled (begun Δ s p)) (meaning p) (begun_means Δ s p))
 
+  -- and so do processes in turn
   pub turn_means : (Γ : Environment) (s : Values) (ps : Trees) → SameFrom Γ s (controlled (begun_turn Γ s ps)) (in_turn ps)
   turn_means Γ s no_tree = same_itself Γ s skips
   turn_means Γ s (and_tree p ps) =
@@ -158,6 +160,7 @@ mutual
 -- ---- a control tree
 
 mutual
+  -- a tree means what it comes to
   pub settled_means : (Γ : Environment) (s : Values) (C : Control) → SameFrom Γ s (controlled (settled Γ s C)) (controlled C)
   settled_means Γ s done = same_itself Γ s skips
   settled_means Γ s (unbegun p) = begun_means Γ s p

@@ -56,6 +56,7 @@ only_but P x (c ∷ cs) h = by_name (c.0 == x) refl (only_but P x cs h.1)
 
 -- ---- what a step keeps
 
+-- what a step leaves names no more and keeps the rules; it changes written variables to values of their widths; its event is in scope; an output changes nothing
 pub record StepKeeps (Γ : Environment) (s : Values) (C : Control) (v : Option Event) (cs : List (ℕ × ℕ)) (D : Control) : Type 0 where
   pub less : Less D C
   pub kept : Kept Γ D
@@ -64,6 +65,7 @@ pub record StepKeeps (Γ : Environment) (s : Values) (C : Control) (v : Option E
   pub scope : (e : Event) → v ≡ Some e → in_scope Γ e ≡ true
   pub unchanged : (e : Event) → v ≡ Some e → e.dir ≡ Output → cs ≡ []
 
+-- a step of a part of a tree keeps what a step of the tree keeps
 pub keeps_more : (Γ : Environment) (s : Values) (B C : Control) (v : Option Event) (cs : List (ℕ × ℕ)) (D : Control) → Less B C
     → StepKeeps Γ s B v cs D → StepKeeps Γ s C v cs D
 keeps_more Γ s B C v cs D h k = record {
@@ -77,6 +79,7 @@ keeps_more Γ s B C v cs D h k = record {
 
 -- ---- processes
 
+-- the changes of an assignment make its values
 pub assigned_is : (Γ : Environment) (s : Values) (xs : List ℕ) (es : List Exp) → changed (assignments Γ s xs es) s ≡ assigned xs es Γ s
 assigned_is Γ s [] es = refl
 assigned_is Γ s (x ∷ xs) [] = refl
@@ -113,6 +116,7 @@ rest_less e w p bs = record {
   using = λ c d i. or_right (end_in_waiting w c d || uses_end p c d) (end_in_branches bs c d) i;
 }
 
+-- each value of the list has the width
 pub has_value : (o : Option Width) (v : ℕ) → Is v (values_of o) → has_width o v ≡ true
 has_value (Some w) v i = lt-ltb v (2 ^ bits_of w) (let h = range_is 0 (2 ^ bits_of w) v i in omega arith)
 has_value None v i = elim i [ ]
@@ -123,6 +127,7 @@ KeepsAt Γ s C k = StepKeeps Γ s C k.event k.changes k.next
 in_width : (o : Option Width) (w : Width) (v : ℕ) → o ≡ Some w → v < 2 ^ bits_of w → has_width o v ≡ true
 in_width o w v e lt = let P : Option Width → Type 0 = λ z. has_width z v ≡ true in subst P (sym e) (lt-ltb v (2 ^ bits_of w) lt)
 
+-- a value of the width is below its bound
 pub width_in : (o : Option Width) (w : Width) (v : ℕ) → o ≡ Some w → has_width o v ≡ true → v < 2 ^ bits_of w
 width_in o w v e h = let P : Option Width → Type 0 = λ z. has_width z v ≡ true in ltb-true v (2 ^ bits_of w) (subst P e h)
 
@@ -395,6 +400,7 @@ with_is Γ s ks (and_control D Ds) j i =
     ]
 
 mutual
+  -- each step of a tree that keeps the rules
   pub step_keeps : (Γ : Environment) (s : Values) (C : Control) → Kept Γ C → IsState Γ s → (k : Step Control) → Is k (steps Γ s C) → KeepsAt Γ s C k
   step_keeps Γ s done kept state k i = elim i [ ]
   step_keeps Γ s (unbegun p) kept state k i = process_keeps Γ s p kept state k i
@@ -430,6 +436,7 @@ mutual
       subst P (sym m.2) (channel_keeps Γ s c w C m.0.event m.0.changes m.0.next kept f.1
       (step_keeps Δ s C (record { types = t.1; usage = kept.usage }) (connected_state Γ s c w state) m.0 f.0))
 
+  -- each step of one of trees at once
   pub alone_keeps : (Γ : Environment) (s : Values) (Cs : Controls) → Kept Γ (both Cs) → IsState Γ s → (k : Step Controls) → Is k (alone_steps Γ s Cs)
       → StepKeeps Γ s (both Cs) k.event k.changes (both k.next)
   alone_keeps Γ s no_control kept state k i = elim i [ ]
@@ -444,6 +451,7 @@ mutual
             subst P (sym m.2) (later_keeps Γ s C Cs m.0.event m.0.changes m.0.next kept (alone_keeps Γ s Cs (rest_kept Γ C Cs kept) state m.0 m.1)))
       ]
 
+  -- each two steps that meet
   pub pairs_keep : (Γ : Environment) (s : Values) (Cs : Controls) → Kept Γ (both Cs) → IsState Γ s → (k : Step Controls) → Is k (pair_steps Γ s Cs)
       → StepKeeps Γ s (both Cs) k.event k.changes (both k.next)
   pairs_keep Γ s no_control kept state k i = elim i [ ]

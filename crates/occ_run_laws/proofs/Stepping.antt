@@ -30,9 +30,11 @@ module _ (A B : Type 0) (F : A → B) (g : B → Meaning) (M : Step A → Type 0
   leaving_at t o (waits {X = X} i out) = waits i (λ j n. let P : Option Event → Type 0 = λ u. outside X u ≡ true in subst P (sym (from j n).2) (out (from j n).0 (from j n).1))
   leaving_at t o (moves k a i e dk) = moves (leaving F k) a (into k i) e dk
 
+  -- all that can be done, in other words for what is left
   pub leaving_unfolds : (m : Meaning) → Unfolds A (λ a. g (F a)) M d Γ s m → Unfolds B g N d Γ s m
   leaving_unfolds m h = record { comes = λ t o e. leaving_at t o (h.comes t o e) }
 
+  -- at rest, in other words for what is left
   pub leaving_rests : (m : Meaning) → AtRest A M d Γ s m → AtRest B N d Γ s m
   leaving_rests m h = record { over = h.over; refused = λ i X out. h.refused i X (λ k j. out (leaving F k) (into k j)) }
 
@@ -61,15 +63,18 @@ offers_of ks = record { offered = λ k e i j. event_in e k ks i j; by_step = λ 
 
 -- ---- the steps of trees at once
 
+-- a step of trees at once
 abbrev pub AllIs : Environment → Values → Controls → Step Controls → Type 0
 AllIs Γ s Cs k = Is k (alone_steps Γ s Cs ++ pair_steps Γ s Cs)
 
+-- a step of trees at once is one of the first, one of the others, or two that meet
 pub data Which (Γ : Environment) (s : Values) (C : Control) (Cs : Controls) : Step Controls → Type 0 where
   of_one : (k : Step Control) → Is k (steps Γ s C) → Which Γ s C Cs (leaving (λ D. and_control D Cs) k)
   of_rest : (l : Step Controls) → AllIs Γ s Cs l → Which Γ s C Cs (leaving (λ Ds. and_control C Ds) l)
   of_two : (k : Step Control) (l : Step Controls) → Is k (steps Γ s C) → AllIs Γ s Cs l → answers k.event l.event ≡ true
       → Which Γ s C Cs (leaving (λ m. and_control m.0 m.1) (joint k l))
 
+-- each step is of one of these kinds
 pub which : (Γ : Environment) (s : Values) (C : Control) (Cs : Controls) (j : Step Controls) → AllIs Γ s (and_control C Cs) j → Which Γ s C Cs j
 which Γ s C Cs j i =
     let F : Control → Controls = λ D. and_control D Cs in
@@ -89,6 +94,7 @@ which Γ s C Cs j i =
       ]
     ]
 
+-- each step of the first is one of all
 pub one_member : (Γ : Environment) (s : Values) (C : Control) (Cs : Controls) (k : Step Control) → Is k (steps Γ s C)
     → AllIs Γ s (and_control C Cs) (leaving (λ D. and_control D Cs) k)
 one_member Γ s C Cs k i =
@@ -97,6 +103,7 @@ one_member Γ s C Cs k i =
     is_left (leaving F k) (alone_steps Γ s (and_control C Cs)) (pair_steps Γ s (and_control C Cs))
     (is_left (leaving F k) (map (leaving F) (steps Γ s C)) (map (leaving G) (alone_steps Γ s Cs)) (is_mapped (leaving F) k (steps Γ s C) i))
 
+-- each step of the others is one of all
 pub rest_member : (Γ : Environment) (s : Values) (C : Control) (Cs : Controls) (l : Step Controls) → AllIs Γ s Cs l
     → AllIs Γ s (and_control C Cs) (leaving (λ Ds. and_control C Ds) l)
 rest_member Γ s C Cs l i =
@@ -149,6 +156,7 @@ none_answers : (u : Option Event) → answers u None ≡ true → ⊥
 none_answers None h = false_not_true h
 none_answers (Some e) h = false_not_true h
 
+-- each two that meet are one of all
 pub two_member : (Γ : Environment) (s : Values) (C : Control) (Cs : Controls) (k : Step Control) (l : Step Controls) → Is k (steps Γ s C) → AllIs Γ s Cs l
     → answers k.event l.event ≡ true → AllIs Γ s (and_control C Cs) (leaving (λ m. and_control m.0 m.1) (joint k l))
 two_member Γ s C Cs k l i j h =
@@ -163,6 +171,7 @@ two_member Γ s C Cs k l i j h =
 
 -- ---- what the steps of the one ignore of the other's
 
+-- what a step of the others keeps
 rests_keep : (Γ : Environment) (s : Values) (Cs : Controls) → Kept Γ (both Cs) → IsState Γ s → (l : Step Controls) → AllIs Γ s Cs l
     → StepKeeps Γ s (both Cs) l.event l.changes (both l.next)
 rests_keep Γ s Cs kept state l i = elim (is_either l (alone_steps Γ s Cs) (pair_steps Γ s Cs) i) [
@@ -181,10 +190,12 @@ module _ (Γ : Environment) (s : Values) (C : Control) (Cs : Controls) (kept : K
   rest_types : all_types_held Cs Γ ≡ true
   rest_types = (and_parts (types_held C Γ) (all_types_held Cs Γ) kept.types).1
 
+  -- the others ignore what a step of the first changes
   pub first_aside_of : (k : Step Control) → Is k (steps Γ s C) → IgnoresChanges (all_controlled Cs) k.changes
   first_aside_of k i = only_ignored (all_controlled Cs) (writes C) k.changes
       (λ x h. all_ignore Cs Γ rest_types x (inl (kept.usage.1.0.first_writes x h))) (step_keeps Γ s C (first_kept Γ C Cs kept) state k i).only
 
+  -- the first ignores what a step of the others changes
   pub second_aside_of : (l : Step Controls) → AllIs Γ s Cs l → IgnoresChanges (controlled C) l.changes
   second_aside_of l i = only_ignored (controlled C) (some_write Cs) l.changes
       (λ x h. control_ignores C Γ first_types x (inl (kept.usage.1.0.second_writes x h))) (rests_keep Γ s Cs (rest_kept Γ C Cs kept) state l i).only
@@ -195,6 +206,7 @@ module _ (Γ : Environment) (s : Values) (C : Control) (Cs : Controls) (kept : K
   rest_free : (Ds : Controls) (x : ℕ) → ((y : ℕ) → some_name_free Ds y ≡ true → some_name_free Cs y ≡ true) → some_name_free Cs x ≡ false → some_name_free Ds x ≡ false
   rest_free Ds x imp h = false_from_ne_true (some_name_free Ds x) (λ i. clash (some_name_free Cs x) (imp x i) h)
 
+  -- of two steps that meet one changes nothing that matters to the other
   pub both_aside_of : (k : Step Control) (l : Step Controls) → Is k (steps Γ s C) → AllIs Γ s Cs l → answers k.event l.event ≡ true
       → OneChanges (controlled k.next) (all_controlled l.next) k.changes l.changes
   both_aside_of k l i j h =
@@ -209,6 +221,7 @@ module _ (Γ : Environment) (s : Values) (C : Control) (Cs : Controls) (kept : K
             (λ x w. all_ignore l.next Γ b.kept.types x (inl (rest_free l.next x b.less.names (kept.usage.1.0.first_writes x w)))) a.only))
       ]
 
+  -- the steps of trees that keep the rules are clear of one another
   pub clear_of : Clear Control Controls controlled all_controlled (λ k. Is k (steps Γ s C)) (AllIs Γ s Cs) Γ (controlled C) (all_controlled Cs)
   clear_of = record {
     first_aside = first_aside_of;

@@ -82,6 +82,7 @@ pub record Clear (A B : Type 0) (f : A → Meaning) (g : B → Meaning) (M : Ste
   pub both_aside : (k : Step A) (l : Step B) → M k → N l → answers k.event l.event ≡ true → OneChanges (f k.next) (g l.next) k.changes l.changes
   pub scope : (k : Step A) (e : Event) → M k → k.event ≡ Some e → in_scope Γ e ≡ true
 
+-- a behaviour of both comes of rest, of a step of one, or of two events that meet
 pub data TwoUnfolded (A B : Type 0) (f : A → Meaning) (g : B → Meaning) (M : Step A → Type 0) (N : Step B → Type 0) (m n : Meaning) (d : Bool)
     (Γ : Environment) (s : Values) : Trace → Outcome → Type 0 where
   both_end : d ≡ true → ((k : Step A) → M k → ⊥) → ((l : Step B) → N l → ⊥) → TwoUnfolded A B f g M N m n d Γ s [] (ended s)

@@ -31,6 +31,7 @@ over_at Γ s t o d =
     let Q : Outcome → Type 0 = λ r. Unfolded Control controlled (λ k. Is k []) true Γ s [] r in
     subst P (sym d.0) (subst Q (sym d.1) (ends refl (λ k i. elim i [ ])))
 
+-- what is over has no step
 pub over_stepping : (Γ : Environment) (s : Values) → Stepping [] true Γ s (at_once (λ Γ s. s))
 over_stepping Γ s = record { unfolds = record { comes = over_at Γ s }; rests = record { over = λ i. (refl, refl); refused = λ i X out. false_not_true (sym i) } }
 
@@ -91,6 +92,7 @@ declare_stepping Γ s x w p = record {
 
 -- ---- all
 
+-- each step of a process that waits is sound
 pub process_sound : (Γ : Environment) (s : Values) (p : Tree) (k : Step Control) → Is k (process_steps Γ s p)
     → Sound Γ s (meaning p) k.event k.changes (controlled k.next)
 process_sound Γ s skip k i = elim i [ ]
@@ -110,6 +112,7 @@ process_sound Γ s (declare x w p) k i =
     subst P (sym m.2) (record { behind = begin_behind Γ s x w m.0 (meaning p) (width_in (Some w) w m.0 refl (has_value (Some w) m.0 m.1)) })
 process_sound Γ s (connect c w p) k i = elim i [ ]
 
+-- the steps of a process that waits are all that it can do
 pub process_stepping : (Γ : Environment) (s : Values) (p : Tree) → waits_for_step p ≡ true → Stepping (process_steps Γ s p) false Γ s (meaning p)
 process_stepping Γ s skip h = false_not_true h
 process_stepping Γ s stop h = stop_stepping Γ s

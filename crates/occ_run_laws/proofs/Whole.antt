@@ -52,6 +52,7 @@ two_sound Γ s C Cs kept state h hs j (of_two k l i n a) =
     (subst P e.1 (h k i)) (subst Q e.2 (hs l n)) (both_aside_of Γ s C Cs kept state k l i n a)
 
 mutual
+  -- each step of a tree that keeps the rules is sound
   pub step_sound : (Γ : Environment) (s : Values) (C : Control) → Kept Γ C → IsState Γ s → (k : Step Control) → Is k (steps Γ s C)
       → Sound Γ s (controlled C) k.event k.changes (controlled k.next)
   step_sound Γ s done kept state k i = elim i [ ]
@@ -86,6 +87,7 @@ mutual
       subst P (sym m.2) (hidden_sound Γ s c w (controlled C) m.0.event m.0.changes (controlled m.0.next)
       (step_sound Δ s C (record { types = t.1; usage = kept.usage }) (connected_state Γ s c w state) m.0 f.0) f.1)
 
+  -- and so is each step of trees at once
   pub all_sound : (Γ : Environment) (s : Values) (Cs : Controls) → Kept Γ (both Cs) → IsState Γ s → (k : Step Controls) → AllIs Γ s Cs k
       → Sound Γ s (all_controlled Cs) k.event k.changes (all_controlled k.next)
   all_sound Γ s no_control kept state k i = elim i [ ]
@@ -94,6 +96,7 @@ mutual
 
 -- ---- the steps are all
 
+-- the steps of trees at once are all that they can do, and without steps they rest
 pub record AllStepping (Γ : Environment) (s : Values) (Cs : Controls) : Type 0 where
   pub unfolds : Unfolds Controls all_controlled (AllIs Γ s Cs) (all_done Cs) Γ s (all_controlled Cs)
   pub rests : AtRest Controls (AllIs Γ s Cs) (all_done Cs) Γ s (all_controlled Cs)
@@ -213,6 +216,7 @@ not_over : (Γ : Environment) (s : Values) (ks : List (Step Control)) (m : Meani
 not_over Γ s ks m d e h = let P : Bool → Type 0 = λ b. Stepping ks b Γ s m in subst P e h
 
 mutual
+  -- the steps of a settled tree are all that it can do, and without steps it rests
   pub step_stepping : (Γ : Environment) (s : Values) (C : Control) → Kept Γ C → IsState Γ s → is_settled C ≡ true → Stepping (steps Γ s C) (is_done C) Γ s (controlled C)
   step_stepping Γ s done kept state h = over_stepping Γ s
   step_stepping Γ s (unbegun p) kept state h = process_stepping Γ s p h
@@ -238,6 +242,7 @@ mutual
       channel_stepping Γ s c w C (not_over Δ s (steps Δ s C) (controlled C) (is_done C) (not-true (is_done C) j.0)
       (step_stepping Δ s C (record { types = t.1; usage = kept.usage }) (connected_state Γ s c w state) j.1))
 
+  -- the same of trees at once
   all_stepping : (Γ : Environment) (s : Values) (Cs : Controls) → Kept Γ (both Cs) → IsState Γ s → all_are_settled Cs ≡ true → AllStepping Γ s Cs
   all_stepping Γ s no_control kept state h = none_stepping Γ s
   all_stepping Γ s (and_control C Cs) kept state h =

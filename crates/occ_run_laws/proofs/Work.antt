@@ -18,6 +18,7 @@ use Rattle.std.proofs.Common.{Bool, List, None, Some, [], ap, arith, false, if�
 use Rattle.std.specs.List.{filter}
 
 abbrev mutual
+  -- the steps that a process can take at most
   pub part_work : Tree → ℕ
   part_work skip = 0
   part_work stop = 0
@@ -44,6 +45,7 @@ abbrev mutual
   branches_work (and_branch e w p bs) = 1 + part_work p + branches_work bs
 
 abbrev mutual
+  -- the steps that a control tree can take at most
   pub work : Control → ℕ
   work done = 0
   work (unbegun p) = part_work p
@@ -59,6 +61,7 @@ abbrev mutual
 -- ---- no more than the controls of the program
 
 mutual
+  -- a process takes no more steps than it has controls
   pub work_bounded : (p : Tree) → part_work p ≤ controls p
   work_bounded skip = omega arith
   work_bounded stop = omega arith
@@ -115,6 +118,7 @@ channel_work c w (local y u a C) n h = h
 channel_work c w (channel b u C) n h = h
 
 mutual
+  -- beginning adds no step
   begun_work : (Γ : Environment) (s : Values) (p : Tree) → work (begun Γ s p) ≤ part_work p
   begun_work Γ s skip = omega arith
   begun_work Γ s stop = omega arith
@@ -143,6 +147,7 @@ mutual
       either_work (is_true Γ e s) (begun Γ s p) (begun_choice Γ s cs) (part_work p + cases_work cs) (omega arith) (omega arith)
 
 mutual
+  -- settling adds no step
   pub settled_work : (Γ : Environment) (s : Values) (C : Control) → work (settled Γ s C) ≤ work C
   settled_work Γ s done = omega arith
   settled_work Γ s (unbegun p) = begun_work Γ s p
@@ -201,6 +206,7 @@ which_work Γ s C Cs h hs j (of_rest l i) = let a = hs l i in omega arith
 which_work Γ s C Cs h hs j (of_two k l i n m) = let a = h k i in let b = hs l n in omega arith
 
 mutual
+  -- each step leaves less to do
   pub step_work : (Γ : Environment) (s : Values) (C : Control) (k : Step Control) → Is k (steps Γ s C) → work k.next < work C
   step_work Γ s done k i = elim i [ ]
   step_work Γ s (unbegun p) k i = process_work Γ s p k i
@@ -222,6 +228,7 @@ mutual
       let e : work k.next ≡ work m.0.next = ap (λ j. work j.next) m.2 in
       let h = step_work (with_name Γ c (Chan w None)) s C m.0 f.0 in omega arith
 
+  -- the same of trees at once
   all_step_work : (Γ : Environment) (s : Values) (Cs : Controls) (k : Step Controls) → AllIs Γ s Cs k → works k.next < works Cs
   all_step_work Γ s no_control k i = elim i [ ]
   all_step_work Γ s (and_control C Cs) k i = which_work Γ s C Cs (step_work Γ s C) (all_step_work Γ s Cs) k (which Γ s C Cs k i)
