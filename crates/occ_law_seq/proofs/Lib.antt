@@ -1,0 +1,4 @@
+pub mod Here
+pub mod Placed
+pub mod Simple
+pub mod Tabled

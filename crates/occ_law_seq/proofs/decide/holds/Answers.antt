@@ -1,0 +1,29 @@
+use Rattle.std.proofs.Common.{◌≡◌, arith}
+use Rattle.occ_syntax.specs.View.{tree}
+use Rattle.occ_law_seq.proofs.Tabled.{in_table}
+use Rattle.occ_law_seq.proofs.decide.holds.Goals as goal
+
+pub returns-in-1 : goal.returns-in-1
+returns-in-1 c =
+    let number : c.args.law.0 ≡ 1 = omega arith in
+    in_table c.args.law.0 1 c.args.scope.now (tree c.args.left.now) (tree c.args.right.now) number c.requires.left c.requires.right c.seq_none.result c.seq_none.ensures
+
+pub returns-in-2 : goal.returns-in-2
+returns-in-2 c =
+    let number : c.args.law.0 ≡ 2 = omega arith in
+    in_table c.args.law.0 2 c.args.scope.now (tree c.args.left.now) (tree c.args.right.now) number c.requires.left c.requires.right c.seq_one.result c.seq_one.ensures
+
+pub returns-in-3 : goal.returns-in-3
+returns-in-3 c =
+    let number : c.args.law.0 ≡ 3 = omega arith in
+    in_table c.args.law.0 3 c.args.scope.now (tree c.args.left.now) (tree c.args.right.now) number c.requires.left c.requires.right c.seq_flat.result c.seq_flat.ensures
+
+pub returns-in-4 : goal.returns-in-4
+returns-in-4 c =
+    let number : c.args.law.0 ≡ 4 = omega arith in
+    in_table c.args.law.0 4 c.args.scope.now (tree c.args.left.now) (tree c.args.right.now) number c.requires.left c.requires.right c.seq_skip.result c.seq_skip.ensures
+
+pub returns-in_default : goal.returns-in_default
+returns-in_default c =
+    let number : c.args.law.0 ≡ 5 = omega arith in
+    in_table c.args.law.0 5 c.args.scope.now (tree c.args.left.now) (tree c.args.right.now) number c.requires.left c.requires.right c.seq_stop.result c.seq_stop.ensures

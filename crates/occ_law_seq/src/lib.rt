@@ -1,0 +1,8 @@
+//! Decides the laws of SEQ, of assignment, and of communication as choice.
+#![tactic(auto)]
+
+mod decide;
+mod places;
+mod sequence;
+
+pub use decide::holds;
