@@ -1,3 +1,4 @@
+pub mod Followers
 pub mod Here
 pub mod Placed
 pub mod Simple

@@ -1,7 +1,7 @@
 -- seq-none and seq-one by the parts of the left side.
 use Rattle.std.proofs.Common.{◌≡◌, ℕ, ◌↔◌, Bool, IsTrue, List, [], ◌∷◌, length, refl, ap, sym, ◌∙◌, subst, arith}
 use Rattle.occ_syntax.specs.declared.proc.Proc.{Proc}
-use Rattle.occ_syntax.specs.Tree.{Tree, seq, skip, Trees, no_tree, and_tree}
+use Rattle.occ_syntax.specs.Tree.{Tree, seq, skip, Trees, no_tree}
 use Rattle.occ_syntax.specs.View.{trees}
 use Rattle.occ_meaning.specs.Parallel.{one}
 use Rattle.occ_law_rules.specs.Sequence.{SeqNone, seq_none, SeqOne, seq_one}

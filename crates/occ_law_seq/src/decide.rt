@@ -1,20 +1,28 @@
-ghost use Rattle.std.specs.Prelude.{◌≡◌, ◌↔◌, ◌≤◌, IfOk, IsTrue, true};
+ghost use Rattle.std.specs.Prelude.{◌≡◌, ◌↔◌, ◌<◌, ◌≤◌, IfOk, IsTrue, true};
 ghost use Rattle.occ_syntax.specs.Scopes.{environment};
 ghost use Rattle.occ_syntax.specs.Types.{scope_kept};
 ghost use Rattle.occ_syntax.specs.Usage.{Keeps};
 ghost use Rattle.occ_syntax.specs.View.{tree};
 ghost use Rattle.occ_law_rules.specs.Table.{LAW};
 
+use crate::behind::seq_if;
 use crate::sequence::{seq_flat, seq_none, seq_one, seq_skip, seq_stop};
 use occ_base::Memory;
 use occ_law::LawId;
 use occ_syntax::{Proc, Scope};
+use std::alloc::Global;
 
-/// Whether two parts are the two sides of a law in a scope. So far the law is one of seq-none, seq-one, seq-flat, seq-skip and
-/// seq-stop. Both parts keep names, types, directions and usage in the scope.
-pub fn holds(law: LawId, scope: &Scope, left: &Proc, right: &Proc) -> Result<bool, Memory>
+/// Whether two parts are the two sides of a law in a scope. So far the law is one of seq-none, seq-one, seq-flat, seq-skip,
+/// seq-stop and seq-if. Both parts keep names, types, directions and usage in the scope.
+pub fn holds(
+    alloc: Global,
+    law: LawId,
+    scope: &Scope,
+    left: &Proc,
+    right: &Proc,
+) -> Result<bool, Memory>
     requires low { 1 ≤ law.0 }
-    requires high { law.0 ≤ 5 }
+    requires decided { 5 < law.0 → law.0 ≡ 12 }
     requires scope { scope_kept scope.now ≡ true }
     requires left { Keeps (environment scope.now) (tree left.now) }
     requires right { Keeps (environment scope.now) (tree right.now) }
@@ -25,6 +33,7 @@ pub fn holds(law: LawId, scope: &Scope, left: &Proc, right: &Proc) -> Result<boo
         2 => seq_one(left, right),
         3 => seq_flat(left, right),
         4 => seq_skip(left, right),
-        _ => seq_stop(left, right),
+        5 => seq_stop(left, right),
+        _ => seq_if(alloc, left, right),
     }
 }

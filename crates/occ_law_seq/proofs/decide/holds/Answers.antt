@@ -1,4 +1,4 @@
-use Rattle.std.proofs.Common.{◌≡◌, arith}
+use Rattle.std.proofs.Common.{◌≡◌, ◌<◌, arith}
 use Rattle.occ_syntax.specs.View.{tree}
 use Rattle.occ_law_seq.proofs.Tabled.{in_table}
 use Rattle.occ_law_seq.proofs.decide.holds.Goals as goal
@@ -23,7 +23,12 @@ returns-in-4 c =
     let number : c.args.law.0 ≡ 4 = omega arith in
     in_table c.args.law.0 4 c.args.scope.now (tree c.args.left.now) (tree c.args.right.now) number c.requires.left c.requires.right c.seq_skip.result c.seq_skip.ensures
 
-pub returns-in_default : goal.returns-in_default
-returns-in_default c =
+pub returns-in-5 : goal.returns-in-5
+returns-in-5 c =
     let number : c.args.law.0 ≡ 5 = omega arith in
     in_table c.args.law.0 5 c.args.scope.now (tree c.args.left.now) (tree c.args.right.now) number c.requires.left c.requires.right c.seq_stop.result c.seq_stop.ensures
+
+pub returns-in_default : goal.returns-in_default
+returns-in_default c =
+    let above : 5 < c.args.law.0 = omega arith in
+    in_table c.args.law.0 12 c.args.scope.now (tree c.args.left.now) (tree c.args.right.now) (c.requires.decided above) c.requires.left c.requires.right c.seq_if.result c.seq_if.ensures

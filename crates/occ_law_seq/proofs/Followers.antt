@@ -1,0 +1,60 @@
+-- seq-if by its choices.
+use Rattle.std.proofs.Common.{◌≡◌, ℕ, ◌↔◌, Bool, IsTrue, ◌&&◌, List, [], refl, ap, sym, ◌∙◌, subst}
+use Rattle.std.proofs.lemmas.Bool.{and_parts}
+use Rattle.occ_syntax.specs.Tree.{Tree, seq, select, Trees, no_tree, and_tree, Cases, no_case, and_case}
+use Rattle.occ_law_rules.specs.Sequence.{SeqIf, seq_if, each_case_before}
+use Rattle.occ_law_shape.specs.Pieces.{each_choice}
+use Rattle.occ_law_seq.specs.Behind.{followed}
+
+pub fronts : (p q : Tree) (ps qs : Trees) → and_tree p ps ≡ and_tree q qs → p ≡ q
+fronts p q ps qs e = cc
+
+pub rests : (p q : Tree) (ps qs : Trees) → and_tree p ps ≡ and_tree q qs → ps ≡ qs
+rests p q ps qs e = cc
+
+pub never_divided : (ps : Trees) → ps ≡ no_tree → (p : Tree) (qs : Trees) → ps ≡ and_tree p qs → ⊥
+never_divided ps e p qs k = cc
+
+-- a SEQ is another one where its list is the other one's
+pub seq_is : (w : Tree) (ps rs : Trees) (b : Bool) → seq ps ≡ w → (IsTrue b ↔ (ps ≡ rs)) → IsTrue b ↔ (w ≡ seq rs)
+seq_is w ps rs b e test = ((λ h. sym e ∙ ap seq (test.0 h)), (λ k. test.1 (inner ps rs (e ∙ k))))
+  where
+    inner : (ps rs : Trees) → seq ps ≡ seq rs → ps ≡ rs
+    inner ps rs e = cc
+
+-- a list is a part and a list where its first part and its rest are these
+pub row_is : (ps : Trees) (p q : Tree) (qs rs : Trees) (a b : Bool) → ps ≡ and_tree p qs → (IsTrue a ↔ (p ≡ q)) → (IsTrue b ↔ (qs ≡ rs)) → IsTrue (a && b) ↔ (ps ≡ and_tree q rs)
+row_is ps p q qs rs a b e f g = (
+  (λ h. let t = and_parts a b h in e ∙ ap (λ z. and_tree z qs) (f.0 t.0) ∙ ap (and_tree q) (g.0 t.1)),
+  (λ k. both a b (f.1 (fronts p q qs rs (sym e ∙ k))) (g.1 (rests p q qs rs (sym e ∙ k)))),
+)
+  where
+    both : (a b : Bool) → IsTrue a → IsTrue b → IsTrue (a && b)
+    both a b h k = ap (λ z. z && b) h ∙ k
+
+pieces_if : (cs : Cases) (qs : Trees) → each_choice (λ b. b) (followed qs) cs ≡ each_case_before cs qs
+pieces_if no_case qs = refl
+pieces_if (and_case b p cs) qs = ap (and_case b (seq (and_tree p qs))) (pieces_if cs qs)
+
+if_right : (cs : Cases) (qs : Trees) (place : List ℕ) (r : Tree) → SeqIf place (seq (and_tree (select cs) qs)) r → r ≡ select (each_case_before cs qs)
+if_right cs qs place r (seq_if ds rs) = refl
+
+-- seq-if where the other choices are the choices with what follows
+pub if_law : (f r : Tree) (cs ds : Cases) (qs : Trees) → select cs ≡ f → select ds ≡ r
+    → (ds ≡ each_choice (λ b. b) (followed qs) cs) ↔ ((place : List ℕ) × SeqIf place (seq (and_tree f qs)) r)
+if_law f r cs ds qs e g = (
+  (λ h. ([], subst (λ z. SeqIf [] (seq (and_tree z qs)) r) e (subst (λ z. SeqIf [] (seq (and_tree (select cs) qs)) z) (ap select (sym (h ∙ pieces_if cs qs)) ∙ g) (seq_if cs qs)))),
+  (λ k. inner ds (each_case_before cs qs) (g ∙ if_right cs qs k.0 r (subst (λ z. SeqIf k.0 (seq (and_tree z qs)) r) (sym e) k.1)) ∙ sym (pieces_if cs qs)),
+)
+  where
+    inner : (cs ds : Cases) → select cs ≡ select ds → cs ≡ ds
+    inner cs ds e = cc
+
+-- a SEQ without parts isn't the left side
+pub if_never : (l r : Tree) (ps : Trees) → seq ps ≡ l → ((p : Tree) (qs : Trees) → ps ≡ and_tree p qs → ⊥) → (place : List ℕ) × SeqIf place l r → ⊥
+if_never l r ps e never k = first_there l r ps e never k.0 k.1
+  where
+    first_there : (l r : Tree) (ps : Trees) → seq ps ≡ l → ((p : Tree) (qs : Trees) → ps ≡ and_tree p qs → ⊥) → (place : List ℕ) → SeqIf place l r → ⊥
+    first_there l r ps e never place (seq_if cs qs) =
+        let g : ps ≡ and_tree (select cs) qs = cc in
+        never (select cs) qs g
