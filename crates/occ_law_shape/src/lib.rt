@@ -7,6 +7,6 @@ mod pieces;
 mod places;
 
 pub use form::{Form, opened};
-pub use lists::{behind, only, pair, same_expressions, same_names, same_procs};
+pub use lists::{behind, only, pair, same_expressions, same_names, same_procs, same_waits};
 pub use pieces::{BranchPiece, ChoicePiece, are_branch_pieces, are_choice_pieces};
 pub use places::{Place, somewhere};

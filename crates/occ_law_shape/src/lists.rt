@@ -1,9 +1,9 @@
 ghost use Rattle.std.specs.Prelude.{◌≡◌, ◌↔◌, IsTrue};
-ghost use Rattle.occ_syntax.specs.View.{exps, numbers, trees};
+ghost use Rattle.occ_syntax.specs.View.{exps, numbers, trees, waiting};
 ghost use Rattle.occ_law_shape.specs.Lists.{IsBehind, IsOnly, IsPair};
 
 use occ_base::Name;
-use occ_syntax::{Expr, Proc, same_expr, same_proc};
+use occ_syntax::{Expr, Proc, Wait, same_expr, same_proc};
 
 /// The part of a list that has one; None exactly where it hasn't one. It takes no memory.
 pub fn only(parts: &[Proc]) -> Option<&Proc>
@@ -81,4 +81,21 @@ pub fn same_names(left: &[Name], right: &[Name]) -> bool
     ensures { IsTrue result ↔ (numbers left.now ≡ numbers right.now) }
 {
     left == right
+}
+
+/// Whether two guards wait for the same. It takes no memory.
+pub fn same_waits(left: &Wait, right: &Wait) -> bool
+    ensures { IsTrue result ↔ (waiting left.now ≡ waiting right.now) }
+{
+    match left {
+        Wait::Skip => matches!(right, Wait::Skip),
+        Wait::Get { chan, var } => match right {
+            Wait::Get { chan: c, var: v } => chan == c && var == v,
+            _ => false,
+        },
+        Wait::Put { chan, value } => match right {
+            Wait::Put { chan: c, value: v } => chan == c && same_expr(value, v),
+            _ => false,
+        },
+    }
 }

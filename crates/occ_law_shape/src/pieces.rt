@@ -24,7 +24,8 @@ pub trait ChoicePiece {
     ) -> Result<bool, Memory>
         requires { is_ready self.now }
         ensures { IfOk result (λ answer. IsTrue answer
-            ↔ ((exp other.now.0 ≡ condition self.now (exp choice.now.0)) × (tree other.now.1 ≡ process self.now (tree choice.now.1)))) };
+            ↔ ((exp other.now.0 ≡ condition self.now (exp choice.now.0))
+            × (tree other.now.1 ≡ process self.now (tree choice.now.1)))) };
 }
 
 /// What a law makes of each branch of an ALT: of its condition, of what it waits for, and of its process in view of that.
@@ -87,7 +88,8 @@ pub fn are_branch_pieces<P: BranchPiece>(
 ) -> Result<bool, Memory>
     requires { P.is_ready piece.now }
     ensures { IfOk result (λ answer. IsTrue answer
-        ↔ (branches others.now ≡ each_branch (P.condition piece.now) (P.wait piece.now) (P.process piece.now) (branches alternatives.now))) }
+        ↔ (branches others.now
+        ≡ each_branch (P.condition piece.now) (P.wait piece.now) (P.process piece.now) (branches alternatives.now))) }
 {
     let mut rest = alternatives;
     let mut other_rest = others;
