@@ -1,9 +1,9 @@
--- seq-if by its choices.
+-- seq-if by its choices, and seq-alt by its branches.
 use Rattle.std.proofs.Common.{◌≡◌, ℕ, ◌↔◌, Bool, IsTrue, ◌&&◌, List, [], refl, ap, sym, ◌∙◌, subst}
 use Rattle.std.proofs.lemmas.Bool.{and_parts}
-use Rattle.occ_syntax.specs.Tree.{Tree, seq, select, Trees, no_tree, and_tree, Cases, no_case, and_case}
-use Rattle.occ_law_rules.specs.Sequence.{SeqIf, seq_if, each_case_before}
-use Rattle.occ_law_shape.specs.Pieces.{each_choice}
+use Rattle.occ_syntax.specs.Tree.{Tree, seq, select, alt, Trees, no_tree, and_tree, Cases, no_case, and_case, Branches, no_branch, and_branch}
+use Rattle.occ_law_rules.specs.Sequence.{SeqAlt, seq_alt, SeqIf, seq_if, each_branch_before, each_case_before}
+use Rattle.occ_law_shape.specs.Pieces.{each_branch, each_choice}
 use Rattle.occ_law_seq.specs.Behind.{followed}
 
 pub fronts : (p q : Tree) (ps qs : Trees) → and_tree p ps ≡ and_tree q qs → p ≡ q
@@ -58,3 +58,30 @@ if_never l r ps e never k = first_there l r ps e never k.0 k.1
     first_there l r ps e never place (seq_if cs qs) =
         let g : ps ≡ and_tree (select cs) qs = cc in
         never (select cs) qs g
+
+pieces_alt : (gs : Branches) (qs : Trees) → each_branch (λ b. b) (λ w. w) (λ w p. followed qs p) gs ≡ each_branch_before gs qs
+pieces_alt no_branch qs = refl
+pieces_alt (and_branch b w p gs) qs = ap (and_branch b w (seq (and_tree p qs))) (pieces_alt gs qs)
+
+alt_right : (gs : Branches) (qs : Trees) (place : List ℕ) (r : Tree) → SeqAlt place (seq (and_tree (alt gs) qs)) r → r ≡ alt (each_branch_before gs qs)
+alt_right gs qs place r (seq_alt hs rs) = refl
+
+-- seq-alt where the other branches are the branches with what follows
+pub alt_law : (f r : Tree) (gs hs : Branches) (qs : Trees) → alt gs ≡ f → alt hs ≡ r
+    → (hs ≡ each_branch (λ b. b) (λ w. w) (λ w p. followed qs p) gs) ↔ ((place : List ℕ) × SeqAlt place (seq (and_tree f qs)) r)
+alt_law f r gs hs qs e g = (
+  (λ h. ([], subst (λ z. SeqAlt [] (seq (and_tree z qs)) r) e (subst (λ z. SeqAlt [] (seq (and_tree (alt gs) qs)) z) (ap alt (sym (h ∙ pieces_alt gs qs)) ∙ g) (seq_alt gs qs)))),
+  (λ k. inner hs (each_branch_before gs qs) (g ∙ alt_right gs qs k.0 r (subst (λ z. SeqAlt k.0 (seq (and_tree z qs)) r) (sym e) k.1)) ∙ sym (pieces_alt gs qs)),
+)
+  where
+    inner : (gs hs : Branches) → alt gs ≡ alt hs → gs ≡ hs
+    inner gs hs e = cc
+
+-- a SEQ without parts isn't the left side
+pub alt_never : (l r : Tree) (ps : Trees) → seq ps ≡ l → ((p : Tree) (qs : Trees) → ps ≡ and_tree p qs → ⊥) → (place : List ℕ) × SeqAlt place l r → ⊥
+alt_never l r ps e never k = first_there l r ps e never k.0 k.1
+  where
+    first_there : (l r : Tree) (ps : Trees) → seq ps ≡ l → ((p : Tree) (qs : Trees) → ps ≡ and_tree p qs → ⊥) → (place : List ℕ) → SeqAlt place l r → ⊥
+    first_there l r ps e never place (seq_alt gs qs) =
+        let g : ps ≡ and_tree (alt gs) qs = cc in
+        never (alt gs) qs g

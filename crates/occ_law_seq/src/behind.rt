@@ -1,14 +1,16 @@
 ghost use Rattle.std.specs.Prelude.{◌≡◌, ◌↔◌, IfOk, IsTrue};
 ghost use Rattle.occ_syntax.specs.Tree.{and_tree, seq};
 ghost use Rattle.occ_syntax.specs.View.{tree, trees};
-ghost use Rattle.occ_law_rules.specs.Sequence.{SeqIf};
+ghost use Rattle.occ_law_rules.specs.Sequence.{SeqAlt, SeqIf};
 ghost use Rattle.occ_law_shape.specs.Answer.{IsAnswer};
 ghost use Rattle.occ_law_seq.specs.Behind.{IsDivided, followed};
 
 use occ_base::Memory;
 use occ_law::{law_case, shape};
-use occ_law_shape::{ChoicePiece, are_choice_pieces, same_procs};
-use occ_syntax::{Expr, Proc, same_expr, same_proc};
+use occ_law_shape::{
+    BranchPiece, ChoicePiece, are_branch_pieces, are_choice_pieces, same_procs, same_waits,
+};
+use occ_syntax::{Expr, Guard, Proc, same_expr, same_proc};
 use std::alloc::Global;
 
 /// What follows each process.
@@ -34,6 +36,31 @@ impl ChoicePiece for Followed<'_> {
             return Ok(false);
         }
         Ok(is_followed(&choice.1, self.behind, &other.1))
+    }
+}
+
+impl BranchPiece for Followed<'_> {
+    ghost is_ready = { λ _. Unit {0} };
+
+    ghost condition = { λ _ b. b };
+
+    ghost wait = { λ _ w. w };
+
+    ghost process = { λ piece _ p. followed (trees piece.behind.now) p };
+
+    fn fits(
+        &self,
+        _alloc: Global,
+        branch: &(Guard, Proc),
+        other: &(Guard, Proc),
+    ) -> Result<bool, Memory> {
+        if !same_expr(&other.0.condition, &branch.0.condition) {
+            return Ok(false);
+        }
+        if !same_waits(&other.0.wait, &branch.0.wait) {
+            return Ok(false);
+        }
+        Ok(is_followed(&branch.1, self.behind, &other.1))
     }
 }
 
@@ -82,5 +109,23 @@ fn if_behind(alloc: Global, first: &Proc, behind: &[Proc], right: &Proc) -> Resu
 {
     law_case!(first, If(choices); right, If(others) => {
         are_choice_pieces(alloc, &Followed { behind }, choices, others)
+    })
+}
+
+/// SEQ(ALT(gs), Qs) = the ALT in which each process P is SEQ(P, Qs)
+pub(crate) fn seq_alt(alloc: Global, left: &Proc, right: &Proc) -> Result<bool, Memory>
+    ensures { IfOk result (IsAnswer SeqAlt (tree left.now) (tree right.now)) }
+{
+    shape!(left, Seq(parts) => match divided(parts) {
+        Some((first, behind)) => alt_behind(alloc, first, behind, right),
+        None => Ok(false),
+    })
+}
+
+fn alt_behind(alloc: Global, first: &Proc, behind: &[Proc], right: &Proc) -> Result<bool, Memory>
+    ensures { IfOk result (IsAnswer SeqAlt (seq (and_tree (tree first.now) (trees behind.now))) (tree right.now)) }
+{
+    law_case!(first, Alt(alternatives); right, Alt(others) => {
+        are_branch_pieces(alloc, &Followed { behind }, alternatives, others)
     })
 }

@@ -28,7 +28,14 @@ returns-in-5 c =
     let number : c.args.law.0 ≡ 5 = omega arith in
     in_table c.args.law.0 5 c.args.scope.now (tree c.args.left.now) (tree c.args.right.now) number c.requires.left c.requires.right c.seq_stop.result c.seq_stop.ensures
 
+pub returns-in-12 : goal.returns-in-12
+returns-in-12 c =
+    let number : c.args.law.0 ≡ 12 = omega arith in
+    in_table c.args.law.0 12 c.args.scope.now (tree c.args.left.now) (tree c.args.right.now) number c.requires.left c.requires.right c.seq_if.result c.seq_if.ensures
+
 pub returns-in_default : goal.returns-in_default
 returns-in_default c =
     let above : 5 < c.args.law.0 = omega arith in
-    in_table c.args.law.0 12 c.args.scope.now (tree c.args.left.now) (tree c.args.right.now) (c.requires.decided above) c.requires.left c.requires.right c.seq_if.result c.seq_if.ensures
+    let far : 11 < c.args.law.0 = c.requires.decided above in
+    let number : c.args.law.0 ≡ 13 = omega arith in
+    in_table c.args.law.0 13 c.args.scope.now (tree c.args.left.now) (tree c.args.right.now) number c.requires.left c.requires.right c.seq_alt.result c.seq_alt.ensures
