@@ -1,1 +1,4 @@
+pub mod Rows
+pub mod Divided
 pub mod Words
+pub mod Blank

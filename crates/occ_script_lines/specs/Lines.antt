@@ -6,8 +6,8 @@ use Rattle.occ_lex.specs.Rows.{code_of, is_space}
 use Rattle.occ_lex.specs.Spelling.{is_between, is_name_byte}
 use Rattle.occ_script_path.specs.declared.direction.Direction.{Direction}
 use Rattle.occ_script_path.specs.declared.direction.Direction.TheVariants as direction
-use Rattle.occ_script_lines.specs.declared.texts.Format.{Format}
-use Rattle.occ_script_lines.specs.declared.texts.Format.TheVariants as format
+use Rattle.occ_script_lines.specs.declared.section.Format.{Format}
+use Rattle.occ_script_lines.specs.declared.section.Format.TheVariants as format
 use Rattle.occ_script_path.specs.Texts.{is_byte, path_of}
 
 -- a byte that a name could go on with

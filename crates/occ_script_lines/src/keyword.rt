@@ -8,7 +8,7 @@ ghost use Rattle.occ_script_lines.specs.Lines.{begins_with, direction_of, goes_o
 ghost use Rattle.occ_script_path.specs.Places.{pieces_behind};
 ghost use Rattle.occ_script_path.specs.Texts.{is_byte};
 
-use crate::Format;
+use crate::section::Format;
 use occ_base::Memory;
 use occ_lex::{code, is_name_byte};
 use occ_script_path::{Direction, Path, cut, path};
@@ -57,7 +57,7 @@ fn are_spaces(text: &[u8]) -> bool
 }
 
 /// Whether nothing but spaces and a comment stands in a row. It takes no memory.
-pub fn is_blank_row(row: &[u8]) -> bool
+pub(crate) fn is_blank_row(row: &[u8]) -> bool
     ensures { result ≡ is_blank_row row.now }
 {
     are_spaces(code(row))

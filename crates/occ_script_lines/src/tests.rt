@@ -1,6 +1,13 @@
-use crate::step_line;
+use crate::{last_line, step_line};
 use occ_base::Memory;
 use occ_script_path::Direction;
+
+#[test]
+fn last_lines_are_not_blank(rt: HostRuntime) -> Result<(), Memory> {
+    assert!(rt; last_line(b"occam-script 2\nTO\n -- end\n\n") == 2);
+    assert!(rt; last_line(b"") == 1);
+    Ok(())
+}
 
 #[test]
 fn steps_are_read(rt: HostRuntime) -> Result<(), Memory> {
