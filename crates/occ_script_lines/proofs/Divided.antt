@@ -1,16 +1,16 @@
 -- A text as its sections.
-use Rattle.std.proofs.Common.{◌≡◌, ℕ, ◌+◌, ◌-◌, ◌<◌, ◌≤◌, Bool, true, false, List, [], ◌∷◌, ◌++◌, length, map, take, drop, refl, sym, ap, ◌∙◌, arith, append_assoc}
+use Rattle.std.proofs.Common.{◌≡◌, ℕ, ◌+◌, ◌-◌, ◌<◌, ◌≤◌, Bool, true, false, List, [], ◌∷◌, ◌++◌, length, take, drop, refl, sym, ap, ◌∙◌, arith, append_assoc}
 use Rattle.std.specs.List.{concat}
 use Rattle.std.proofs.lemmas.Bool.{cond-true, cond-false}
-use Rattle.std.proofs.lemmas.List.{append-nil, drop-drop, drop-take, length-append, length-take-le, map-append, take-take, take_at}
+use Rattle.std.proofs.lemmas.List.{append-nil, drop-take, length-take-le, take-take, take_at}
 use Rattle.occ_lex.specs.Rows.{first_row, read_rows, rows}
 use Rattle.occ_lex.proofs.RowLemmas.{with_lines}
 use Rattle.occ_lex.proofs.Placing.{concat-rows}
 use Rattle.occ_script_lines.specs.declared.section.Format.{Format}
 use Rattle.occ_script_lines.specs.declared.section.Section.{Section as Seen}
 use Rattle.occ_script_lines.specs.Lines.{is_keyword}
-use Rattle.occ_script_lines.specs.Sections.{IsBody, Section, beyond, later_sections, reading_in, section, section_at, sections_from, until}
-use Rattle.occ_script_lines.proofs.Rows.{front_row, row_there, rows-none, rows-step, take-add}
+use Rattle.occ_script_lines.specs.Sections.{IsBody, beyond, later_sections, reading_in, section, section_at, sections_from, until}
+use Rattle.occ_script_lines.proofs.Rows.{row_there}
 
 -- ---- the rows up to the next keyword line
 
@@ -57,22 +57,6 @@ pub record IsCounted (f : Format) (text : List ℕ) (at count : ℕ) : Type 0 wh
   pub number : count + length (until f (rows (drop at text))) ≡ length (until f (rows text))
   pub rest : beyond f (rows (drop at text)) ≡ beyond f (rows text)
 
-pub counted_none : (f : Format) (text : List ℕ) → IsCounted f text 0 0
-counted_none f text = record { within = omega arith; small = omega arith; bytes = omega arith; number = omega arith; rest = refl }
-
-pub counted_more : (f : Format) (text row : List ℕ) (at count : ℕ) → at < length text → row ≡ first_row (drop at text) → is_keyword f row ≡ false → (0 < length row) × (at + length row ≤ length text)
-    → IsCounted f text at count → IsCounted f text (at + length row) (count + 1)
-counted_more f text row at count within is other fits so_far =
-    let rest = rows (drop (at + length row) text) in
-    let step : until f (rows (drop at text)) ≡ row ∷ until f rest = ap (until f) (rows-step text row at within is) ∙ until_go f row rest other in
-    record {
-      within = fits.1;
-      small = omega (arith, so_far.small, fits.0);
-      bytes = omega (arith, so_far.bytes, ap (λ us. length (concat us)) step, length-append row (concat (until f rest)));
-      number = omega (arith, so_far.number, ap length step);
-      rest = sym (ap (beyond f) (rows-step text row at within is) ∙ beyond_go f row rest other) ∙ so_far.rest;
-    }
-
 front_taken : (text front back : List ℕ) (n : ℕ) → front ++ back ≡ text → n ≡ length front → take n text ≡ front
 front_taken text front back n e h = ap (take n) (sym e) ∙ take_at front back n (sym h)
 
@@ -82,17 +66,6 @@ whole f text at count us bs so_far = record {
   counted = omega (arith, so_far.number, ap length us);
   rest = sym bs ∙ so_far.rest;
 }
-
-pub counted_stop : (f : Format) (text row : List ℕ) (at count : ℕ) → at < length text → row ≡ first_row (drop at text) → is_keyword f row ≡ true → IsCounted f text at count → IsBody f text at count
-counted_stop f text row at count within is key so_far =
-    let rest = rows (drop (at + length row) text) in
-    let step = rows-step text row at within is in
-    whole f text at count (ap (until f) step ∙ until_stop f row rest key) (ap (beyond f) step ∙ beyond_stop f row rest key ∙ sym step) so_far
-
-pub counted_all : (f : Format) (text : List ℕ) (at count : ℕ) → length text ≤ at → IsCounted f text at count → IsBody f text at count
-counted_all f text at count past so_far =
-    let none = rows-none text at past in
-    whole f text at count (ap (until f) none ∙ until_nil f) (ap (beyond f) none ∙ beyond_nil f ∙ sym none) so_far
 
 -- ---- sections
 
@@ -139,44 +112,6 @@ row_in text row at len within is =
     let all : at + length row + len ≡ at + (length row + len) = omega arith in
     ap (λ (k : ℕ). take k (drop at (take (at + length row + len) text))) small ∙ ap (λ (k : ℕ). take (length row) (drop at (take k text))) all
     ∙ ap (take (length row)) (drop-take at (length row + len) text) ∙ take-take (length row) (length row + len) (drop at text) (omega arith) ∙ row_there text row at within is
-
--- one section more was found
-pub sections_more : (f : Format) (text row : List ℕ) (found more : List Seen) (seen : Seen) (n at len count : ℕ) (all : List Section) → at < length text → row ≡ first_row (drop at text)
-    → at + length row + len ≤ length text → IsBody f (drop (at + length row) text) len count
-    → more ≡ found ++ seen ∷ [] → seen.number ≡ n → seen.start ≡ at → seen.end ≡ at + length row → seen.upto.now ≡ take (at + length row + len) text
-    → map section found ++ sections_from f n (take at text) (rows (drop at text)) ≡ all
-    → map section more ++ sections_from f (n + (1 + count)) (take (at + length row + len) text) (rows (drop (at + length row + len) text)) ≡ all
-sections_more f text row found more seen n at len count all within is fits b e e_number e_row e_end e_upto so_far =
-    let end = at + length row in
-    let rest = rows (drop end text) in
-    let front = take at text in
-    let us = until f rest in
-    let upto_end : front ++ row ≡ take end text = sym (front_row text row at within is) in
-    let row_of : take (end - at) (drop at (take (end + len) text)) ≡ row = row_in text row at len within is in
-    let here : section seen ≡ section_at f n front row rest = λ i. record {
-      number = e_number i;
-      row = (ap (λ k. take (k - seen.start) (drop seen.start seen.upto.now)) e_end ∙ ap (λ k. take (end - k) (drop k seen.upto.now)) e_row ∙ ap (λ t. take (end - at) (drop at t)) e_upto ∙ row_of) i;
-      front = (ap (λ k. take k seen.upto.now) e_end ∙ ap (take end) e_upto ∙ take-take end (end + len) text (omega arith) ∙ sym upto_end) i;
-      body = (ap (λ k. drop k seen.upto.now) e_end ∙ ap (drop end) e_upto ∙ drop-take end len text ∙ b.body) i;
-    } in
-    let whole_front : take (end + len) text ≡ (front ++ row) ++ concat us = take-add end len text ∙ ap (λ t. t ++ take len (drop end text)) (sym upto_end) ∙ ap (λ t. (front ++ row) ++ t) b.body in
-    let left : rows (drop (end + len) text) ≡ beyond f rest = ap rows (sym (drop-drop len end text)) ∙ b.rest in
-    let later : sections_from f (n + (1 + count)) (take (end + len) text) (rows (drop (end + len) text)) ≡ later_sections f (n + 1) (front ++ row) rest =
-    same_from f (n + (1 + count)) (n + 1 + length us) (take (end + len) text) ((front ++ row) ++ concat us) (rows (drop (end + len) text)) (omega (arith, b.counted)) whole_front
-    ∙ ap (sections_from f (n + 1 + length us) ((front ++ row) ++ concat us)) left ∙ sym (later-from f (n + 1) (front ++ row) rest) in
-    let step : sections_from f n front (rows (drop at text)) ≡ section_at f n front row rest ∷ later_sections f (n + 1) (front ++ row) rest = ap (sections_from f n front) (rows-step text row at within is) in
-    ap (λ fs. map section fs ++ sections_from f (n + (1 + count)) (take (end + len) text) (rows (drop (end + len) text))) e
-    ∙ ap (λ ss. ss ++ sections_from f (n + (1 + count)) (take (end + len) text) (rows (drop (end + len) text))) (map-append section found (seen ∷ []))
-    ∙ append_assoc (map section found) (section seen ∷ []) (sections_from f (n + (1 + count)) (take (end + len) text) (rows (drop (end + len) text)))
-    ∙ ap (λ s. map section found ++ s ∷ sections_from f (n + (1 + count)) (take (end + len) text) (rows (drop (end + len) text))) here
-    ∙ ap (λ ss. map section found ++ section_at f n front row rest ∷ ss) later
-    ∙ ap (λ ss. map section found ++ ss) (sym step) ∙ so_far
-
--- no section is left
-pub sections_all : (f : Format) (text : List ℕ) (found : List Seen) (n at : ℕ) (all : List Section) → length text ≤ at
-    → map section found ++ sections_from f n (take at text) (rows (drop at text)) ≡ all → map section found ≡ all
-sections_all f text found n at all past so_far =
-    sym (append-nil (map section found)) ∙ ap (λ rs. map section found ++ sections_from f n (take at text) rs) (sym (rows-none text at past)) ∙ so_far
 
 -- ---- the lines of a section
 

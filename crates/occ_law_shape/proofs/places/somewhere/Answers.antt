@@ -17,36 +17,24 @@ returns-in_default-other_rest g c =
     let some : 0 < length c.loop-rest.rest.now = omega arith in
     let none : length c.loop-rest.other_rest.now < 1 = omega arith in
     refuted (λ r. ends_here (g.P.Place.joins c.args.place.now) _ _ _ _ (trees_front c.loop-rest.rest.now c.first-item.result some c.first-item.is) (trees_end c.loop-rest.other_rest.now none)
-<<<<<<< HEAD
-    (λ j. cc (c.holds.ensures.1 (subst (λ z. g.P.Place.joins c.args.place.now z (trees c.loop-rest.other_rest.now)) (trees_front c.loop-rest.rest.now c.first-item.result some c.first-item.is) j))) (c.loop-rest.invariant.1 r))
-=======
     (λ j. cc (c.holds.ensures.1
     (subst (λ z. g.P.Place.joins c.args.place.now z (trees c.loop-rest.other_rest.now)) (trees_front c.loop-rest.rest.now c.first-item.result some c.first-item.is) j))) (c.loop-rest.invariant.1 r))
->>>>>>> 4d42b4e9 (occ_law_shape: same_waits compares what guards wait for)
 
 pub returns-then-not-same_proc : goal.returns-then-not-same_proc
 returns-then-not-same_proc g c =
     let some : 0 < length c.loop-rest.rest.now = omega arith in
     let other : 0 < length c.loop-rest.other_rest.now = omega arith in
     refuted (λ r. parts_differ (g.P.Place.joins c.args.place.now) _ _ _ _ _ _ (trees_front c.loop-rest.rest.now c.first-item.result some c.first-item.is)
-<<<<<<< HEAD
-    (trees_front c.loop-rest.other_rest.now c.other-item.result other c.other-item.is) (λ e. cc (c.same_proc.ensures.1 e)) (λ j. cc (c.holds.ensures.1 (subst (λ z. g.P.Place.joins c.args.place.now z (trees c.loop-rest.other_rest.now)) (trees_front c.loop-rest.rest.now c.first-item.result some c.first-item.is) j))) (c.loop-rest.invariant.1 r))
-=======
     (trees_front c.loop-rest.other_rest.now c.other-item.result other c.other-item.is) (λ e. cc (c.same_proc.ensures.1 e)) (λ j. cc (c.holds.ensures.1
     (subst (λ z. g.P.Place.joins c.args.place.now z (trees c.loop-rest.other_rest.now)) (trees_front c.loop-rest.rest.now c.first-item.result some c.first-item.is) j))) (c.loop-rest.invariant.1 r))
->>>>>>> 4d42b4e9 (occ_law_shape: same_waits compares what guards wait for)
 
 pub loop-rest-preserved : goal.loop-rest-preserved
 loop-rest-preserved g c =
     let some : 0 < length c.loop-rest.rest.now = omega arith in
     let other : 0 < length c.loop-rest.other_rest.now = omega arith in
     turns (g.P.Place.joins c.args.place.now) _ _ _ _ _ _ (trees_front c.loop-rest.rest.now c.first-item.result some c.first-item.is)
-<<<<<<< HEAD
-    (trees_front c.loop-rest.other_rest.now c.other-item.result other c.other-item.is) (c.same_proc.ensures.0 c.if-not-same_proc.false) (λ j. cc (c.holds.ensures.1 (subst (λ z. g.P.Place.joins c.args.place.now z (trees c.loop-rest.other_rest.now)) (trees_front c.loop-rest.rest.now c.first-item.result some c.first-item.is) j))) c.loop-rest.invariant
-=======
     (trees_front c.loop-rest.other_rest.now c.other-item.result other c.other-item.is) (c.same_proc.ensures.0 c.if-not-same_proc.false) (λ j. cc (c.holds.ensures.1
     (subst (λ z. g.P.Place.joins c.args.place.now z (trees c.loop-rest.other_rest.now)) (trees_front c.loop-rest.rest.now c.first-item.result some c.first-item.is) j))) c.loop-rest.invariant
->>>>>>> 4d42b4e9 (occ_law_shape: same_waits compares what guards wait for)
 
 pub returns : goal.returns
 returns g c =
