@@ -16,8 +16,6 @@ mod reading;
 mod row;
 mod scan;
 mod spelling;
-#[cfg(test)]
-mod tests;
 mod token;
 
 pub use fault::{LexFault, LineFault, RowFault};

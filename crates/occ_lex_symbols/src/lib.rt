@@ -5,8 +5,6 @@
 mod laws;
 mod reading;
 mod symbol;
-#[cfg(test)]
-mod tests;
 mod words;
 
 pub use laws::{each_token_has_a_symbol, names_are_known};

@@ -12,8 +12,6 @@ mod laying;
 mod limits;
 mod reading;
 mod stopping;
-#[cfg(test)]
-mod tests;
 
 pub use occ_parse_reading::{Bound, ParseFault, Which};
 pub use reading::{LineNumbers, Text, parse};

@@ -11,8 +11,6 @@ mod laws;
 mod line;
 mod phrase;
 mod reading;
-#[cfg(test)]
-mod tests;
 
 pub use form::{Count, Declaration, Declared, Form, Group, Item, Items, Param, Times, Wants};
 pub use laws::one_form;

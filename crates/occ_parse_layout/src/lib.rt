@@ -9,8 +9,6 @@ mod looking;
 mod passed;
 mod placed;
 mod reading;
-#[cfg(test)]
-mod tests;
 
 pub use growing::grown;
 pub use laws::{

@@ -14,8 +14,6 @@ mod process;
 mod raw;
 mod resolving;
 mod rows;
-#[cfg(test)]
-mod tests;
 
 pub use forming::form;
 pub use laws::one_reading_of_a_part;

@@ -6,8 +6,6 @@ mod names;
 mod passing;
 mod reach;
 mod scopes;
-#[cfg(test)]
-mod tests;
 mod uses;
 
 pub use law::some_values_are_values_that_the_indices_take;

@@ -14,5 +14,3 @@ pub use types::{type_fault, type_fault_in};
 
 #[cfg(test)]
 mod cases;
-#[cfg(test)]
-mod tests;

@@ -11,8 +11,6 @@ mod lined;
 mod naming;
 mod program;
 mod reading;
-#[cfg(test)]
-mod tests;
 mod unrolling;
 mod values;
 

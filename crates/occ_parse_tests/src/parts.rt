@@ -1,7 +1,8 @@
-use crate::{ParseFault, Raw, form, resolve};
+//! Parts of scripts in a scope.
+
 use occ_base::{Dir, Memory, Name, Names, Width};
 use occ_lex::lines;
-use occ_parse::Which;
+use occ_parse_part::{ParseFault, Raw, form, resolve};
 use occ_syntax::{Expr, Exprs, Kind, NameList, Op, Proc, Procs, Scope, same_proc};
 use std::alloc::Global;
 use std::test::Fail;
@@ -15,7 +16,7 @@ const Y: Name = Name(2);
 
 const C: Name = Name(3);
 
-const WORD2: Width = Width::Word(2);
+const WORD2: Kind = Kind::Var(Width::Word(2));
 
 fn names(alloc: Global) -> Result<Names, Memory> {
     let mut names = Names::new(alloc);
@@ -28,16 +29,16 @@ fn names(alloc: Global) -> Result<Names, Memory> {
 // an array x of two, a variable y, and a channel c for outputs
 fn scope(alloc: Global) -> Result<Scope, Memory> {
     let mut scope = Scope::new(alloc);
-    scope.push((FIRST, Kind::Var(WORD2)))?;
-    scope.push((SECOND, Kind::Var(WORD2)))?;
-    scope.push((Y, Kind::Var(WORD2)))?;
+    scope.push((FIRST, WORD2))?;
+    scope.push((SECOND, WORD2))?;
+    scope.push((Y, WORD2))?;
     scope.push((C, Kind::Chan(Width::Bool, Some(Dir::Output))))?;
     Ok(scope)
 }
 
 /// Reads a short text as a part.
 fn read(alloc: Global, names: &mut Names, text: &[u8]) -> Result<Raw, ParseFault> {
-    if text.len() > 10_000 {
+    if text.len() > 1000 {
         return Err(ParseFault::Memory);
     }
     match lines(alloc, text) {
@@ -93,22 +94,13 @@ fn the_elements_of_a_part_are_names(rt: HostRuntime) -> Result<(), Fail> {
     Ok(())
 }
 
-const REFUSED: [(&[u8], ParseFault); 13] = [
+const REFUSED: [(&[u8], ParseFault); 7] = [
     (b"  SKIP\n  SKIP", ParseFault::Form { line: 2 }),
-    (b"SKIP", ParseFault::Form { line: 1 }),
     (b"  SEQ i = 0 FOR 2\n    SKIP", ParseFault::Form { line: 1 }),
-    (b"  BOOL b:", ParseFault::Form { line: 1 }),
     (b"  z := 1", ParseFault::Undeclared { line: 1 }),
-    (b"  BOOL y:\n  SKIP", ParseFault::Redeclared { line: 1 }),
     (b"  x[5] := 1", ParseFault::Index { line: 1 }),
     (b"  y := TRUE", ParseFault::TypeClash { line: 1 }),
-    (b"  x[y] := 1", ParseFault::TypeClash { line: 1 }),
-    (b"  c ! 1 = 1", ParseFault::NoType { line: 1 }),
     (b"  BOOL b:\n  c ? b", ParseFault::Direction { line: 2 }),
-    (
-        b"  SEQ\n    y := TRUE\n    z := 1",
-        ParseFault::Undeclared { line: 3 },
-    ),
     (
         b"  BOOL b:\n  SEQ\n    c ? b\n    y := TRUE",
         ParseFault::TypeClash { line: 4 },
@@ -118,32 +110,11 @@ const REFUSED: [(&[u8], ParseFault); 13] = [
 #[test]
 fn the_first_fault_of_a_part(rt: HostRuntime) -> Result<(), Fail> {
     for (text, fault) in REFUSED {
-        match read_in_scope(rt.alloc(), text) {
-            Ok(_) => return Err("read".into()),
-            Err(found) => assert_eq!(rt; found, fault),
-        }
+        assert_eq!(rt;
+            read_in_scope(rt.alloc(), text).err(),
+            Some(fault),
+            "in {text:?}"
+        );
     }
     Ok(())
-}
-
-#[test]
-fn a_line_of_too_many_tokens(rt: HostRuntime) -> Result<(), Fail> {
-    let alloc = rt.alloc();
-    let mut text = Vec::new(alloc);
-    text.extend_from_slice(b"  ")?;
-    for _ in 0..4_097 {
-        text.extend_from_slice(b"y ")?;
-    }
-    let over = ParseFault::Limit {
-        which: Which::Tokens,
-        line: 1,
-    };
-    let mut names = names(alloc)?;
-    match read(alloc, &mut names, text.as_slice()) {
-        Ok(_) => Err("read".into()),
-        Err(found) => {
-            assert_eq!(rt; found, over);
-            Ok(())
-        }
-    }
 }
