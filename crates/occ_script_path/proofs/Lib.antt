@@ -2,3 +2,4 @@ pub mod Numerals
 pub mod Pieces
 pub mod Children
 pub mod Scoping
+pub mod Exchanges

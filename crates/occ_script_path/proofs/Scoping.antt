@@ -1,15 +1,14 @@
 -- The scope at a path.
-use Rattle.std.proofs.Common.{◌≡◌, ℕ, Bool, true, false, cond, not, eqb, ◌&&◌, List, [], ◌∷◌, ◌++◌, Option, Some, None, is_none, refl, sym, ap, subst, ◌∙◌, arith}
+use Rattle.std.proofs.Common.{◌≡◌, ℕ, Bool, true, false, cond, eqb, List, [], ◌∷◌, ◌++◌, Option, Some, None, is_none, refl, sym, ap, subst, ◌∙◌}
 use Rattle.std.specs.Option.{option_map, unwrap_or}
 use Rattle.std.proofs.lemmas.Bool.{and_parts, and_from, eqb-true, eqb-false}
 use Rattle.occ_base.specs.declared.names.Name.{Name}
-use Rattle.occ_base.specs.declared.width.Width.{Width}
 use Rattle.occ_meaning.specs.Context.{child, environment_at, environment_below, part_at, put}
 use Rattle.occ_meaning.proofs.Contexts.{child_types, put_same}
 use Rattle.occ_syntax.specs.declared.scope.Kind.{Kind}
 use Rattle.occ_syntax.specs.declared.scope.Kind.TheVariants.{Chan, Var}
 use Rattle.occ_syntax.specs.Same.{SAME}
-use Rattle.occ_syntax.specs.Scopes.{Environment, environment, with_name}
+use Rattle.occ_syntax.specs.Scopes.{environment, with_name}
 use Rattle.occ_syntax.specs.Tree.{Tree, skip, stop, assign, receive, send, seq, par, select, alt, declare, connect}
 use Rattle.occ_syntax.specs.Types.{can_declare, is_width, scope_kept, types_kept, width_of_kind}
 use Rattle.occ_usage.proofs.Scoped.{absent, environment-push}

@@ -6,6 +6,7 @@
 mod direction;
 mod laws;
 mod part;
+mod putting;
 #[cfg(test)]
 mod tests;
 mod text;
@@ -13,6 +14,7 @@ mod text;
 pub use direction::Direction;
 pub use laws::{same_parts_make_same_programs, scopes_at_paths};
 pub use part::{at, scope_at};
+pub use putting::{put, replace};
 pub use text::{cut, path};
 
 /// The numbers on the way down to a part, from the outside in.

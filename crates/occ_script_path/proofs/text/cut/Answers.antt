@@ -1,5 +1,5 @@
-use Rattle.std.proofs.Common.{arith, ap, length, take, drop, ◌∷◌, ◌+◌, ◌≡◌, ◌∙◌, sym}
-use Rattle.std.specs.List.{position_or_len, slice_split}
+use Rattle.std.proofs.Common.{arith, ap, take, drop, ◌∷◌, ◌+◌, ◌∙◌, sym}
+use Rattle.std.specs.List.{slice_split}
 use Rattle.std.proofs.lemmas.List.{take_rest}
 use Rattle.occ_script_path.specs.Texts.{is_byte}
 use Rattle.occ_script_path.proofs.Pieces.{piece_front, piece_whole}

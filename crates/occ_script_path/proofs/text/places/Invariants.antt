@@ -1,6 +1,5 @@
-use Rattle.std.proofs.Common.{◌≡◌, ◌+◌, length, Option, Some, None, ℕ}
+use Rattle.std.proofs.Common.{◌≡◌}
 use Rattle.std.specs.List.{slice_split}
-use Rattle.std.specs.Borrow.{Bor}
 use Rattle.occ_script_path.specs.Places.{pieces_behind}
 use Rattle.occ_script_path.specs.Texts.{is_slash, places_of}
 use Rattle.occ_script_path.proofs.Pieces.{behind, left}
