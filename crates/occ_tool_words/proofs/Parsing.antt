@@ -10,7 +10,7 @@ use Rattle.clap.specs.Kinds.{Kinds, or_else}
 use Rattle.clap.specs.Faults.{turn_fault, walk_fault, entered_fault, fault_of, settle_fault, defaults_fault, check_fault, stray_fault}
 use Rattle.clap.specs.Simple.{App, Shape, built, names_of, rows_at, subcommand_of, entered}
 use Rattle.clap.proofs.OnLiterals.{clap_on_literals}
-use Rattle.occ_tool_words.specs.Words.{Job, same, normalise, normal, belongs, is_plain, job_of, stress_of, with_one, with_two}
+use Rattle.occ_tool_words.specs.Words.{Job, same, normalise, normal, belongs, refine, deadlock, is_plain, job_of, stress_of, with_one, with_two}
 use Rattle.occ_tool_words.specs.CommandLine.{line, job_found, job_named}
 use Rattle.std.proofs.Common.{String, Global, string_bytes}
 use Rattle.std.specs.Prelude.{Box}
@@ -37,20 +37,24 @@ use Rattle.occ_tool_words.proofs.Leaves.{IsNoFlag, no_flag, between, turn, first
 data One : Type 0 where
   normalises : One
   checks : One
+  sticks : One
 
 data Two : Type 0 where
   compares : Two
   judges : Two
   stresses : Two
+  refines : Two
 
 abbrev one_named : One → Text
 one_named normalises = codes "normalise"
 one_named checks = codes "normal"
+one_named sticks = codes "deadlock"
 
 abbrev two_named : Two → Text
 two_named compares = codes "same"
 two_named judges = codes "belongs"
 two_named stresses = codes "stress"
+two_named refines = codes "refine"
 
 -- a word that names no command
 record IsOther (word : Text) : Type 0 where
@@ -59,6 +63,8 @@ record IsOther (word : Text) : Type 0 where
   not_normal : bytes_eq (codes "normal") word ≡ false
   not_belongs : bytes_eq (codes "belongs") word ≡ false
   not_stress : bytes_eq (codes "stress") word ≡ false
+  not_refine : bytes_eq (codes "refine") word ≡ false
+  not_deadlock : bytes_eq (codes "deadlock") word ≡ false
 
 data Naming (word : Text) : Type 0 where
   names_one : (v : One) → one_named v ≡ word → Naming word
@@ -80,7 +86,13 @@ naming word =
             | inl e ↦ names_two judges (equal (codes "belongs") word e)
             | inr d ↦ elim (cases_Bool (bytes_eq (codes "stress") word)) [
               | inl e ↦ names_two stresses (equal (codes "stress") word e)
-              | inr f ↦ names_none (record { not_same = a; not_normalise = b; not_normal = c; not_belongs = d; not_stress = f })
+              | inr f ↦ elim (cases_Bool (bytes_eq (codes "refine") word)) [
+                | inl e ↦ names_two refines (equal (codes "refine") word e)
+                | inr g ↦ elim (cases_Bool (bytes_eq (codes "deadlock") word)) [
+                  | inl e ↦ names_one sticks (equal (codes "deadlock") word e)
+                  | inr h ↦ names_none (record { not_same = a; not_normalise = b; not_normal = c; not_belongs = d; not_stress = f; not_refine = g; not_deadlock = h })
+                ]
+              ]
             ]
           ]
         ]
@@ -110,7 +122,8 @@ other_name : (word : Text) → IsOther word → find (answers_to word) names ≡
 other_name word other =
     past_name (codes "same") word (drop 1 names) other.not_same ∙ past_name (codes "normalise") word (drop 2 names) other.not_normalise
     ∙ past_name (codes "normal") word (drop 3 names) other.not_normal ∙ past_name (codes "belongs") word (drop 4 names) other.not_belongs
-    ∙ past_name (codes "stress") word [] other.not_stress
+    ∙ past_name (codes "stress") word (drop 5 names) other.not_stress ∙ past_name (codes "refine") word (drop 6 names) other.not_refine
+    ∙ past_name (codes "deadlock") word [] other.not_deadlock
 
 stray : (name word : Text) (more : List Text) → is_plain word ≡ true → IsOther word → fault_of line (name ∷ word ∷ more) ≡ [] → ⊥
 unfolding walk_fault
@@ -160,6 +173,12 @@ enters_one checks = record {
   fails = λ more. refl;
   found = λ more. refl;
 }
+enters_one sticks = record {
+  walks = λ more. kept top.rules names (codes "deadlock") [] more;
+  passes = λ more. no_more_faults top names (codes "deadlock") [] more;
+  fails = λ more. refl;
+  found = λ more. refl;
+}
 
 enters_two : (v : Two) → IsEntered (two_named v) (leaf_two (two_named v))
 unfolding walked walk_fault defaults_fault
@@ -178,6 +197,12 @@ enters_two judges = record {
 enters_two stresses = record {
   walks = λ more. kept top.rules names (codes "stress") [] more;
   passes = λ more. no_more_faults top names (codes "stress") [] more;
+  fails = λ more. refl;
+  found = λ more. refl;
+}
+enters_two refines = record {
+  walks = λ more. kept top.rules names (codes "refine") [] more;
+  passes = λ more. no_more_faults top names (codes "refine") [] more;
   fails = λ more. refl;
   found = λ more. refl;
 }
@@ -266,24 +291,28 @@ turned xs ys e = elim (cases_Bool (bytes_eq ys xs)) [
 
 other_one : (word a : Text) → IsOther word → with_one word a ≡ None
 other_one word a other =
-    ap (λ b. cond b (Some (normalise a)) (cond (bytes_eq word (codes "normal")) (Some (normal a)) None)) (turned (codes "normalise") word other.not_normalise)
-    ∙ ap (λ b. cond b (Some (normal a)) None) (turned (codes "normal") word other.not_normal)
+    ap (λ b. cond b (Some (normalise a)) (cond (bytes_eq word (codes "normal")) (Some (normal a)) (cond (bytes_eq word (codes "deadlock")) (Some (deadlock a)) None))) (turned (codes "normalise") word other.not_normalise)
+    ∙ ap (λ b. cond b (Some (normal a)) (cond (bytes_eq word (codes "deadlock")) (Some (deadlock a)) None)) (turned (codes "normal") word other.not_normal)
+    ∙ ap (λ b. cond b (Some (deadlock a)) None) (turned (codes "deadlock") word other.not_deadlock)
 
 other_two : (word a b : Text) → IsOther word → with_two word a b ≡ None
 other_two word a b other =
-    ap (λ t. cond t (Some (same a b)) (cond (bytes_eq word (codes "belongs")) (Some (belongs a b)) (cond (bytes_eq word (codes "stress")) (stress_of a b) None)))
+    ap (λ t. cond t (Some (same a b)) (cond (bytes_eq word (codes "belongs")) (Some (belongs a b)) (cond (bytes_eq word (codes "stress")) (stress_of a b) (cond (bytes_eq word (codes "refine")) (Some (refine a b)) None))))
     (turned (codes "same") word other.not_same)
-    ∙ ap (λ t. cond t (Some (belongs a b)) (cond (bytes_eq word (codes "stress")) (stress_of a b) None)) (turned (codes "belongs") word other.not_belongs)
-    ∙ ap (λ t. cond t (stress_of a b) None) (turned (codes "stress") word other.not_stress)
+    ∙ ap (λ t. cond t (Some (belongs a b)) (cond (bytes_eq word (codes "stress")) (stress_of a b) (cond (bytes_eq word (codes "refine")) (Some (refine a b)) None))) (turned (codes "belongs") word other.not_belongs)
+    ∙ ap (λ t. cond t (stress_of a b) (cond (bytes_eq word (codes "refine")) (Some (refine a b)) None)) (turned (codes "stress") word other.not_stress)
+    ∙ ap (λ t. cond t (Some (refine a b)) None) (turned (codes "refine") word other.not_refine)
 
 not_with_two : (v : One) (a b : Text) → with_two (one_named v) a b ≡ None
 not_with_two normalises a b = refl
 not_with_two checks a b = refl
+not_with_two sticks a b = refl
 
 not_with_one : (v : Two) (a : Text) → with_one (two_named v) a ≡ None
 not_with_one compares a = refl
 not_with_one judges a = refl
 not_with_one stresses a = refl
+not_with_one refines a = refl
 
 not_fitting : (name word : Text) (rest : List Text) → IsOther word → job_of (name ∷ word ∷ rest) ≡ None
 not_fitting name word [] other = refl
@@ -330,11 +359,13 @@ failed k (name ∷ word ∷ rest) plain among = failed_word k name word rest (na
 one_is_plain : (v : One) → is_plain (one_named v) ≡ true
 one_is_plain normalises = refl
 one_is_plain checks = refl
+one_is_plain sticks = refl
 
 two_is_plain : (v : Two) → is_plain (two_named v) ≡ true
 two_is_plain compares = refl
 two_is_plain judges = refl
 two_is_plain stresses = refl
+two_is_plain refines = refl
 
 not_plain_rest : (name word : Text) (rest : List Text) → is_plain word ≡ true → list_all is_plain (word ∷ rest) ≡ false → job_of (name ∷ word ∷ rest) ≡ None
 not_plain_rest name word [] plain e = refl

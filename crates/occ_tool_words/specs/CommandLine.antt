@@ -18,7 +18,8 @@ command_line command = if command.1 == 1 then one_word_line command.0 else two_w
 
 -- the commands, and how many words each takes
 abbrev pub commands : List (List ℕ × ℕ)
-commands = (codes "same", 2) ∷ (codes "normalise", 1) ∷ (codes "normal", 1) ∷ (codes "belongs", 2) ∷ (codes "stress", 2) ∷ []
+commands = (codes "same", 2) ∷ (codes "normalise", 1) ∷ (codes "normal", 1) ∷ (codes "belongs", 2) ∷ (codes "stress", 2) ∷ (codes "refine", 2)
+    ∷ (codes "deadlock", 1) ∷ []
 
 abbrev pub bare_line : App
 bare_line = record (new_app (codes "occam")) {

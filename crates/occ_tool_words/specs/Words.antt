@@ -4,7 +4,7 @@ use Rattle.std.specs.Str.{bytes_eq}
 use Rattle.occ_gen.specs.declared.shape.Shape.{Shape}
 use Rattle.occ_gen.specs.declared.shape.Shape.TheVariants.{Buffers, Adders, Muxes}
 use Rattle.occ_tool_words.specs.declared.words.Command.{Command}
-use Rattle.occ_tool_words.specs.declared.words.Command.TheVariants.{Usage, Same, Normalise, Normal, Belongs, Stress}
+use Rattle.occ_tool_words.specs.declared.words.Command.TheVariants.{Usage, Same, Normalise, Normal, Belongs, Stress, Refine, Deadlock}
 
 -- a command with its words: those that name files as they stand, the kind of a chain, and how many stages it has
 pub data Job : Type 0 where
@@ -13,6 +13,8 @@ pub data Job : Type 0 where
   normal : List ℕ → Job
   belongs : List ℕ → List ℕ → Job
   stress : Shape → ℕ → Job
+  refine : List ℕ → List ℕ → Job
+  deadlock : List ℕ → Job
 
 abbrev pub job : Command → Option Job
 job Usage = None
@@ -21,6 +23,8 @@ job (Normalise program) = Some (normalise program.now)
 job (Normal text) = Some (normal text.now)
 job (Belongs program text) = Some (belongs program.now text.now)
 job (Stress shape stages) = Some (stress shape stages)
+job (Refine first second) = Some (refine first.now second.now)
+job (Deadlock program) = Some (deadlock program.now)
 
 -- the word isn't empty and doesn't begin with a hyphen
 abbrev pub is_plain : List ℕ → Bool
@@ -58,14 +62,16 @@ stress_of kind stages = option_and_then (λ shape. option_map (stress shape) (st
 abbrev pub with_one : List ℕ → List ℕ → Option Job
 with_one command first =
     if bytes_eq command (codes "normalise") then Some (normalise first)
-    else (if bytes_eq command (codes "normal") then Some (normal first) else None)
+    else (if bytes_eq command (codes "normal") then Some (normal first)
+    else (if bytes_eq command (codes "deadlock") then Some (deadlock first) else None))
 
 -- a command that two words follow
 abbrev pub with_two : List ℕ → List ℕ → List ℕ → Option Job
 with_two command first second =
     if bytes_eq command (codes "same") then Some (same first second)
     else (if bytes_eq command (codes "belongs") then Some (belongs first second)
-    else (if bytes_eq command (codes "stress") then stress_of first second else None))
+    else (if bytes_eq command (codes "stress") then stress_of first second
+    else (if bytes_eq command (codes "refine") then Some (refine first second) else None)))
 
 -- The words fit where the second, after the program's own name, is a command, exactly that command's words follow, and
 -- no word after the first is empty or begins with a hyphen.
@@ -84,6 +90,8 @@ files_of (normalise program) = program ∷ []
 files_of (normal text) = text ∷ []
 files_of (belongs program text) = program ∷ text ∷ []
 files_of (stress shape stages) = []
+files_of (refine first second) = first ∷ second ∷ []
+files_of (deadlock program) = program ∷ []
 
 abbrev pub file_words_of : Option Job → List (List ℕ)
 file_words_of None = []

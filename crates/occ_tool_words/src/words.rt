@@ -28,6 +28,10 @@ pub enum Command<'a> {
     Belongs { program: &'a str, text: &'a str },
     /// To count what the normal text of a chain of cells has; `stages` is from 1 to 48.
     Stress { shape: Shape, stages: u64 },
+    /// To say whether the program in the second file does no more than the one in the first allows.
+    Refine { first: &'a str, second: &'a str },
+    /// To say whether the program in a file can be stuck.
+    Deadlock { program: &'a str },
 }
 
 /// What the words of a command line ask for, the program's own name first.
@@ -84,7 +88,9 @@ fn command_line<'a>(alloc: Global) -> Result<clap::Command<'a>, AllocError>
     let line = add_one(alloc, line, "normalise")?;
     let line = add_one(alloc, line, "normal")?;
     let line = add_two(alloc, line, "belongs")?;
-    add_two(alloc, line, "stress")
+    let line = add_two(alloc, line, "stress")?;
+    let line = add_two(alloc, line, "refine")?;
+    add_one(alloc, line, "deadlock")
 }
 
 /// The command line with no command yet.
@@ -165,6 +171,8 @@ fn command_of_one<'a>(name: &str, first: &'a str) -> Command<'a>
         Command::Normalise { program: first }
     } else if name == "normal" {
         Command::Normal { text: first }
+    } else if name == "deadlock" {
+        Command::Deadlock { program: first }
     } else {
         Command::Usage
     }
@@ -182,6 +190,8 @@ fn command_of_two<'a>(name: &str, first: &'a str, second: &'a str) -> Command<'a
         }
     } else if name == "stress" {
         stress_with(first, second)
+    } else if name == "refine" {
+        Command::Refine { first, second }
     } else {
         Command::Usage
     }
