@@ -1,0 +1,4 @@
+pub mod Orders
+pub mod Alike
+pub mod One
+pub mod Named

@@ -1,0 +1,4 @@
+pub mod Views
+pub mod Excess
+pub mod Stuck
+pub mod Programs
