@@ -1,0 +1,10 @@
+pub mod Least
+pub mod Bridge
+pub mod Steps
+pub mod Only
+pub mod Taking
+pub mod Rooting
+pub mod Nearness
+pub mod Listing
+pub mod Sticking
+pub mod Unknown
