@@ -4,3 +4,5 @@ pub mod Least
 pub mod OneFirst
 pub mod Across
 pub mod Roots
+pub mod Outside
+pub mod Both

@@ -4,8 +4,10 @@
 
 mod first;
 mod law;
+mod refine;
 mod verdict;
 
 pub use first::one_first_difference;
-pub use law::one_verdict;
+pub use law::{one_verdict, refined_both_ways};
+pub use refine::{deadlocked, refined};
 pub use verdict::decide;
