@@ -23,11 +23,12 @@ use Rattle.occ_behaviour.specs.declared.behaviour.Side.TheVariants.{First, Secon
 use Rattle.occ_tool_run.specs.declared.answer.Answer.{Answer}
 use Rattle.occ_tool_run.specs.declared.accept.Refusal.{Refusal}
 use Rattle.occ_tool_run.specs.declared.accept.Refusal.TheVariants as refusal
+use Rattle.occ_tool_run.specs.declared.judge.Question.{Question}
 use Rattle.occ_tool_run.specs.declared.load.Loaded.{Loaded}
 use Rattle.occ_tool_run.specs.declared.load.Loaded.TheVariants.{Bytes, TooLong}
 use Rattle.occ_tool_run.specs.Files.{IsLoaded, most_bytes}
 use Rattle.occ_tool_run.specs.Accepts.{IsThere, IsAccepted, IsRefused, IsUnusable}
-use Rattle.occ_tool_run.specs.Answers.{Takes, refused, unusable, accepted, Compares, Settles, IsJudged, Judges}
+use Rattle.occ_tool_run.specs.Answers.{Takes, refused, unusable, accepted, Replies, Settles, IsJudged, Judges}
 use Rattle.occ_tool_run.specs.Judged.{HasInterface, IsAcceptedFrom, IsRefusedFrom, IsRefusedFor, IsRefusalAnswer, IsSayable}
 
 there : (l : Loaded) (file : Option (List ℕ)) → IsLoaded most_bytes file l → IsThere file
@@ -102,29 +103,29 @@ take_judging (Ok a) first second new p read h = λ one two j k.
 
 -- ---- two programs
 
-abbrev SettlesAll : Loaded → Loaded → Answer → Type 0
-SettlesAll first second a = (one two : Option (List ℕ)) → IsLoaded most_bytes one first → IsLoaded most_bytes two second → Settles one two a
+abbrev SettlesAll : Question → Loaded → Loaded → Answer → Type 0
+SettlesAll question first second a = (one two : Option (List ℕ)) → IsLoaded most_bytes one first → IsLoaded most_bytes two second → Settles question one two a
 
-abbrev Behind : Option (List ℕ) → List (List ℕ) → Program → Answer → Type 0
-Behind two names p = Takes Second two names (Compares p)
+abbrev Behind : Question → Option (List ℕ) → List (List ℕ) → Program → Answer → Type 0
+Behind question two names p = Takes Second two names (Replies question p)
 
-pub refuse_first : (r : Result Answer Memory) (first second : Loaded) (new : List (List ℕ)) (f : Refusal) → IfOk r (IsRefusalAnswer new First f) → IsRefusedFrom first [] new f
-    → IfOk r (SettlesAll first second)
-refuse_first (Err m) first second new f is why = tt
-refuse_first (Ok a) first second new f is why = λ one two h k. record { there = there second two k; judged = refusal_taken First first one [] new (Behind two) f a is why h }
+pub refuse_first : (question : Question) (r : Result Answer Memory) (first second : Loaded) (new : List (List ℕ)) (f : Refusal) → IfOk r (IsRefusalAnswer new First f) → IsRefusedFrom first [] new f
+    → IfOk r (SettlesAll question first second)
+refuse_first question (Err m) first second new f is why = tt
+refuse_first question (Ok a) first second new f is why = λ one two h k. record { there = there second two k; judged = refusal_taken First first one [] new (Behind question two) f a is why h }
 
-pub refuse_second : (r : Result Answer Memory) (first second : Loaded) (between new : List (List ℕ)) (p : Program) (f : Refusal) → IsAcceptedFrom first [] between p
-    → IfOk r (IsRefusalAnswer new Second f) → IsRefusedFrom second between new f → IfOk r (SettlesAll first second)
-refuse_second (Err m) first second between new p f read is why = tt
-refuse_second (Ok a) first second between new p f read is why = λ one two h k. record {
+pub refuse_second : (question : Question) (r : Result Answer Memory) (first second : Loaded) (between new : List (List ℕ)) (p : Program) (f : Refusal) → IsAcceptedFrom first [] between p
+    → IfOk r (IsRefusalAnswer new Second f) → IsRefusedFrom second between new f → IfOk r (SettlesAll question first second)
+refuse_second question (Err m) first second between new p f read is why = tt
+refuse_second question (Ok a) first second between new p f read is why = λ one two h k. record {
   there = there second two k;
-  judged = accepted between p (accepted_file first one [] between p read h) (refusal_taken Second second two between new (Compares p) f a is why k);
+  judged = accepted between p (accepted_file first one [] between p read h) (refusal_taken Second second two between new (Replies question p) f a is why k);
 }
 
-pub settle : (r : Result Answer Memory) (first second : Loaded) (between new : List (List ℕ)) (p q : Program) → IsAcceptedFrom first [] between p → IsAcceptedFrom second between new q
-    → IfOk r (Compares p new q) → IfOk r (SettlesAll first second)
-settle (Err m) first second between new p q read also h = tt
-settle (Ok a) first second between new p q read also h = λ one two j k. record {
+pub settle : (question : Question) (r : Result Answer Memory) (first second : Loaded) (between new : List (List ℕ)) (p q : Program) → IsAcceptedFrom first [] between p → IsAcceptedFrom second between new q
+    → IfOk r (Replies question p new q) → IfOk r (SettlesAll question first second)
+settle question (Err m) first second between new p q read also h = tt
+settle question (Ok a) first second between new p q read also h = λ one two j k. record {
   there = there second two k;
   judged = accepted between p (accepted_file first one [] between p read j) (accepted new q (accepted_file second two between new q also k) h);
 }

@@ -7,10 +7,11 @@ use Rattle.occ_tool_run.specs.declared.load.Stop.{Stop}
 use Rattle.occ_tool_run.specs.declared.load.Stop.TheVariants.{Read, Memory}
 use Rattle.occ_tool_run.specs.declared.answer.Answer.{Answer}
 use Rattle.occ_gen.specs.declared.shape.Shape.{Shape}
-use Rattle.occ_tool_words.specs.Words.{Job, same, normalise, normal, belongs, stress, job_of}
+use Rattle.occ_tool_words.specs.Words.{Job, same, normalise, normal, belongs, stress, refine, deadlock, job_of}
 use Rattle.occ_tool_run.specs.Files.{Files, AsksFront, AsksFor, IsLoaded}
 use Rattle.occ_tool_run.specs.Texts.{status_of, text_of}
-use Rattle.occ_tool_run.specs.Answers.{IsAnswer, comparison, normalisation, checking, membership, stressing, Answers, Settles, Normalises, Checks, Judges, Stresses}
+use Rattle.occ_tool_run.specs.Answers.{IsAnswer, comparison, normalisation, checking, membership, stressing, refinement, seeking, Answers, Settles, Normalises, Checks, Judges, Stresses, Seeks}
+use Rattle.occ_tool_run.specs.declared.judge.Question.TheVariants.{WhetherSame, WhetherRefined}
 use Rattle.occ_tool_run.specs.Ran.{Ran, answered, cut_short}
 
 abbrev Asks : Type 0
@@ -112,7 +113,7 @@ both_answered most R (Some files) a b one two answer l k s = s (files a) (files 
 -- ---- what the words ask for is answered
 
 pub asked_same : {E : Type 0} (told : Option Files) (words : List (List ℕ)) (a b : List ℕ) (r : Result Answer E) → Some (same a b) ≡ job_of words
-    → IfOk r (λ answer. IfSome told (λ files. Settles (files a) (files b) answer)) → IfOk r (λ answer. IfSome told (λ files. IsAnswer files words answer))
+    → IfOk r (λ answer. IfSome told (λ files. Settles WhetherSame (files a) (files b) answer)) → IfOk r (λ answer. IfSome told (λ files. IsAnswer files words answer))
 asked_same None words a b (Ok answer) is s = tt
 asked_same (Some files) words a b (Ok answer) is s = comparison a b (sym is) s
 asked_same told words a b (Err e) is s = tt
@@ -134,6 +135,18 @@ pub asked_belongs : {E : Type 0} (told : Option Files) (words : List (List ℕ))
 asked_belongs None words a b (Ok answer) is s = tt
 asked_belongs (Some files) words a b (Ok answer) is s = membership a b (sym is) s
 asked_belongs told words a b (Err e) is s = tt
+
+pub asked_refine : {E : Type 0} (told : Option Files) (words : List (List ℕ)) (a b : List ℕ) (r : Result Answer E) → Some (refine a b) ≡ job_of words
+    → IfOk r (λ answer. IfSome told (λ files. Settles WhetherRefined (files a) (files b) answer)) → IfOk r (λ answer. IfSome told (λ files. IsAnswer files words answer))
+asked_refine None words a b (Ok answer) is s = tt
+asked_refine (Some files) words a b (Ok answer) is s = refinement a b (sym is) s
+asked_refine told words a b (Err e) is s = tt
+
+pub asked_deadlock : {E : Type 0} (told : Option Files) (words : List (List ℕ)) (a : List ℕ) (r : Result Answer E) → Some (deadlock a) ≡ job_of words
+    → IfOk r (λ answer. IfSome told (λ files. Seeks (files a) answer)) → IfOk r (λ answer. IfSome told (λ files. IsAnswer files words answer))
+asked_deadlock None words a (Ok answer) is s = tt
+asked_deadlock (Some files) words a (Ok answer) is s = seeking a (sym is) s
+asked_deadlock told words a (Err e) is s = tt
 
 pub asked_stress : (told : Option Files) (words : List (List ℕ)) (shape : Shape) (stages : ℕ) (answer : Answer) → Some (stress shape stages) ≡ job_of words
     → Stresses shape stages answer → IfSome told (λ files. IsAnswer files words answer)

@@ -2,6 +2,7 @@ pub mod Judging
 pub mod Leaving
 pub mod Once
 pub mod OneAnswer
+pub mod BothWays
 pub mod Known
 pub mod Accepting
 pub mod Named

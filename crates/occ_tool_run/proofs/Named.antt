@@ -1,5 +1,5 @@
 -- What a verdict mentions has a name, where the parameters have.
-use Rattle.std.proofs.Common.{◌≡◌, ℕ, zero, suc, true, ◌<◌, List, [], ◌∷◌, length, arith}
+use Rattle.std.proofs.Common.{◌≡◌, ℕ, zero, suc, true, ◌<◌, List, [], ◌∷◌, Option, Some, None, length, arith}
 use Rattle.std.specs.List.{All}
 use Rattle.std.proofs.lemmas.Bool.{and_parts, ltb-true}
 use Rattle.occ_base.specs.declared.names.Name.{Name}
@@ -7,7 +7,12 @@ use Rattle.occ_syntax.specs.declared.scope.Kind.{Kind}
 use Rattle.occ_parse.specs.Known.{params_declare, is_below}
 use Rattle.occ_behaviour.specs.declared.behaviour.Verdict.{Verdict}
 use Rattle.occ_behaviour.specs.Members.{VerdictIsNamed}
+use Rattle.occ_behaviour.specs.declared.behaviour.Behaviour.{Behaviour}
 use Rattle.occ_compare.specs.Verdicts.{IsPrintable}
+use Rattle.occ_views.specs.declared.refined.Refined.{Refined as Refinement}
+use Rattle.occ_views.specs.declared.refined.Refined.TheVariants.{Yes, No}
+use Rattle.occ_refine.specs.Roots.{RefinedIsNamed, DeadlockIsNamed}
+use Rattle.occ_tool_run.specs.Texts.{RefinementIsNamed, FoundIsNamed}
 
 params_below : (params : List (Name × Kind)) (n : ℕ) → params_declare (is_below n) params ≡ true → All (λ (entry : Name × Kind). entry.0.0 < n) params
 params_below [] n h i d k = absurd (omega (arith, k))
@@ -16,3 +21,11 @@ params_below (entry ∷ params) n h (suc i) d k = params_below params n (and_par
 
 pub verdict_named : (params : List (Name × Kind)) (names : List (List ℕ)) → params_declare (is_below (length names)) params ≡ true → (v : Verdict) → IsPrintable params v → VerdictIsNamed names v
 verdict_named params names known v h = h names (params_below params (length names) known)
+
+pub refined_named : (params : List (Name × Kind)) (names : List (List ℕ)) → params_declare (is_below (length names)) params ≡ true → (v : Refinement) → RefinedIsNamed params v → RefinementIsNamed names v
+refined_named params names known Yes h = tt
+refined_named params names known (No b) h = h names (params_below params (length names) known)
+
+pub found_named : (params : List (Name × Kind)) (names : List (List ℕ)) → params_declare (is_below (length names)) params ≡ true → (v : Option Behaviour) → DeadlockIsNamed params v → FoundIsNamed names v
+found_named params names known None h = tt
+found_named params names known (Some b) h = h names (params_below params (length names) known)

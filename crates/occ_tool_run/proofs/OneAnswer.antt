@@ -22,6 +22,8 @@ use Rattle.occ_behaviour.specs.declared.behaviour.Side.TheVariants.{First, Secon
 use Rattle.occ_behaviour.specs.declared.behaviour.Verdict.{Verdict}
 use Rattle.occ_behaviour.specs.Members.{IsMember}
 use Rattle.occ_verdict.specs.Verdict.{IsVerdictOf}
+use Rattle.occ_views.specs.declared.refined.Refined.{Refined as Refinement}
+use Rattle.occ_views.specs.Programs.{IsRefinement, IsDeadlockAnswer}
 use Rattle.occ_nform_table.specs.Normal.{Parts, text_read}
 use Rattle.occ_nform_table.specs.declared.table.TableFault.{TableFault}
 use Rattle.occ_behaviour_read.specs.Claims.{claim_read}
@@ -29,14 +31,16 @@ use Rattle.occ_gen.specs.declared.shape.Shape.{Shape}
 use Rattle.occ_gen.specs.Programs.{program_text}
 use Rattle.occ_nform.specs.Written.{IsNormalText}
 use Rattle.occ_nform_program.specs.Counted.{HasCounts, counts_of}
-use Rattle.occ_tool_words.specs.Words.{Job, same, normalise, normal, belongs, stress, job_of}
+use Rattle.occ_tool_words.specs.Words.{Job, same, normalise, normal, belongs, stress, refine, deadlock, job_of}
 use Rattle.occ_tool_run.specs.declared.answer.Answer.{Answer}
-use Rattle.occ_tool_run.specs.declared.answer.Answer.TheVariants.{Usage, Refused, Unusable, TooLong, RefusedTable, RefusedClaim, InterfacesDiffer, Compared, Written, Counted, Member, Stressed}
+use Rattle.occ_tool_run.specs.declared.answer.Answer.TheVariants.{Usage, Refused, Unusable, TooLong, RefusedTable, RefusedClaim, InterfacesDiffer, Compared, Written, Counted, Member, Stressed, Allowed, Sought}
+use Rattle.occ_tool_run.specs.declared.judge.Question.{Question}
+use Rattle.occ_tool_run.specs.declared.judge.Question.TheVariants.{WhetherSame, WhetherRefined}
 use Rattle.occ_tool_run.specs.Files.{Files}
 use Rattle.occ_tool_run.specs.Texts.{status_of, text_of}
 use Rattle.occ_tool_run.specs.Accepts.{ReadsAs, IsAccepted, IsRefused, IsUnusable, node_of}
-use Rattle.occ_tool_run.specs.Answers.{Takes, refused, unusable, accepted, Compares, apart, compared, Settles, IsNormalised, Normalises, IsChecked, too_long_table, faulty_table, normal_table, Checks}
-use Rattle.occ_tool_run.specs.Answers.{IsJudged, too_long_claim, faulty_claim, judged_claim, Judges, IsStressed, Stresses, IsAnswer, usage, comparison, normalisation, checking, membership, stressing, Answers}
+use Rattle.occ_tool_run.specs.Answers.{Takes, refused, unusable, accepted, Compares, apart, compared, Refines, other, allowed, Replies, Settles, IsSought, Seeks, IsNormalised, Normalises, IsChecked, too_long_table, faulty_table, normal_table, Checks}
+use Rattle.occ_tool_run.specs.Answers.{IsJudged, too_long_claim, faulty_claim, judged_claim, Judges, IsStressed, Stresses, IsAnswer, usage, comparison, normalisation, checking, membership, stressing, refinement, seeking, Answers}
 use Rattle.occ_tool_run.proofs.Once.{IsOneReading, IsOnce, IsOneText, faultless}
 
 some_is : {X : Type 0} (x y : X) → Some x ≡ Some y → x ≡ y
@@ -110,9 +114,11 @@ Agree (as_unusable m k f) (as_unusable n l g) = AreOneFault m n k l f g
 head_is : {X : Type 0} (x y : X) (xs ys : List X) → x ∷ xs ≡ y ∷ ys → x ≡ y
 head_is x y xs ys e = cc
 
--- two programs have one verdict
+-- two programs have one verdict, and one answer to whether one refines the other; one program is stuck in one way
 pub record IsOneVerdict : Type 0 where
   pub one : (params : List (Name × Kind)) (p q : Tree) (v w : Verdict) → IsVerdictOf params p q v → IsVerdictOf params p q w → v ≡ w
+  pub refinement : (params : List (Name × Kind)) (p q : Tree) (v w : Refinement) → IsRefinement params p q v → IsRefinement params p q w → v ≡ w
+  pub deadlock : (params : List (Name × Kind)) (p : Tree) (v w : Option Behaviour) → IsDeadlockAnswer params p v → IsDeadlockAnswer params p w → v ≡ w
 
 back : {A B C : Type 0} (P : A → B → C → Type 0) (x y : A) (z u : B) (v w : C) → x ≡ y → z ≡ u → v ≡ w → P y u w → P x z v
 back {A} {B} {C} P x y z u v w e f g h =
@@ -204,13 +210,38 @@ module _ (once : IsOnce) (only : IsOneVerdict) (single : IsOneText) where
   compares_alike j k m n p q r s a b first second (compared v x e) (compared w y h) =
       alike a b (Compared m v) (Compared n w) e (ap₂ Compared second.names (decided_alike p q r s v w first.params first.body second.body x.first y.first)) h
 
-  settles_alike : (one two : Option (List ℕ)) (a b : Answer) → Settles one two a → Settles one two b → AreAlike a b
-  settles_alike one two a b s t =
-      takes_alike First one [] (λ names p. Takes Second two names (Compares p)) (λ names p. Takes Second two names (Compares p)) a b
+  refined_alike : (p q r s : Program) (v w : Refinement) → p.params ≡ r.params → tree p.body ≡ tree r.body → tree q.body ≡ tree s.body
+      → IsRefinement p.params (tree p.body) (tree q.body) v → IsRefinement r.params (tree r.body) (tree s.body) w → v ≡ w
+  refined_alike p q r s v w e f g fv fw =
+      let F : List (Name × Kind) → Tree → Tree → Type 0 = λ x y z. IsRefinement x y z w in
+      only.refinement p.params (tree p.body) (tree q.body) v w fv (back F _ _ _ _ _ _ e f g fw)
+
+  refines_alike : (j k m n : List (List ℕ)) (p q r s : Program) (a b : Answer) → AreOne j k p r → AreOne m n q s → Refines p m q a → Refines r n s b → AreAlike a b
+  refines_alike j k m n p q r s a b first second (other d e) (other c h) = alike a b InterfacesDiffer InterfacesDiffer e refl h
+  refines_alike j k m n p q r s a b first second (other d e) (allowed w y h) = absurd (d (first.params ∙ y.one_interface ∙ sym second.params))
+  refines_alike j k m n p q r s a b first second (allowed v x e) (other c h) = absurd (c (sym first.params ∙ x.one_interface ∙ second.params))
+  refines_alike j k m n p q r s a b first second (allowed v x e) (allowed w y h) =
+      alike a b (Allowed m v) (Allowed n w) e (ap₂ Allowed second.names (refined_alike p q r s v w first.params first.body second.body x.is y.is)) h
+
+  replies_alike : (question : Question) (j k m n : List (List ℕ)) (p q r s : Program) (a b : Answer) → AreOne j k p r → AreOne m n q s → Replies question p m q a → Replies question r n s b → AreAlike a b
+  replies_alike WhetherSame j k m n p q r s a b first second f g = compares_alike j k m n p q r s a b first second f g
+  replies_alike WhetherRefined j k m n p q r s a b first second f g = refines_alike j k m n p q r s a b first second f g
+
+  settles_alike : (question : Question) (one two : Option (List ℕ)) (a b : Answer) → Settles question one two a → Settles question one two b → AreAlike a b
+  settles_alike question one two a b s t =
+      takes_alike First one [] (λ names p. Takes Second two names (Replies question p)) (λ names p. Takes Second two names (Replies question p)) a b
       (λ m n p q x first f g.
-      let P : List (List ℕ) → Type 0 = λ o. Takes Second two o (Compares q) b in
-      takes_alike Second two m (Compares p) (Compares q) a b (λ j k r u y second. compares_alike m n j k p r q u a b first second) f (subst P (sym first.names) g))
+      let P : List (List ℕ) → Type 0 = λ o. Takes Second two o (Replies question q) b in
+      takes_alike Second two m (Replies question p) (Replies question q) a b (λ j k r u y second. replies_alike question m n j k p r q u a b first second) f (subst P (sym first.names) g))
       s.judged t.judged
+
+  -- ---- where a program can be stuck
+
+  sought_alike : (m n : List (List ℕ)) (p q : Program) (a b : Answer) → AreOne m n p q → IsSought m p a → IsSought n q b → AreAlike a b
+  sought_alike m n p q a b d f g =
+      let P : List (Name × Kind) → Tree → Option Behaviour → Type 0 = IsDeadlockAnswer in
+      let one : f.found ≡ g.found = only.deadlock p.params (tree p.body) f.found g.found f.is (back P p.params q.params (tree p.body) (tree q.body) g.found g.found d.params d.body refl g.is) in
+      alike a b (Sought m f.found) (Sought n g.found) f.answer_is (ap₂ Sought d.names one) g.answer_is
 
   -- ---- normal texts
 
@@ -288,11 +319,13 @@ module _ (once : IsOnce) (only : IsOneVerdict) (single : IsOneText) where
 
   abbrev Does : Files → Option Job → Answer → Type 0
   Does files None a = a ≡ Usage
-  Does files (Some (same x y)) a = Settles (files x) (files y) a
+  Does files (Some (same x y)) a = Settles WhetherSame (files x) (files y) a
   Does files (Some (normalise x)) a = Normalises (files x) a
   Does files (Some (normal x)) a = Checks (files x) a
   Does files (Some (belongs x y)) a = Judges (files x) (files y) a
   Does files (Some (stress shape stages)) a = Stresses shape stages a
+  Does files (Some (refine x y)) a = Settles WhetherRefined (files x) (files y) a
+  Does files (Some (deadlock x)) a = Seeks (files x) a
 
   does : (files : Files) (words : List (List ℕ)) (a : Answer) → IsAnswer files words a → Does files (job_of words) a
   does files words a (usage none e) = let P : Option Job → Type 0 = λ j. Does files j a in subst P (sym none) e
@@ -301,10 +334,14 @@ module _ (once : IsOnce) (only : IsOneVerdict) (single : IsOneText) where
   does files words a (checking x is s) = let P : Option Job → Type 0 = λ j. Does files j a in subst P (sym is) s
   does files words a (membership x y is s) = let P : Option Job → Type 0 = λ j. Does files j a in subst P (sym is) s
   does files words a (stressing x n is s) = let P : Option Job → Type 0 = λ j. Does files j a in subst P (sym is) s
+  does files words a (refinement x y is s) = let P : Option Job → Type 0 = λ j. Does files j a in subst P (sym is) s
+  does files words a (seeking x is s) = let P : Option Job → Type 0 = λ j. Does files j a in subst P (sym is) s
 
   does_alike : (files : Files) (j : Option Job) (a b : Answer) → Does files j a → Does files j b → AreAlike a b
   does_alike files None a b s t = alike a b Usage Usage s refl t
-  does_alike files (Some (same x y)) a b s t = settles_alike (files x) (files y) a b s t
+  does_alike files (Some (same x y)) a b s t = settles_alike WhetherSame (files x) (files y) a b s t
+  does_alike files (Some (refine x y)) a b s t = settles_alike WhetherRefined (files x) (files y) a b s t
+  does_alike files (Some (deadlock x)) a b s t = takes_alike First (files x) [] IsSought IsSought a b (λ m n p q y d. sought_alike m n p q a b d) s t
   does_alike files (Some (normalise x)) a b s t = takes_alike First (files x) [] IsNormalised IsNormalised a b (λ m n p q y d. normalised_alike (files x) m n p q a b y d) s t
   does_alike files (Some (normal x)) a b s t = checks_alike (files x) a b s t
   does_alike files (Some (belongs x y)) a b s t = judges_alike (files x) (files y) a b s t

@@ -19,9 +19,13 @@ use Rattle.occ_gen.specs.Programs.{program_text}
 use Rattle.occ_nform.specs.declared.figures.Counts.{Counts}
 use Rattle.occ_nform.specs.Written.{IsNormalText}
 use Rattle.occ_nform_program.specs.Counted.{HasCounts}
-use Rattle.occ_tool_words.specs.Words.{same, normalise, normal, belongs, stress, job_of}
+use Rattle.occ_views.specs.declared.refined.Refined.{Refined as Refinement}
+use Rattle.occ_views.specs.Programs.{IsRefinement, IsDeadlockAnswer}
+use Rattle.occ_tool_words.specs.Words.{same, normalise, normal, belongs, stress, refine, deadlock, job_of}
 use Rattle.occ_tool_run.specs.declared.answer.Answer.{Answer}
-use Rattle.occ_tool_run.specs.declared.answer.Answer.TheVariants.{Usage, Refused, Unusable, TooLong, RefusedTable, RefusedClaim, InterfacesDiffer, Compared, Written, Counted, Member, Stressed}
+use Rattle.occ_tool_run.specs.declared.answer.Answer.TheVariants.{Usage, Refused, Unusable, TooLong, RefusedTable, RefusedClaim, InterfacesDiffer, Compared, Written, Counted, Member, Stressed, Allowed, Sought}
+use Rattle.occ_tool_run.specs.declared.judge.Question.{Question}
+use Rattle.occ_tool_run.specs.declared.judge.Question.TheVariants.{WhetherSame, WhetherRefined}
 use Rattle.occ_tool_run.specs.Accepts.{IsAccepted, IsRefused, IsUnusable, IsThere}
 use Rattle.occ_tool_run.specs.Files.{Files, most_bytes, most_table_bytes}
 use Rattle.occ_tool_run.specs.Texts.{status_of, text_of}
@@ -46,10 +50,37 @@ pub data Compares (p : Program) (names : List (List ℕ)) (q : Program) (answer 
   apart : (p.params ≡ q.params → ⊥) → answer ≡ InterfacesDiffer → Compares p names q answer
   compared : (verdict : Verdict) → IsVerdictOn p q verdict → answer ≡ Compared names verdict → Compares p names q answer
 
--- The answer to two files whose programs are to be compared. Both are there, and the first is judged first.
-pub record Settles (one two : Option (List ℕ)) (answer : Answer) : Type 0 where
+-- Both programs have one interface, and this says whether the second does no more than the first allows.
+pub record IsRefinementOn (p q : Program) (refined : Refinement) : Type 0 where
+  pub one_interface : p.params ≡ q.params
+  pub is : IsRefinement p.params (tree p.body) (tree q.body) refined
+
+-- the answer to two accepted programs, of which the second may refine the first
+pub data Refines (p : Program) (names : List (List ℕ)) (q : Program) (answer : Answer) : Type 0 where
+  other : (p.params ≡ q.params → ⊥) → answer ≡ InterfacesDiffer → Refines p names q answer
+  allowed : (refined : Refinement) → IsRefinementOn p q refined → answer ≡ Allowed names refined → Refines p names q answer
+
+-- what is asked of two accepted programs
+abbrev pub Replies : Question → Program → List (List ℕ) → Program → Answer → Type 0
+Replies WhetherSame = Compares
+Replies WhetherRefined = Refines
+
+-- The answer to two files of whose programs this is asked. Both are there, and the first is judged first.
+pub record Settles (question : Question) (one two : Option (List ℕ)) (answer : Answer) : Type 0 where
   pub there : IsThere two
-  pub judged : Takes First one [] (λ names p. Takes Second two names (Compares p)) answer
+  pub judged : Takes First one [] (λ names p. Takes Second two names (Replies question p)) answer
+
+-- ---- where a program can be stuck
+
+-- the answer tells where the accepted program can be stuck
+pub record IsSought (names : List (List ℕ)) (p : Program) (answer : Answer) : Type 0 where
+  pub found : Option Behaviour
+  pub is : IsDeadlockAnswer p.params (tree p.body) found
+  pub answer_is : answer ≡ Sought names found
+
+-- the answer to a file whose program may be stuck
+abbrev pub Seeks : Option (List ℕ) → Answer → Type 0
+Seeks file answer = Takes First file [] IsSought answer
 
 -- ---- the normal text of a program
 
@@ -109,11 +140,13 @@ Stresses shape stages answer = Takes First (Some (program_text shape stages)) []
 -- What the words ask for has this answer, or they don't fit.
 pub data IsAnswer (files : Files) (words : List (List ℕ)) (answer : Answer) : Type 0 where
   usage : job_of words ≡ None → answer ≡ Usage → IsAnswer files words answer
-  comparison : (first second : List ℕ) → job_of words ≡ Some (same first second) → Settles (files first) (files second) answer → IsAnswer files words answer
+  comparison : (first second : List ℕ) → job_of words ≡ Some (same first second) → Settles WhetherSame (files first) (files second) answer → IsAnswer files words answer
   normalisation : (program : List ℕ) → job_of words ≡ Some (normalise program) → Normalises (files program) answer → IsAnswer files words answer
   checking : (text : List ℕ) → job_of words ≡ Some (normal text) → Checks (files text) answer → IsAnswer files words answer
   membership : (program text : List ℕ) → job_of words ≡ Some (belongs program text) → Judges (files program) (files text) answer → IsAnswer files words answer
   stressing : (shape : Shape) (stages : ℕ) → job_of words ≡ Some (stress shape stages) → Stresses shape stages answer → IsAnswer files words answer
+  refinement : (first second : List ℕ) → job_of words ≡ Some (refine first second) → Settles WhetherRefined (files first) (files second) answer → IsAnswer files words answer
+  seeking : (program : List ℕ) → job_of words ≡ Some (deadlock program) → Seeks (files program) answer → IsAnswer files words answer
 
 -- The words and the files have an answer with this status and this text.
 pub record Answers (files : Files) (words : List (List ℕ)) (status : ℕ) (text : List ℕ) : Type 0 where

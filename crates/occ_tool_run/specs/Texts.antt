@@ -1,5 +1,5 @@
 -- The status and the text of each answer.
-use Rattle.std.specs.Prelude.{ℕ, ◌≢◌, ◌<◌, Bool, true, false, List, [], ◌++◌, codes, decimal, length, slice_index_or}
+use Rattle.std.specs.Prelude.{ℕ, ◌≢◌, ◌<◌, Bool, true, false, List, [], ◌++◌, codes, decimal, length, slice_index_or, Option, Some, None}
 use Rattle.occ_base.specs.declared.event.Dir.{Dir}
 use Rattle.occ_base.specs.declared.event.Dir.TheVariants.{Input, Output}
 use Rattle.occ_usage.specs.declared.fault.UsageFault.{UsageFault}
@@ -14,15 +14,18 @@ use Rattle.occ_behaviour.specs.declared.behaviour.Side.{Side}
 use Rattle.occ_behaviour.specs.declared.behaviour.Side.TheVariants.{First, Second}
 use Rattle.occ_behaviour.specs.declared.behaviour.Verdict.{Verdict}
 use Rattle.occ_behaviour.specs.declared.behaviour.Verdict.TheVariants.{Same, Differ}
-use Rattle.occ_behaviour.specs.Members.{VerdictIsNamed}
-use Rattle.occ_behaviour.specs.Texts.{text_of_verdict}
+use Rattle.occ_behaviour.specs.declared.behaviour.Behaviour.{Behaviour}
+use Rattle.occ_behaviour.specs.Members.{VerdictIsNamed, IsNamed}
+use Rattle.occ_behaviour.specs.Texts.{text_of_verdict, text_of_behaviour}
+use Rattle.occ_views.specs.declared.refined.Refined.{Refined as Refinement}
+use Rattle.occ_views.specs.declared.refined.Refined.TheVariants.{Yes, No}
 use Rattle.occ_nform_table.specs.declared.table.TableFault.{TableFault}
 use Rattle.occ_nform_table.specs.declared.table.TableFault.TheVariants as table
 use Rattle.occ_gen.specs.declared.shape.Shape.{Shape}
 use Rattle.occ_gen.specs.declared.shape.Shape.TheVariants.{Buffers, Adders, Muxes}
 use Rattle.occ_nform.specs.declared.figures.Counts.{Counts}
 use Rattle.occ_tool_run.specs.declared.answer.Answer.{Answer}
-use Rattle.occ_tool_run.specs.declared.answer.Answer.TheVariants.{Usage, Refused, Unusable, TooLong, RefusedTable, RefusedClaim, InterfacesDiffer, Compared, Written, Counted, Member, Stressed}
+use Rattle.occ_tool_run.specs.declared.answer.Answer.TheVariants.{Usage, Refused, Unusable, TooLong, RefusedTable, RefusedClaim, InterfacesDiffer, Compared, Written, Counted, Member, Stressed, Allowed, Sought}
 
 abbrev pub status_of_verdict : Verdict → ℕ
 status_of_verdict Same = 0
@@ -31,6 +34,14 @@ status_of_verdict (Differ behaviour only) = 1
 abbrev pub status_of_member : Bool → ℕ
 status_of_member true = 0
 status_of_member false = 1
+
+abbrev pub status_of_refined : Refinement → ℕ
+status_of_refined Yes = 0
+status_of_refined (No behaviour) = 1
+
+abbrev pub status_of_found : Option Behaviour → ℕ
+status_of_found None = 0
+status_of_found (Some behaviour) = 1
 
 abbrev pub status_of : Answer → ℕ
 status_of Usage = 2
@@ -45,6 +56,8 @@ status_of (Written text) = 0
 status_of (Counted rows) = 0
 status_of (Member is) = status_of_member is
 status_of (Stressed shape stages counts) = 0
+status_of (Allowed names refined) = status_of_refined refined
+status_of (Sought names found) = status_of_found found
 
 abbrev pub place_text : Side → List ℕ
 place_text First = codes "FIRST"
@@ -139,6 +152,15 @@ abbrev pub member_text : Bool → List ℕ
 member_text true = codes "YES\n"
 member_text false = codes "NO\n"
 
+-- what the second program does and the first doesn't allow is told as a difference
+abbrev pub refined_text : List (List ℕ) → Refinement → List ℕ
+refined_text names Yes = codes "REFINES\n"
+refined_text names (No behaviour) = text_of_verdict names (Differ behaviour Second)
+
+abbrev pub found_text : List (List ℕ) → Option Behaviour → List ℕ
+found_text names None = codes "FREE\n"
+found_text names (Some behaviour) = codes "DEADLOCK\n" ++ text_of_behaviour names behaviour
+
 abbrev pub shape_text : Shape → List ℕ
 shape_text Buffers = codes "buffers"
 shape_text Adders = codes "adders"
@@ -172,6 +194,16 @@ text_of (Written text) = text.items
 text_of (Counted rows) = figure_text (codes "NORMAL") rows
 text_of (Member is) = member_text is
 text_of (Stressed shape stages counts) = stress_text shape stages ++ counts_text counts
+text_of (Allowed names refined) = refined_text names refined
+text_of (Sought names found) = found_text names found
+
+abbrev pub RefinementIsNamed : List (List ℕ) → Refinement → Type 0
+RefinementIsNamed names Yes = Unit {0}
+RefinementIsNamed names (No behaviour) = IsNamed names behaviour
+
+abbrev pub FoundIsNamed : List (List ℕ) → Option Behaviour → Type 0
+FoundIsNamed names None = Unit {0}
+FoundIsNamed names (Some behaviour) = IsNamed names behaviour
 
 -- a refusal isn't want of memory, and the names that it or a verdict mentions have texts
 abbrev pub IsPrintable : Answer → Type 0
@@ -187,3 +219,5 @@ IsPrintable (Written text) = Unit {0}
 IsPrintable (Counted rows) = Unit {0}
 IsPrintable (Member is) = Unit {0}
 IsPrintable (Stressed shape stages counts) = Unit {0}
+IsPrintable (Allowed names refined) = RefinementIsNamed names refined
+IsPrintable (Sought names found) = FoundIsNamed names found

@@ -1,15 +1,16 @@
 ghost use Rattle.std.specs.Prelude.{◌≡◌, ◌++◌, codes, IfOk, OnOk};
-ghost use Rattle.occ_tool_run.specs.Texts.{status_of, text_of, figure_text, counts_text, member_text, shape_text, stress_text, IsPrintable};
+ghost use Rattle.occ_tool_run.specs.Texts.{status_of, text_of, figure_text, counts_text, found_text, member_text, refined_text, shape_text, stress_text, FoundIsNamed, RefinementIsNamed, IsPrintable};
 
 use crate::refusal::{claim_refusal, refusal, table_refusal, too_long, usage_refusal};
 use itoa::Buffer;
 use occ_base::{Memory, Names};
-use occ_behaviour::{Side, Verdict, verdict_text};
+use occ_behaviour::{Behaviour, Side, Verdict, behaviour_text, verdict_text};
 use occ_gen::Shape;
 use occ_nform::Counts;
 use occ_nform_table::TableFault;
 use occ_parse_reading::ParseFault;
 use occ_usage::UsageFault;
+use occ_views::Refined;
 use std::alloc::Global;
 
 /// What a command line is answered with, where all files could be read and memory was found.
@@ -67,6 +68,16 @@ pub enum Answer {
         stages: u64,
         counts: Counts,
     },
+    /// Whether the second program does no more than the first allows. The names are those of both.
+    Allowed {
+        names: Names,
+        refined: Refined,
+    },
+    /// Where the program can be stuck, if it can.
+    Sought {
+        names: Names,
+        found: Option<Behaviour>,
+    },
 }
 
 /// The status of an answer.
@@ -84,6 +95,14 @@ pub fn status(answer: &Answer) -> u8
         },
         Answer::Written { .. } | Answer::Counted { .. } | Answer::Stressed { .. } => 0,
         Answer::Member { is } => { if *is { 0 } else { 1 } }
+        Answer::Allowed { refined, .. } => match refined {
+            Refined::Yes => 0,
+            Refined::No(_) => 1,
+        },
+        Answer::Sought { found, .. } => match found {
+            None => 0,
+            Some(_) => 1,
+        },
     }
 }
 
@@ -117,6 +136,41 @@ pub fn text(alloc: Global, answer: Answer) -> Result<Vec<u8>, Memory>
             stages,
             counts,
         } => stress_figures(alloc, shape, stages, counts),
+        Answer::Allowed { names, refined } => refined_lines(alloc, &names, refined),
+        Answer::Sought { names, found } => found_lines(alloc, &names, found),
+    }
+}
+
+/// The lines about a program that may refine another.
+fn refined_lines(alloc: Global, names: &Names, refined: Refined) -> Result<Vec<u8>, Memory>
+    requires { RefinementIsNamed names.now refined }
+    ensures { IfOk result (λ text. text.items ≡ refined_text names.now refined) }
+{
+    match refined {
+        Refined::Yes => Ok(Vec::from_slice(alloc, b"REFINES\n")?),
+        Refined::No(behaviour) => {
+            let verdict = Verdict::Differ {
+                behaviour,
+                only: Side::Second,
+            };
+            verdict_text(alloc, names, &verdict)
+        }
+    }
+}
+
+/// The lines about a program that may be stuck.
+fn found_lines(alloc: Global, names: &Names, found: Option<Behaviour>) -> Result<Vec<u8>, Memory>
+    requires { FoundIsNamed names.now found }
+    ensures { IfOk result (λ text. text.items ≡ found_text names.now found) }
+{
+    match found {
+        None => Ok(Vec::from_slice(alloc, b"FREE\n")?),
+        Some(behaviour) => {
+            let mut text = Vec::from_slice(alloc, b"DEADLOCK\n")?;
+            let lines = behaviour_text(alloc, names, &behaviour)?;
+            text.extend_from_slice(lines.as_slice())?;
+            Ok(text)
+        }
     }
 }
 

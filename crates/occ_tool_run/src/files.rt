@@ -1,19 +1,21 @@
 ghost use Rattle.std.specs.Prelude.{◌≡◌, ◌≢◌, ◌<◌, ◌∷◌, [], IfOk, IfSome};
 ghost use Rattle.occ_tool_run.specs.Files.{AsksFor, CountsStop};
 ghost use Rattle.occ_tool_run.specs.Texts.{IsPrintable};
-ghost use Rattle.occ_tool_run.specs.Answers.{Checks, Judges, Normalises, Settles};
+ghost use Rattle.occ_tool_run.specs.Answers.{Checks, Judges, Normalises, Seeks, Settles};
 
 use crate::answer::Answer;
-use crate::judge::judge;
+use crate::judge::{Question, judge};
 use crate::load::{Stop, load_both, load_table, load_text};
 use crate::member::belongs;
 use crate::normal::{check, normalise};
+use crate::stuck::seek;
 use occ_desk::Desk;
 use std::alloc::Global;
 
-/// The answer to two files whose programs are to be compared.
+/// The answer to two files of whose programs this is asked.
 pub fn compare_files<D: Desk>(
     alloc: Global,
+    question: Question,
     first: &str,
     second: &str,
     desk: &mut D,
@@ -21,7 +23,7 @@ pub fn compare_files<D: Desk>(
     requires reads_countable { D.read_faults desk.old < u64.MAX }
     requires writes_countable { D.write_faults desk.old < u64.MAX }
     ensures settles { IfOk result (λ answer. IfSome (D.files desk.old) (λ files.
-        Settles (files first.now) (files second.now) answer)) }
+        Settles question (files first.now) (files second.now) answer)) }
     ensures printable { IfOk result IsPrintable }
     ensures usage { IfOk result (λ answer. answer ≢ Answer.Usage) }
     ensures asked { AsksFor (D.asked desk.old) (D.asked desk.new) (first.now ∷ second.now ∷ []) result }
@@ -31,7 +33,7 @@ pub fn compare_files<D: Desk>(
     ensures write_faults { D.write_faults desk.new ≡ D.write_faults desk.old }
 {
     let (one, two) = load_both(alloc, desk, first, second)?;
-    Ok(judge(alloc, &one, &two)?)
+    Ok(judge(alloc, question, &one, &two)?)
 }
 
 /// The answer to a file whose program's normal text is asked for.
@@ -49,6 +51,23 @@ pub fn normalise_file<D: Desk>(alloc: Global, program: &str, desk: &mut D) -> Re
 {
     let loaded = load_text(alloc, desk, program)?;
     Ok(normalise(alloc, &loaded)?)
+}
+
+/// The answer to a file whose program may be stuck.
+pub fn deadlock_file<D: Desk>(alloc: Global, program: &str, desk: &mut D) -> Result<Answer, Stop>
+    requires reads_countable { D.read_faults desk.old < u64.MAX }
+    requires writes_countable { D.write_faults desk.old < u64.MAX }
+    ensures seeks { IfOk result (λ answer. IfSome (D.files desk.old) (λ files. Seeks (files program.now) answer)) }
+    ensures printable { IfOk result IsPrintable }
+    ensures usage { IfOk result (λ answer. answer ≢ Answer.Usage) }
+    ensures asked { AsksFor (D.asked desk.old) (D.asked desk.new) (program.now ∷ []) result }
+    ensures read_faults { CountsStop (D.read_faults desk.old) (D.read_faults desk.new) result }
+    ensures files { D.files desk.new ≡ D.files desk.old }
+    ensures written { D.written desk.new ≡ D.written desk.old }
+    ensures write_faults { D.write_faults desk.new ≡ D.write_faults desk.old }
+{
+    let loaded = load_text(alloc, desk, program)?;
+    Ok(seek(alloc, &loaded)?)
 }
 
 /// The answer to a file that is to be a normal text.

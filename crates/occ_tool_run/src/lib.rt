@@ -11,9 +11,10 @@ mod measure;
 mod member;
 mod normal;
 mod refusal;
+mod stuck;
 #[cfg(test)]
 mod tests;
 mod top;
 
-pub use law::one_answer;
+pub use law::{one_answer, same_where_both_refine};
 pub use top::run;

@@ -402,3 +402,80 @@ fn a_generated_program_is_measured(rt: HostRuntime) -> Result<(), Fail> {
     );
     Ok(())
 }
+
+const EITHER_WAY: &str = "PROC p (CHAN OF BOOL a!, b!)\n  ALT\n    TRUE & SKIP\n      a ! TRUE\n    TRUE & SKIP\n      b ! TRUE\n:\n";
+
+const BOTH_WAYS: &str =
+    "PROC p (CHAN OF BOOL a!, b!)\n  ALT\n    a ! TRUE\n      SKIP\n    b ! TRUE\n      SKIP\n:\n";
+
+const NO_WAY: &str = "PROC p (CHAN OF BOOL a!, b!)\n  STOP\n:\n";
+
+const THEN_STOP: &str = "PROC p (CHAN OF BOOL a!, b!)\n  ALT\n    a ! TRUE\n      STOP\n    b ! TRUE\n      SKIP\n:\n";
+
+#[test]
+fn programs_refine_or_not(rt: HostRuntime) -> Result<(), Fail> {
+    for (first, second, status, text) in [
+        (EITHER_WAY, BOTH_WAYS, 0, "REFINES\n"),
+        (
+            BOTH_WAYS,
+            EITHER_WAY,
+            1,
+            "DIFFER\nSTATE []\nTRACE\nREFUSES {b!1}\nONLY SECOND\n",
+        ),
+        (
+            NO_WAY,
+            BOTH_WAYS,
+            1,
+            "DIFFER\nSTATE []\nTRACE a!1\nENDS []\nONLY SECOND\n",
+        ),
+        (
+            BOTH_WAYS,
+            THEN_STOP,
+            1,
+            "DIFFER\nSTATE []\nTRACE a!1\nREFUSES {}\nONLY SECOND\n",
+        ),
+        (
+            STOP_BOOL,
+            SKIP_BOOL,
+            1,
+            "DIFFER\nSTATE [0]\nTRACE\nENDS [0]\nONLY SECOND\n",
+        ),
+        (CHAIN, TWO, 0, "REFINES\n"),
+        (TWO_BOOL, TWO_BOOL_TURNED, 7, "INTERFACES DIFFER\n"),
+        (SKIP, "\u{0}\u{7f}", 3, "REFUSED SECOND 1 Line Char\n"),
+    ] {
+        let (answer, desk) = command(rt.alloc(), &["occam", "refine", "A", "B"], first, second)?;
+        assert_eq!(rt; answer, status);
+        assert_eq!(rt; desk.written(), text.as_bytes());
+    }
+    Ok(())
+}
+
+#[test]
+fn programs_are_stuck_or_not(rt: HostRuntime) -> Result<(), Fail> {
+    for (program, status, text) in [
+        (CHAIN, 0, "FREE\n"),
+        (
+            SHORT,
+            1,
+            "DEADLOCK\nSTATE []\nTRACE in?0 in?0 out!0 in?0 out!0\nREFUSES {in?0 in?1 in?2 in?3 out!0 out!1 out!2 out!3}\n",
+        ),
+        (SKIP, 0, "FREE\n"),
+        (
+            STOP_BOOL,
+            1,
+            "DEADLOCK\nSTATE [0]\nTRACE\nREFUSES {}\n",
+        ),
+        (
+            THEN_STOP,
+            1,
+            "DEADLOCK\nSTATE []\nTRACE a!1\nREFUSES {a!0 a!1 b!0 b!1}\n",
+        ),
+        ("x", 3, "REFUSED FIRST 1 Form\n"),
+    ] {
+        let (answer, desk) = command(rt.alloc(), &["occam", "deadlock", "A"], program, SKIP)?;
+        assert_eq!(rt; answer, status);
+        assert_eq!(rt; desk.written(), text.as_bytes());
+    }
+    Ok(())
+}

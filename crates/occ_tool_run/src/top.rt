@@ -6,7 +6,8 @@ ghost use Rattle.occ_tool_run.specs.Answers.{IsAnswer, Answers};
 ghost use Rattle.occ_tool_run.specs.Ran.{Ran, Asked};
 
 use crate::answer::{Answer, status, text};
-use crate::files::{belongs_file, check_file, compare_files, normalise_file};
+use crate::files::{belongs_file, check_file, compare_files, deadlock_file, normalise_file};
+use crate::judge::Question;
 use crate::load::Stop;
 use crate::measure::stress;
 use occ_desk::{Desk, send};
@@ -18,8 +19,8 @@ use std::alloc::Global;
 ///
 /// | status | comes exactly where | written |
 /// |---|---|---|
-/// | 0 | the programs mean the same; the normal text is written; the text is normal; the behaviour belongs to the program; the generated program is measured | the answer |
-/// | 1 | the programs differ; the behaviour doesn't belong to the program | the answer |
+/// | 0 | the programs mean the same; the second refines the first; the program can't be stuck; the normal text is written; the text is normal; the behaviour belongs to the program; the generated program is measured | the answer |
+/// | 1 | the programs differ; the second does more than the first; the program can be stuck; the behaviour doesn't belong to the program | the answer |
 /// | 2 | the words don't fit | the line of usage |
 /// | 3 | a text is refused | the refusal |
 /// | 4 | a read failed in this call | nothing |
@@ -103,10 +104,16 @@ fn find_answer<D: Desk>(alloc: Global, words: &[String], desk: &mut D) -> Result
 {
     match command_in(alloc, words)? {
         Command::Usage => Ok(Answer::Usage),
-        Command::Same { first, second } => compare_files(alloc, first, second, desk),
+        Command::Same { first, second } => {
+            compare_files(alloc, Question::WhetherSame, first, second, desk)
+        }
         Command::Normalise { program } => normalise_file(alloc, program, desk),
         Command::Normal { text } => check_file(alloc, text, desk),
         Command::Belongs { program, text } => belongs_file(alloc, program, text, desk),
         Command::Stress { shape, stages } => Ok(stress(alloc, shape, stages)?),
+        Command::Refine { first, second } => {
+            compare_files(alloc, Question::WhetherRefined, first, second, desk)
+        }
+        Command::Deadlock { program } => deadlock_file(alloc, program, desk),
     }
 }

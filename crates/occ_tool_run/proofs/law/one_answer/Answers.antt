@@ -12,7 +12,7 @@ returns c = one_answer (record {
       record { names = e.table; params = e.params; body = e.body; numbers = e.numbers };
   one_fault = λ text old f g r s. c.one_reading.ensures.fault bound.Program text old f g r s;
   not_both = λ text old m p ls f r s. c.one_reading.ensures.apart bound.Program text old m p.name p.params (tree p.body) ls f r s;
-}) (record { one = c.one_verdict.ensures }) (record {
+}) (record { one = c.one_verdict.ensures; refinement = c.one_refinement.ensures; deadlock = c.one_deadlock.ensures }) (record {
   distinct = λ text new p ls r. (c.parameters_have_names.ensures text [] new p.name p.params (tree p.body) ls no_name_twice r).0;
   one = c.normal_texts_tell_programs_apart.ensures;
 })

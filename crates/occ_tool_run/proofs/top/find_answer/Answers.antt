@@ -1,6 +1,6 @@
 use Rattle.std.proofs.Common.{◌∙◌, sym, ap}
 use Rattle.occ_tool_words.specs.Words.{job}
-use Rattle.occ_tool_run.proofs.Leaving.{asked_same, asked_normalise, asked_normal, asked_belongs, asked_stress}
+use Rattle.occ_tool_run.proofs.Leaving.{asked_same, asked_normalise, asked_normal, asked_belongs, asked_stress, asked_refine, asked_deadlock}
 use Rattle.occ_tool_run.proofs.top.find_answer.Goals as goal
 
 pub returns-in-Same-clause-answer : goal.returns-in-Same-clause-answer
@@ -22,3 +22,11 @@ returns-in-Belongs-clause-answer g c = asked_belongs _ _ c.in-Belongs.program.no
 pub returns-in_ok-stress-in-Stress-clause-answer : goal.returns-in_ok-stress-in-Stress-clause-answer
 returns-in_ok-stress-in-Stress-clause-answer g c = asked_stress _ _ c.in-Stress.shape c.in-Stress.stages c.in_ok-stress-in-Stress.field-0
     (sym (ap job c.in-Stress.is) ∙ c.in_ok-command_in.ensures) c.in_ok-stress-in-Stress.ensures.stresses
+
+pub returns-in-Refine-clause-answer : goal.returns-in-Refine-clause-answer
+returns-in-Refine-clause-answer g c = asked_refine _ _ c.in-Refine.first.now c.in-Refine.second.now c.compare_files-in-Refine.result
+    (sym (ap job c.in-Refine.is) ∙ c.in_ok-command_in.ensures) c.compare_files-in-Refine.ensures.settles
+
+pub returns-in-Deadlock-clause-answer : goal.returns-in-Deadlock-clause-answer
+returns-in-Deadlock-clause-answer g c = asked_deadlock _ _ c.in-Deadlock.program.now c.deadlock_file.result
+    (sym (ap job c.in-Deadlock.is) ∙ c.in_ok-command_in.ensures) c.deadlock_file.ensures.seeks
