@@ -1,16 +1,9 @@
 -- seq-if by its choices, and seq-alt by its branches.
-use Rattle.std.proofs.Common.{◌≡◌, ℕ, ◌↔◌, Bool, IsTrue, ◌&&◌, List, [], refl, ap, sym, ◌∙◌, subst}
-use Rattle.std.proofs.lemmas.Bool.{and_parts}
+use Rattle.std.proofs.Common.{◌≡◌, ℕ, ◌↔◌, Bool, IsTrue, List, [], refl, ap, sym, ◌∙◌, subst}
 use Rattle.occ_syntax.specs.Tree.{Tree, seq, select, alt, Trees, no_tree, and_tree, Cases, no_case, and_case, Branches, no_branch, and_branch}
 use Rattle.occ_law_rules.specs.Sequence.{SeqAlt, seq_alt, SeqIf, seq_if, each_branch_before, each_case_before}
 use Rattle.occ_law_shape.specs.Pieces.{each_branch, each_choice}
 use Rattle.occ_law_seq.specs.Behind.{followed}
-
-pub fronts : (p q : Tree) (ps qs : Trees) → and_tree p ps ≡ and_tree q qs → p ≡ q
-fronts p q ps qs e = cc
-
-pub rests : (p q : Tree) (ps qs : Trees) → and_tree p ps ≡ and_tree q qs → ps ≡ qs
-rests p q ps qs e = cc
 
 pub never_divided : (ps : Trees) → ps ≡ no_tree → (p : Tree) (qs : Trees) → ps ≡ and_tree p qs → ⊥
 never_divided ps e p qs k = cc
@@ -21,16 +14,6 @@ seq_is w ps rs b e test = ((λ h. sym e ∙ ap seq (test.0 h)), (λ k. test.1 (i
   where
     inner : (ps rs : Trees) → seq ps ≡ seq rs → ps ≡ rs
     inner ps rs e = cc
-
--- a list is a part and a list where its first part and its rest are these
-pub row_is : (ps : Trees) (p q : Tree) (qs rs : Trees) (a b : Bool) → ps ≡ and_tree p qs → (IsTrue a ↔ (p ≡ q)) → (IsTrue b ↔ (qs ≡ rs)) → IsTrue (a && b) ↔ (ps ≡ and_tree q rs)
-row_is ps p q qs rs a b e f g = (
-  (λ h. let t = and_parts a b h in e ∙ ap (λ z. and_tree z qs) (f.0 t.0) ∙ ap (and_tree q) (g.0 t.1)),
-  (λ k. both a b (f.1 (fronts p q qs rs (sym e ∙ k))) (g.1 (rests p q qs rs (sym e ∙ k)))),
-)
-  where
-    both : (a b : Bool) → IsTrue a → IsTrue b → IsTrue (a && b)
-    both a b h k = ap (λ z. z && b) h ∙ k
 
 pieces_if : (cs : Cases) (qs : Trees) → each_choice (λ b. b) (followed qs) cs ≡ each_case_before cs qs
 pieces_if no_case qs = refl

@@ -1,5 +1,10 @@
+pub mod Among
+pub mod Assigning
+pub mod Communicating
+pub mod EqualSides
 pub mod Followers
 pub mod Here
+pub mod Ordering
 pub mod Placed
 pub mod Simple
 pub mod Tabled

@@ -1,2 +1,5 @@
+pub mod Assignment
 pub mod Behind
+pub mod Communication
+pub mod Kept
 pub mod Places

@@ -66,7 +66,7 @@ impl Place for LastStop {
     ghost starts = { λ _ us j. no_stop_at_end us j };
 }
 
-fn is_skip(part: &Proc) -> bool
+pub(crate) fn is_skip(part: &Proc) -> bool
     ensures { IsTrue result ↔ (tree part.now ≡ skip) }
 {
     match opened(part) {

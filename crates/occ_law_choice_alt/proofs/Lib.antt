@@ -1,0 +1,10 @@
+pub mod Begun
+pub mod Cancelled
+pub mod Cased
+pub mod Ended
+pub mod Lacked
+pub mod Sought
+pub mod Stands
+pub mod Tabled
+pub mod Tests
+pub mod Without

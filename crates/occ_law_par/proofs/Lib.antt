@@ -1,0 +1,9 @@
+pub mod Assigning
+pub mod Choosing
+pub mod Cursor
+pub mod Expanding
+pub mod Going
+pub mod Reordering
+pub mod Sides
+pub mod Simple
+pub mod Tabled

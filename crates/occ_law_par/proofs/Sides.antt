@@ -1,0 +1,23 @@
+-- Tests in a row, and the sides of a law by their shapes.
+use Rattle.std.proofs.Common.{◌≡◌, ℕ, ◌↔◌, Bool, IsTrue, ◌&&◌, List, ap, sym, ◌∙◌, subst}
+use Rattle.occ_syntax.specs.Tree.{Tree}
+
+-- two tests in a row
+pub through : {A B C : Type 0} → (A ↔ B) → (B ↔ C) → A ↔ C
+through f g = ((λ a. g.0 (f.0 a)), (λ c. f.1 (g.1 c)))
+
+-- both tests are met
+pub both : (a b : Bool) → IsTrue a → IsTrue b → IsTrue (a && b)
+both a b h k = ap (λ z. z && b) h ∙ k
+
+-- what is met where a law holds between two trees is met where it holds between equal ones
+pub at_sides : (D : List ℕ → Tree → Tree → Type 0) {A : Type 0} (l m r s : Tree) → l ≡ m → r ≡ s
+    → (A ↔ ((place : List ℕ) × D place l r)) → A ↔ ((place : List ℕ) × D place m s)
+at_sides D l m r s e f law = (
+  (λ a. let k = law.0 a in (k.0, subst (λ z. D k.0 z s) e (subst (λ z. D k.0 l z) f k.1))),
+  (λ k. law.1 (k.0, subst (λ z. D k.0 z r) (sym e) (subst (λ z. D k.0 m z) (sym f) k.1))),
+)
+
+-- a law that doesn't hold between two trees doesn't hold between equal ones
+pub never_at : (D : List ℕ → Tree → Tree → Type 0) (l m r : Tree) → l ≡ m → ((place : List ℕ) × D place l r → ⊥) → (place : List ℕ) × D place m r → ⊥
+never_at D l m r e never k = never (k.0, subst (λ z. D k.0 z r) (sym e) k.1)

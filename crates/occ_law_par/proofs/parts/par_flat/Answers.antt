@@ -1,0 +1,8 @@
+use Rattle.occ_law_rules.specs.Parallel.{ParFlat}
+use Rattle.occ_law_par.proofs.Going.{flat_law}
+use Rattle.occ_law_par.proofs.Sides.{at_sides, through}
+use Rattle.occ_law_par.proofs.parts.par_flat.Goals as goal
+
+pub returns-in-Par-law_case-law_case : goal.returns-in-Par-law_case-law_case
+returns-in-Par-law_case-law_case c =
+    at_sides ParFlat _ _ _ _ c.in-Par-law_case.ensures c.in-Par-law_case-law_case.ensures (through c.somewhere.ensures (flat_law _ _))

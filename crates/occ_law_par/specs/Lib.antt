@@ -1,0 +1,5 @@
+pub mod Choices
+pub mod Expand
+pub mod Order
+pub mod Pairs
+pub mod Places

@@ -1,0 +1,48 @@
+ghost use Rattle.std.specs.Prelude.{◌≡◌, ◌↔◌, ◌≤◌, IfOk, IsTrue, true};
+ghost use Rattle.occ_syntax.specs.Scopes.{environment};
+ghost use Rattle.occ_syntax.specs.Types.{scope_kept};
+ghost use Rattle.occ_syntax.specs.Usage.{Keeps};
+ghost use Rattle.occ_syntax.specs.View.{tree};
+ghost use Rattle.occ_law_rules.specs.Table.{LAW};
+
+use crate::assign::par_assign;
+use crate::choices::par_if;
+use crate::expand::par_expand;
+use crate::order::par_order;
+use crate::parts::{par_flat, par_none, par_one, par_skip, par_stop};
+use occ_base::Memory;
+use occ_dd::Store;
+use occ_law::LawId;
+use occ_syntax::{Proc, Scope};
+use std::alloc::Global;
+
+/// Whether two parts are the two sides of a law of PAR, par-none to par-expand, in a scope. Both parts keep names, types,
+/// directions and usage in the scope. The store holds the diagrams of the question that par-if asks about the states of the
+/// scope; it may serve any number of calls.
+pub fn holds(
+    alloc: Global,
+    store: &mut Store,
+    law: LawId,
+    scope: &Scope,
+    left: &Proc,
+    right: &Proc,
+) -> Result<bool, Memory>
+    requires first { 37 ≤ law.0 }
+    requires last { law.0 ≤ 45 }
+    requires scope { scope_kept scope.now ≡ true }
+    requires left { Keeps (environment scope.now) (tree left.now) }
+    requires right { Keeps (environment scope.now) (tree right.now) }
+    ensures { IfOk result (λ answer. IsTrue answer ↔ LAW law.0 scope.now (tree left.now) (tree right.now)) }
+{
+    match law.0 {
+        37 => par_none(left, right),
+        38 => par_one(left, right),
+        39 => par_flat(left, right),
+        40 => par_order(alloc, left, right),
+        41 => par_skip(left, right),
+        42 => par_stop(left, right),
+        43 => Ok(par_assign(left, right)),
+        44 => par_if(alloc, store, scope, left, right),
+        _ => Ok(par_expand(left, right)),
+    }
+}

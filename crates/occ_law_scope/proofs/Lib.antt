@@ -1,0 +1,12 @@
+pub mod Joined
+pub mod Lists
+pub mod OnePair
+pub mod Sides
+pub mod Branching
+pub mod Redeclared
+pub mod Renamed
+pub mod EachValue
+pub mod Dropped
+pub mod OffChannel
+pub mod Placing
+pub mod Inputs

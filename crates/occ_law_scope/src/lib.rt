@@ -1,0 +1,18 @@
+//! Decides the laws of declared variables and channels.
+#![tactic(auto)]
+
+mod choices;
+mod decide;
+mod declaration;
+mod input;
+mod mentions;
+mod moves;
+mod pairs;
+mod renaming;
+#[cfg(test)]
+mod tests;
+mod turns;
+mod unheard;
+mod values;
+
+pub use decide::holds;
