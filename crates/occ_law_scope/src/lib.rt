@@ -9,8 +9,6 @@ mod mentions;
 mod moves;
 mod pairs;
 mod renaming;
-#[cfg(test)]
-mod tests;
 mod turns;
 mod unheard;
 mod values;
