@@ -1,4 +1,4 @@
-ghost use Rattle.std.specs.Prelude.{◌≡◌, ◌≤◌, true, IfOk, IfSome};
+ghost use Rattle.std.specs.Prelude.{◌≡◌, ◌≤◌, true, [], IfOk, IfSome};
 ghost use Rattle.occ_mdd.specs.Maps.{Keeps};
 ghost use Rattle.occ_node.specs.World.{Grows};
 ghost use Rattle.occ_syntax.specs.Counts.{bits_of_scope, most_bits};
@@ -14,12 +14,23 @@ use crate::after::after;
 use occ_base::Memory;
 use occ_mdd::MapId;
 use occ_node::{Root, World};
+use occ_norm_ending::{ending, except};
 use occ_norm_flatten::flattened;
 use occ_norm_frame::{Frame, rebased};
-use occ_norm_maps::skip;
-use occ_syntax::Program;
+use occ_norm_par::written_bits;
+use occ_syntax::{Proc, Program};
 use occ_usage::{Accepted, keeps};
 use std::alloc::Global;
+
+// The frame of a program's body where the bits that the body never writes matter as changes, and the others as values.
+fn unwritten_frame(alloc: Global, whole: &Frame, body: &Proc) -> Result<Frame, Memory>
+    ensures vars { IfOk result (λ r. r.vars ≡ whole.now.vars) }
+    ensures closed { IfOk result (λ r. r.closed.items ≡ []) }
+{
+    let written = written_bits(alloc, whole, body)?;
+    let keep = except(whole.keep, written);
+    whole.with(alloc, keep, Vec::new(alloc))
+}
 
 // The map of a program whose rules and limits are kept.
 fn states_of(alloc: Global, program: &Program, world: &mut World) -> Result<MapId, Memory>
@@ -32,8 +43,9 @@ fn states_of(alloc: Global, program: &Program, world: &mut World) -> Result<MapI
     ensures maps { Keeps world.old.maps world.new.maps }
     ensures root { IfOk result (IsRoot world.new program.now.params (tree program.now.body)) }
 {
-    let frame = Frame::of(alloc, program)?;
-    let ended = skip(alloc, world, frame.keep)?;
+    let whole = Frame::of(alloc, program)?;
+    let frame = unwritten_frame(alloc, &whole, &program.body)?;
+    let ended = ending(alloc, world, whole.keep, frame.keep)?;
     let changes = after(alloc, world, &frame, &program.body, ended)?;
     let states = rebased(alloc, world, frame.keep, changes)?;
     Ok(states)

@@ -7,5 +7,5 @@ mod parallel;
 mod users;
 
 pub use joint::sequel;
-pub use parallel::{Sides, joined, side_frame};
+pub use parallel::{Sides, joined, side_frame, written_bits};
 pub use users::Users;

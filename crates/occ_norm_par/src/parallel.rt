@@ -121,8 +121,8 @@ fn bits_of_names(entries: &[(Name, Width, u32)], names: &[Name]) -> u64
     bits
 }
 
-// The bits of the variables that a part writes.
-fn written_bits(alloc: Global, frame: &Frame, part: &Proc) -> Result<u64, Memory>
+/// The bits of the variables that a part writes.
+pub fn written_bits(alloc: Global, frame: &Frame, part: &Proc) -> Result<u64, Memory>
     ensures small { IfOk result (λ r. r < 2 ^ 64) }
     ensures written { IfOk result (AreWritten frame.now.layout (tree part.now)) }
 {

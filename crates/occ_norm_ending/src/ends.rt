@@ -1,0 +1,31 @@
+ghost use Rattle.std.specs.Prelude.{◌≡◌, IfOk};
+ghost use Rattle.occ_follow.specs.Sequence.{HasNodes};
+ghost use Rattle.occ_norm_ending.specs.Alone.{IsEnding, except};
+ghost use Rattle.occ_norm_maps.specs.Maps.{Extends};
+
+use occ_base::Memory;
+use occ_mdd::MapId;
+use occ_node::World;
+use occ_norm_frame::rebased;
+use occ_norm_maps::skip;
+use std::alloc::Global;
+
+/// Some bits without others.
+pub fn except(bits: u64, others: u64) -> u64
+    ensures { result ≡ except bits others }
+{
+    bits ^ (bits & others)
+}
+
+/// The map whose node at every state has ended. Of the bits of `all`, its ends have those of `keep` as changes, so 0, and the
+/// others as they are in the state.
+pub fn ending(alloc: Global, world: &mut World, all: u64, keep: u64) -> Result<MapId, Memory>
+    ensures extends { Extends world.old world.new }
+    ensures nodes { IfOk result (HasNodes world.new) }
+    ensures ending { IfOk result (IsEnding world.new all keep) }
+{
+    let ended = skip(alloc, world, all)?;
+    let values = except(all, keep);
+    let ending = rebased(alloc, world, values, ended)?;
+    Ok(ending)
+}
