@@ -1,0 +1,6 @@
+//! Decides the laws of IF and of ALT.
+#![tactic(auto)]
+
+mod decide;
+
+pub use decide::holds;

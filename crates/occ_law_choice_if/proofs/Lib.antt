@@ -1,0 +1,5 @@
+pub mod Fronts
+pub mod Joins
+pub mod Parted
+pub mod Sides
+pub mod Tabled
