@@ -47,8 +47,7 @@ same_where_both_refine agree p q k m n x y z (allowed v r e) back (apart c h) = 
 same_where_both_refine agree p q k m n x y z (allowed v r e) (other d f) (compared u w h) = absurd (d (sym r.one_interface))
 same_where_both_refine agree p q k m n x y z (allowed v r e) (allowed s t f) (compared u w h) =
     let turned = subst (λ (ps : List (Name × Kind)). IsRefinement ps (tree q.body) (tree p.body) s) (sym r.one_interface) t.is in
-    let one = agree p.params (tree p.body) (tree q.body) v s u w.first r.is turned in
-    (
-    λ g. ap text_of h ∙ ap (text_of_verdict n) (one.0 (refined_yes k v (sym (ap text_of e) ∙ g.0), refined_yes m s (sym (ap text_of f) ∙ g.1))),
-    λ g. let both = one.1 (verdict_same n u (sym (ap text_of h) ∙ g)) in (ap text_of e ∙ ap (refined_text k) both.0, ap text_of f ∙ ap (refined_text m) both.1),
+    let one = agree p.params (tree p.body) (tree q.body) v s u w.first r.is turned in (
+      λ g. ap text_of h ∙ ap (text_of_verdict n) (one.0 (refined_yes k v (sym (ap text_of e) ∙ g.0), refined_yes m s (sym (ap text_of f) ∙ g.1))),
+      λ g. let both = one.1 (verdict_same n u (sym (ap text_of h) ∙ g)) in (ap text_of e ∙ ap (refined_text k) both.0, ap text_of f ∙ ap (refined_text m) both.1),
     )

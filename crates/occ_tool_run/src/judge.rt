@@ -69,12 +69,7 @@ fn reply(
 }
 
 /// Whether the second of two accepted programs refines the first.
-fn allowed(
-    alloc: Global,
-    names: Names,
-    left: &Accepted,
-    right: &Accepted,
-) -> Result<Answer, Memory>
+fn allowed(alloc: Global, names: Names, left: &Accepted, right: &Accepted) -> Result<Answer, Memory>
     requires { NamesAreKnown names right.now.program }
     ensures settles { IfOk result (Refines left.now.program names right.now.program) }
     ensures printable { IfOk result IsPrintable }

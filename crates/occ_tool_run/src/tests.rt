@@ -403,14 +403,16 @@ fn a_generated_program_is_measured(rt: HostRuntime) -> Result<(), Fail> {
     Ok(())
 }
 
-const EITHER_WAY: &str = "PROC p (CHAN OF BOOL a!, b!)\n  ALT\n    TRUE & SKIP\n      a ! TRUE\n    TRUE & SKIP\n      b ! TRUE\n:\n";
+const EITHER_WAY: &str =
+    "PROC p (CHAN OF BOOL a!, b!)\n  ALT\n    TRUE & SKIP\n      a ! TRUE\n    TRUE & SKIP\n      b ! TRUE\n:\n";
 
 const BOTH_WAYS: &str =
     "PROC p (CHAN OF BOOL a!, b!)\n  ALT\n    a ! TRUE\n      SKIP\n    b ! TRUE\n      SKIP\n:\n";
 
 const NO_WAY: &str = "PROC p (CHAN OF BOOL a!, b!)\n  STOP\n:\n";
 
-const THEN_STOP: &str = "PROC p (CHAN OF BOOL a!, b!)\n  ALT\n    a ! TRUE\n      STOP\n    b ! TRUE\n      SKIP\n:\n";
+const THEN_STOP: &str =
+    "PROC p (CHAN OF BOOL a!, b!)\n  ALT\n    a ! TRUE\n      STOP\n    b ! TRUE\n      SKIP\n:\n";
 
 #[test]
 fn programs_refine_or_not(rt: HostRuntime) -> Result<(), Fail> {
@@ -461,11 +463,7 @@ fn programs_are_stuck_or_not(rt: HostRuntime) -> Result<(), Fail> {
             "DEADLOCK\nSTATE []\nTRACE in?0 in?0 out!0 in?0 out!0\nREFUSES {in?0 in?1 in?2 in?3 out!0 out!1 out!2 out!3}\n",
         ),
         (SKIP, 0, "FREE\n"),
-        (
-            STOP_BOOL,
-            1,
-            "DEADLOCK\nSTATE [0]\nTRACE\nREFUSES {}\n",
-        ),
+        (STOP_BOOL, 1, "DEADLOCK\nSTATE [0]\nTRACE\nREFUSES {}\n"),
         (
             THEN_STOP,
             1,
