@@ -1,8 +1,11 @@
 -- A generated program that the words ask for has from 1 to 48 stages.
-use Rattle.std.proofs.Common.{◌≤◌, ℕ, Bool, true, false, Option, Some, None, if◌then◌else◌, option_and_then}
-use Rattle.occ_tool_words.specs.Words.{Job, same, normalise, normal, belongs, stress}
+use Rattle.std.proofs.Common.{◌≡◌, ◌+◌, ◌*◌, ◌≤◌, ◌==◌, ℕ, Bool, true, false, ◌&&◌, List, [], ◌∷◌, Option, Some, None, codes, if◌then◌else◌, option_and_then, option_map, leb, refl, sym, subst}
+use Rattle.std.specs.Str.{bytes_eq}
+use Rattle.std.proofs.lemmas.Bool.{and_parts, leb-true}
+use Rattle.occ_gen.specs.declared.shape.Shape.{Shape}
+use Rattle.occ_tool_words.specs.Words.{Job, same, normalise, normal, belongs, stress, refine, deadlock, digit_of, in_range, is_plain, job_of, shape_of, stages_of, stress_of, two_digits, with_one, with_two}
 
-abbrev InRange : ℕ → Type 0
+abbrev pub InRange : ℕ → Type 0
 InRange n = (1 ≤ n) × (n ≤ 48)
 
 abbrev IsInRange : Option ℕ → Type 0
@@ -16,6 +19,8 @@ IsFit (Some (normalise a)) = Unit {0}
 IsFit (Some (normal a)) = Unit {0}
 IsFit (Some (belongs a b)) = Unit {0}
 IsFit (Some (stress shape n)) = InRange n
+IsFit (Some (refine a b)) = Unit {0}
+IsFit (Some (deadlock a)) = Unit {0}
 
 -- either of two
 choice : (b : Bool) (x y : Option Job) → IsFit x → IsFit y → IsFit (if b then x else y)
@@ -29,3 +34,52 @@ behind f (Some n) h = h n
 either : (b : Bool) (x y : Option ℕ) → IsInRange x → IsInRange y → IsInRange (if b then x else y)
 either true x y h k = h
 either false x y h k = k
+
+-- ---- numbers of stages
+
+limited : (n : ℕ) → IsInRange (in_range n)
+limited n = at (leb 1 n && leb n 48) refl
+  where
+    at : (b : Bool) → (leb 1 n && leb n 48) ≡ b → IsInRange (if b then Some n else None)
+    at true e = let p = and_parts (leb 1 n) (leb n 48) e in (leb-true 1 n p.0, leb-true n 48 p.1)
+    at false e = tt
+
+staged : (word : List ℕ) → IsInRange (stages_of word)
+staged [] = tt
+staged (ones ∷ []) = behind in_range (digit_of ones) limited
+staged (tens ∷ ones ∷ []) =
+    either (tens == 48) None (two_digits tens ones) tt
+    (behind (λ t. option_and_then (λ o. in_range (10 * t + o)) (digit_of ones)) (digit_of tens) (λ t. behind (λ o. in_range (10 * t + o)) (digit_of ones) (λ o. limited (10 * t + o))))
+staged (first ∷ second ∷ third ∷ rest) = tt
+
+-- ---- commands
+
+shaped : (o : Option Shape) (m : Option ℕ) → IsInRange m → IsFit (option_and_then (λ shape. option_map (stress shape) m) o)
+shaped None m h = tt
+shaped (Some shape) None h = tt
+shaped (Some shape) (Some n) h = h
+
+of_one : (command first : List ℕ) → IsFit (with_one command first)
+of_one command first =
+    choice (bytes_eq command (codes "normalise")) (Some (normalise first)) _ tt
+    (choice (bytes_eq command (codes "normal")) (Some (normal first)) _ tt
+    (choice (bytes_eq command (codes "deadlock")) (Some (deadlock first)) None tt tt))
+
+of_two : (command first second : List ℕ) → IsFit (with_two command first second)
+of_two command first second =
+    choice (bytes_eq command (codes "same")) (Some (same first second)) _ tt
+    (choice (bytes_eq command (codes "belongs")) (Some (belongs first second)) _ tt
+    (choice (bytes_eq command (codes "stress")) (stress_of first second) _ (shaped (shape_of first) (stages_of second) (staged second))
+    (choice (bytes_eq command (codes "refine")) (Some (refine first second)) None tt tt)))
+
+fit : (words : List (List ℕ)) → IsFit (job_of words)
+fit [] = tt
+fit (name ∷ []) = tt
+fit (name ∷ command ∷ []) = tt
+fit (name ∷ command ∷ first ∷ []) = choice (is_plain first) (with_one command first) None (of_one command first) tt
+fit (name ∷ command ∷ first ∷ second ∷ []) = choice (is_plain first && is_plain second) (with_two command first second) None (of_two command first second) tt
+fit (name ∷ command ∷ first ∷ second ∷ third ∷ rest) = tt
+
+-- where the words ask for a generated program, its number of stages is in range
+pub asked_in_range : (words : List (List ℕ)) (shape : Shape) (stages : ℕ) → Some (stress shape stages) ≡ job_of words → InRange stages
+asked_in_range words shape stages e = subst IsFit (sym e) (fit words)
