@@ -76,16 +76,6 @@ joined_where gs whole found rest b e test =
 
 -- ---- what stands behind a branch
 
--- the list's first branch isn't this one
-pub not_after : (x y : Guard × Proc) (xs hs : Branches) → ((exp x.0.condition ≡ exp y.0.condition) × (waiting x.0.wait ≡ waiting y.0.wait) × (tree x.1 ≡ tree y.1) → ⊥) → xs ≡ in_front x hs
-    → (ks : Branches) → xs ≡ in_front y ks → ⊥
-not_after x y xs hs wrong e ks f =
-    let u : in_front x hs ≡ in_front y ks = sym e ∙ f in
-    wrong (conditions_are _ _ _ _ _ _ _ _ u, guards_are _ _ _ _ _ _ _ _ u, processes_are _ _ _ _ _ _ _ _ u)
-
-pub nothing_after : (y : Guard × Proc) (xs : Branches) → xs ≡ no_branch → (ks : Branches) → xs ≡ in_front y ks → ⊥
-nothing_after y xs e ks f = cc
-
 -- one turn of taking the branches of a list off another one
 pub behind_step : (first all xs ys : Branches) (x : Guard × Proc) (ps qs : Branches) → xs ≡ in_front x ps → ys ≡ in_front x qs
     → ((r : Branches) → (ys ≡ all_branches xs r) ↔ (all ≡ all_branches first r)) → (r : Branches) → (qs ≡ all_branches ps r) ↔ (all ≡ all_branches first r)
@@ -106,19 +96,6 @@ behind_whole first all xs ys e same = (same ys).0 (ap (λ z. all_branches z ys) 
 -- the list's first branch has that guard
 pub skip_there : (b : Exp) (w : Waiting) (p : Tree) (xs gs : Branches) → xs ≡ and_branch b w p gs → b ≡ truth true → w ≡ ready → xs ≡ and_skip p gs
 skip_there b w p xs gs e f g = e ∙ branch_is f g refl refl
-
--- or it hasn't
-pub skip_not_there : (b : Exp) (w : Waiting) (p : Tree) (xs gs : Branches) → xs ≡ and_branch b w p gs → ((b ≡ truth true) × (w ≡ ready) → ⊥) → (q : Tree) (hs : Branches) → xs ≡ and_skip q hs → ⊥
-skip_not_there b w p xs gs e wrong q hs f =
-    let u : and_branch b w p gs ≡ and_skip q hs = sym e ∙ f in
-    wrong (conditions_are _ _ _ _ _ _ _ _ u, guards_are _ _ _ _ _ _ _ _ u)
-
-pub no_skip_in_none : (xs : Branches) → xs ≡ no_branch → (q : Tree) (hs : Branches) → xs ≡ and_skip q hs → ⊥
-no_skip_in_none xs e q hs f = cc
-
--- no process under that guard is an ALT
-pub skip_no_alt : (p : Tree) (xs gs : Branches) → xs ≡ and_skip p gs → ((hs : Branches) → p ≡ alt hs → ⊥) → (hs ks : Branches) → xs ≡ and_skip (alt hs) ks → ⊥
-skip_no_alt p xs gs e wrong hs ks f = wrong hs (processes_are _ _ _ _ _ _ _ _ (sym e ∙ f))
 
 -- a list in front of one branch
 pub branches-append : (l m : List (Guard × Proc)) → branches (l ++ m) ≡ all_branches (branches l) (branches m)

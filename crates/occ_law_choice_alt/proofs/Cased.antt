@@ -43,36 +43,6 @@ case_turn {P} b x xs ys zs gs hs ks e f g not_here so_far = ((λ h. so_far.0 (ca
       | inr m ↦ case_is b (rests_are _ _ _ _ _ _ _ _ (sym m.first ∙ e)) (rests_are _ _ _ _ _ _ _ _ (sym m.second ∙ f)) (rests_are _ _ _ _ _ _ _ _ (sym m.third ∙ g)) m.later
     ]
 
--- there is none where the second list doesn't begin with the first branch
-pub case_second : {P : Type 0} (b : Exp) (x : Guard × Proc) (xs ys zs gs : Branches) → xs ≡ in_front x gs → ((hs : Branches) → ys ≡ in_front x hs → ⊥)
-    → (CaseHere b xs ys zs → ⊥) → (CaseAt b xs ys zs ↔ P) → P → ⊥
-case_second b x xs ys zs gs e never not_here so_far r = elim (case_how (so_far.1 r)) [
-  | inl j ↦ not_here j
-  | inr m ↦
-      let u = sym m.first ∙ e in
-      never m.second_rest (m.second ∙ branch_is (conditions_are _ _ _ _ _ _ _ _ u) (guards_are _ _ _ _ _ _ _ _ u) (processes_are _ _ _ _ _ _ _ _ u) refl)
-]
-
--- nor where the third one doesn't
-pub case_third : {P : Type 0} (b : Exp) (x : Guard × Proc) (xs ys zs gs : Branches) → xs ≡ in_front x gs → ((ks : Branches) → zs ≡ in_front x ks → ⊥)
-    → (CaseHere b xs ys zs → ⊥) → (CaseAt b xs ys zs ↔ P) → P → ⊥
-case_third b x xs ys zs gs e never not_here so_far r = elim (case_how (so_far.1 r)) [
-  | inl j ↦ not_here j
-  | inr m ↦
-      let u = sym m.first ∙ e in
-      never m.third_rest (m.third ∙ branch_is (conditions_are _ _ _ _ _ _ _ _ u) (guards_are _ _ _ _ _ _ _ _ u) (processes_are _ _ _ _ _ _ _ _ u) refl)
-]
-
--- nor where the first list is empty
-pub case_ends : {P : Type 0} (b : Exp) (xs ys zs : Branches) → xs ≡ no_branch → (CaseHere b xs ys zs → ⊥) → (CaseAt b xs ys zs ↔ P) → P → ⊥
-case_ends b xs ys zs e not_here so_far r = elim (case_how (so_far.1 r)) [
-  | inl j ↦ not_here j
-  | inr m ↦ nothing xs m.condition m.guard m.process m.rest e m.first
-]
-  where
-    nothing : (xs : Branches) (b : Exp) (w : Waiting) (p : Tree) (gs : Branches) → xs ≡ no_branch → xs ≡ and_branch b w p gs → ⊥
-    nothing xs b w p gs e f = cc
-
 -- ---- the place is alt-case
 
 record CaseParts (b : Exp) (gs hs ks : Branches) : Type 0 where

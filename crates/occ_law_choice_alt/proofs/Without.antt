@@ -51,16 +51,6 @@ lacks_turn {P} b w p x xs ys gs hs e f so_far = ((λ h. so_far.0 (carried (Lacks
 pub here_lacked : (x : Guard × Proc) (xs ys gs : Branches) → xs ≡ in_front x gs → gs ≡ ys → LacksBranch x xs ys
 here_lacked x xs ys gs e f = first_lacked _ _ _ xs ys (e ∙ ap (in_front x) f)
 
--- or none is
-pub none_lacked : {P : Type 0} (b : Exp) (w : Waiting) (p : Tree) (x : Guard × Proc) (xs ys gs : Branches) → xs ≡ in_front x gs → ((hs : Branches) → ys ≡ in_front x hs → ⊥) → (gs ≡ ys → ⊥)
-    → (Lacks b w p xs ys ↔ P) → P → ⊥
-none_lacked b w p x xs ys gs e never wrong so_far r = elim (lacks_how (so_far.1 r)) [
-  | inl k ↦ wrong (rests_are _ _ _ _ _ _ _ _ (sym e ∙ k))
-  | inr m ↦
-      let u = sym m.first ∙ e in
-      never m.other (m.second ∙ branch_is (conditions_are _ _ _ _ _ _ _ _ u) (guards_are _ _ _ _ _ _ _ _ u) (processes_are _ _ _ _ _ _ _ _ u) refl)
-]
-
 -- the empty list has none
 pub none_of_none : {P : Type 0} (b : Exp) (w : Waiting) (p : Tree) (xs ys : Branches) → xs ≡ no_branch → (Lacks b w p xs ys ↔ P) → P → ⊥
 none_of_none b w p xs ys e so_far r = elim (lacks_how (so_far.1 r)) [

@@ -17,19 +17,6 @@ rest_step step before after all found once e f so_far r = (
   (λ k. once found (after r) (sym f ∙ (so_far r).1 k ∙ e r)),
 )
 
--- none of it stands there where the piece doesn't
-pub rest_never : {P : Branches → Type 0} (step before after : Branches → Branches) (all : Branches) → ((r : Branches) → before r ≡ step (after r))
-    → ((r : Branches) → all ≡ step r → ⊥) → ((r : Branches) → (all ≡ before r) ↔ P r) → (r : Branches) → P r → ⊥
-rest_never step before after all e never so_far r k = never (after r) ((so_far r).1 k ∙ e r)
-
--- where nothing is left to be put in front, the rest is what stands there
-pub rest_whole : {P : Branches → Type 0} (before : Branches → Branches) (all : Branches) → ((r : Branches) → before r ≡ r) → ((r : Branches) → (all ≡ before r) ↔ P r) → P all
-rest_whole before all e so_far = (so_far all).0 (sym (e all))
-
--- the empty list is no branch and others
-pub no_branch_there : (b : Exp) (w : Waiting) (p : Tree) (all : Branches) → all ≡ no_branch → (r : Branches) → all ≡ and_branch b w p r → ⊥
-no_branch_there b w p all e r k = cc
-
 -- what stands behind a branch is one list
 pub branch_once : (b : Exp) (w : Waiting) (p : Tree) (r s : Branches) → and_branch b w p r ≡ and_branch b w p s → r ≡ s
 branch_once b w p r s e = cc

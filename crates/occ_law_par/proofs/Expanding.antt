@@ -9,15 +9,6 @@ use Rattle.occ_law_par.specs.declared.running.Beside.TheVariants.{Behind, Before
 use Rattle.occ_law_par.specs.Expand.{each_beside, run_beside}
 use Rattle.occ_law_par.proofs.Cursor.{branches_once}
 
--- the first of the branches with what runs beside them
-pub beside_first : (s : Beside) (b : Exp) (w : Waiting) (p : Tree) (gs : Branches) → each_beside s (and_branch b w p gs) ≡ and_branch b w (run_beside s p) (each_beside s gs)
-beside_first (Behind m) b w p gs = refl
-beside_first (Before l) b w p gs = refl
-
-pub beside_none : (s : Beside) → each_beside s no_branch ≡ no_branch
-beside_none (Behind m) = refl
-beside_none (Before l) = refl
-
 -- the two ALTs of the left side, and what they make of the right side
 pub record Expansion (f s r : Tree) : Type 0 where
   pub firsts : Branches
@@ -32,13 +23,6 @@ expansion f s r place (par_expand ls ms) = record { firsts = ls; seconds = ms; f
 -- a left side of two parts has two ALTs
 pub expands : (l f s r : Tree) → l ≡ par (two f s) → (place : List ℕ) × ParExpand place l r → Expansion f s r
 expands l f s r e k = expansion f s r k.0 (subst (λ z. ParExpand k.0 z r) e k.1)
-
--- the left side has two parts
-pub not_two : (l r : Tree) → ((p q : Tree) → l ≡ par (two p q) → ⊥) → (place : List ℕ) × ParExpand place l r → ⊥
-not_two l r never k = two_there l r never k.0 k.1
-  where
-    two_there : (l r : Tree) → ((p q : Tree) → l ≡ par (two p q) → ⊥) → (place : List ℕ) → ParExpand place l r → ⊥
-    two_there l r never place (par_expand ls ms) = never (alt ls) (alt ms) refl
 
 -- the branches of the right side, by those of the two ALTs
 pub all_there : (f s r : Tree) (fs ss os : Branches) → f ≡ alt fs → s ≡ alt ss → r ≡ alt os → Expansion f s r
@@ -69,11 +53,6 @@ expand_law l r f s fs ss os further last b e g h k first second test = (
     right t = k ∙ ap alt (first ∙ ap (all_branches (first_goes fs s)) (second ∙ ap (all_branches (second_goes f ss)) (test.0 t))
         ∙ ap (λ z. all_branches (first_goes fs z) (all_branches (second_goes f ss) (meetings fs ss))) h
         ∙ ap (λ z. all_branches (first_goes fs (alt ss)) (all_branches (second_goes z ss) (meetings fs ss))) g)
-
--- no first stretch, and no second one, where the right side doesn't have it
-pub first_missing : (l r f s : Tree) (fs ss os : Branches) → l ≡ par (two f s) → f ≡ alt fs → s ≡ alt ss → r ≡ alt os
-    → ((rest : Branches) → os ≡ all_branches (first_goes fs s) rest → ⊥) → (place : List ℕ) × ParExpand place l r → ⊥
-first_missing l r f s fs ss os e g h k never m = never (all_branches (second_goes f ss) (meetings fs ss)) (all_there f s r fs ss os g h k (expands l f s r e m))
 
 pub second_missing : (l r f s : Tree) (fs ss os further : Branches) → l ≡ par (two f s) → f ≡ alt fs → s ≡ alt ss → r ≡ alt os → os ≡ all_branches (first_goes fs s) further
     → ((rest : Branches) → further ≡ all_branches (second_goes f ss) rest → ⊥) → (place : List ℕ) × ParExpand place l r → ⊥

@@ -17,7 +17,3 @@ at_sides D l m r s e f law = (
   (λ a. let k = law.0 a in (k.0, subst (λ z. D k.0 z s) e (subst (λ z. D k.0 l z) f k.1))),
   (λ k. law.1 (k.0, subst (λ z. D k.0 z r) (sym e) (subst (λ z. D k.0 m z) (sym f) k.1))),
 )
-
--- a law that doesn't hold between two trees doesn't hold between equal ones
-pub never_at : (D : List ℕ → Tree → Tree → Type 0) (l m r : Tree) → l ≡ m → ((place : List ℕ) × D place l r → ⊥) → (place : List ℕ) × D place m r → ⊥
-never_at D l m r e never k = never (k.0, subst (λ z. D k.0 z r) (sym e) k.1)

@@ -56,12 +56,6 @@ agree_through a b c h k =
     let u = agreed a c k in
     ap (λ o. agree o c) (t.2 ∙ sym t.1) ∙ k
 
--- the values of two outputs on one channel
-pub outputs_agree : (Γ : Environment) (c : ℕ) (e f : Exp) → output_kept Γ c e ≡ true → output_kept Γ c f ≡ true → agree (type_of Γ e) (type_of Γ f) ≡ true
-outputs_agree Γ c e f h k =
-    agree_through (channel_width Γ c) (type_of Γ e) (type_of Γ f) (and_parts (allows (Γ c) Output) (agree (channel_width Γ c) (type_of Γ e)) h).1
-    (and_parts (allows (Γ c) Output) (agree (channel_width Γ c) (type_of Γ f)) k).1
-
 -- the right sides of two assignments to the same variables
 pub pairs_agree : (Γ : Environment) (xs : List ℕ) (es fs : List Exp) → pairs_kept Γ xs es ≡ true → pairs_kept Γ xs fs ≡ true → agree_each Γ es fs ≡ true
 pairs_agree Γ xs [] fs h k = refl

@@ -14,8 +14,3 @@ push_known : (n : ℕ) (nodes : List Node) (node : Node) (number : ℕ) (form : 
     → AreKnownLines n (forest nodes) → IsKnownLine n (shape form) → AreKnownLines n (forest below) → AreKnownLines n (forest (nodes ++ node ∷ []))
 push_known n [] node number form below line ks k b = subst (AreKnownLines n) (sym (line no_line)) (k, b, tt)
 push_known n (x ∷ nodes) node number form below line ks k b = graft_known n x (forest nodes) (forest (nodes ++ node ∷ [])) (λ h. push_known n nodes node number form below line h k b) ks
-
--- one line more
-pub known_push : (n : ℕ) (nodes more : List Node) (node : Node) (number : ℕ) (form : Form) (below : List Node) → IsLine node number form below → more ≡ nodes ++ node ∷ []
-    → AreKnownLines n (forest nodes) → IsKnownLine n (shape form) → AreKnownLines n (forest below) → AreKnownLines n (forest more)
-known_push n nodes more node number form below line e ks k b = subst (λ l. AreKnownLines n (forest l)) (sym e) (push_known n nodes node number form below line ks k b)

@@ -11,20 +11,11 @@ use Rattle.occ_accept.specs.Accept.{in_set}
 use Rattle.occ_views.specs.Views.{Values, Behaviours, after, HasTrace, Offers, Accepts, Stands, IsWithin, AreAlike}
 use Rattle.occ_views.specs.Excess.{EndsWithin, AcceptsWithin, OffersWithin, IsLeastEnd, StandsFirst, IsLeastSet, IsRefusal, IsLeastOffer, Stops, GoesAlone, GoesOn, IsFirstExcess}
 
-pub alike_refl : (a : Behaviours) → AreAlike a a
-alike_refl a = record { fails = λ t X. (λ h. h, λ h. h); ends = λ t s. (λ h. h, λ h. h) }
-
 pub turned : (a b : Behaviours) → AreAlike a b → AreAlike b a
 turned a b h = record { fails = λ t X. ((h.fails t X).1, (h.fails t X).0); ends = λ t s. ((h.ends t s).1, (h.ends t s).0) }
 
 pub alike_after : (a c : Behaviours) (e : Event) → AreAlike a c → AreAlike (after a e) (after c e)
 alike_after a c e h = record { fails = λ t X. h.fails (e ∷ t) X; ends = λ t s. h.ends (e ∷ t) s }
-
-pub alike_trans : (a b c : Behaviours) → AreAlike a b → AreAlike b c → AreAlike a c
-alike_trans a b c h k = record {
-  fails = λ t X. (λ p. (k.fails t X).0 ((h.fails t X).0 p), λ p. (h.fails t X).1 ((k.fails t X).1 p));
-  ends = λ t s. (λ p. (k.ends t s).0 ((h.ends t s).0 p), λ p. (h.ends t s).1 ((k.ends t s).1 p));
-}
 
 pub stands_alike : (a c : Behaviours) → AreAlike a c → (t : Trace) (last : Last) → Stands a t last → Stands c t last
 stands_alike a c h t (Refuses events) k = (h.fails t (among events)).0 k
