@@ -230,9 +230,6 @@ module _ (w : World) (n all keep : ℕ) (r : MapId) (has : HasNodes w r) (is : I
         a.1 ∙ ap (λ (m : NodeId). Some m) (one_node x y a.0 b.0 agree h l a.1 b.1) ∙ sym b.1;
   }
 
--- ---- the bits that matter to a part alone
-module _ (w : World) (vars : List (Name × Kind)) (layout : List (Name × Width × ℕ)) (n : ℕ) (frame : IsFrame vars layout n) (all keep : ℕ) (inside : all < 2 ^ n) (closed : List Name) (Γ : Environment) (p : Tree) (r : MapId)
-    (is : IsPart w layout all keep closed Γ p r) (has : HasNodes w r) where
 -- ---- made of SKIP, whose bits that have values are turned
 module _ (w : World) (all keep : ℕ) (ended r : MapId) (skip : IsSkip w all ended) (turned : IsChanged w (λ x. bit_and x (except all keep)) ended r) where
   abbrev flipped : ℕ → ℕ
