@@ -1,4 +1,4 @@
-ghost use Rattle.std.specs.Prelude.{◌≡◌, ◌↔◌, ◌<◌, ◌≤◌, IfOk, IsTrue, true};
+ghost use Rattle.std.specs.Prelude.{◌≡◌, ◌↔◌, ◌≤◌, IfOk, IsTrue, true};
 ghost use Rattle.occ_syntax.specs.Scopes.{environment};
 ghost use Rattle.occ_syntax.specs.Types.{scope_kept};
 ghost use Rattle.occ_syntax.specs.Usage.{Keeps};
@@ -14,9 +14,9 @@ use std::alloc::Global;
 /// The number of the first law of ALT.
 const FIRST_OF_ALT: u8 = 26;
 
-/// Whether two parts are the two sides of a law of IF or of ALT in a scope: of any but if-under, which isn't decided yet. Both
-/// parts keep names, types, directions and usage in the scope. Where a law asks about states, the answer is false over 24
-/// bits. The error is out of memory.
+/// Whether two parts are the two sides of a law of IF or of ALT in a scope, from if-none to alt-least. Both parts keep names,
+/// types, directions and usage in the scope. Where a law asks about states, the answer is false over 24 bits. The error is out
+/// of memory.
 pub fn holds(
     alloc: Global,
     store: &mut Store,
@@ -26,7 +26,6 @@ pub fn holds(
     right: &Proc,
 ) -> Result<bool, Memory>
     requires first { 16 ≤ law.0 }
-    requires decided { 24 < law.0 → 25 < law.0 }
     requires last { law.0 ≤ 36 }
     requires scope { scope_kept scope.now ≡ true }
     requires left { Keeps (environment scope.now) (tree left.now) }

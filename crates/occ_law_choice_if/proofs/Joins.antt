@@ -4,7 +4,7 @@ use Rattle.occ_base.specs.declared.names.Name.{Name}
 use Rattle.occ_syntax.specs.declared.expr.Op.TheVariants.{And, Or}
 use Rattle.occ_syntax.specs.declared.scope.Kind.{Kind}
 use Rattle.occ_syntax.specs.Scopes.{Environment, environment}
-use Rattle.occ_syntax.specs.Types.{cases_kept, is_condition}
+use Rattle.occ_syntax.specs.Types.{cases_kept, is_condition, types_kept}
 use Rattle.occ_syntax.specs.Tree.{Exp, operation, Tree, stop, select, Cases, no_case, and_case}
 use Rattle.occ_law_rules.specs.Choice.{IfFalse, if_false, IfMerge, if_merge, IfNest, if_nest, IfSwap, if_swap, each_case_under}
 use Rattle.occ_law_rules.specs.Lists.{all_cases, count}
@@ -161,10 +161,8 @@ under_whole d first all xs ys e same = (same ys).0 (ap (λ z. all_cases (each_ca
 
 -- a choice and those behind it keep types
 pub first_kept : (Γ : Environment) (front xs : Cases) (b : Exp) (p : Tree) (ds : Cases) → cases_kept (all_cases front xs) Γ ≡ true → xs ≡ and_case b p ds
-    → (is_condition Γ b ≡ true) × (cases_kept ds Γ ≡ true)
-first_kept Γ front xs b p ds h e =
-    let k = case_kept Γ b p ds (sym (ap (λ z. cases_kept z Γ) e) ∙ (all_cases_kept Γ front xs h).1) in
-    (k.0, k.2)
+    → (is_condition Γ b ≡ true) × (types_kept p Γ ≡ true) × (cases_kept ds Γ ≡ true)
+first_kept Γ front xs b p ds h e = case_kept Γ b p ds (sym (ap (λ z. cases_kept z Γ) e) ∙ (all_cases_kept Γ front xs h).1)
 
 -- behind the choices of an IF, its condition with STOP, and a list
 pub nested_is : (us zs rest : Cases) (d b : Exp) (p : Tree) (ds es : Cases) (a : Bool) → us ≡ all_cases zs rest → rest ≡ and_case b p es → b ≡ d → stop ≡ p → (IsTrue a ↔ (ds ≡ es))

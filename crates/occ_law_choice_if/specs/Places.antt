@@ -1,13 +1,14 @@
 -- Two lists of choices that are equal up to a place, and what if-false, if-nest, if-swap, if-merge and if-under change there.
-use Rattle.std.specs.Prelude.{ℕ, List, [], ◌∷◌}
+use Rattle.std.specs.Prelude.{List, [], ◌∷◌}
 use Rattle.occ_base.specs.declared.names.Name.{Name}
 use Rattle.occ_syntax.specs.declared.expr.Op.TheVariants.{Or}
 use Rattle.occ_syntax.specs.declared.scope.Kind.{Kind}
 use Rattle.occ_syntax.specs.Scopes.{environment}
-use Rattle.occ_syntax.specs.Tree.{Exp, operation, Tree, assign, seq, stop, select, alt, Trees, and_tree, Cases, no_case, and_case, Branches}
+use Rattle.occ_syntax.specs.Tree.{Exp, operation, Tree, stop, select, Cases, no_case, and_case}
 use Rattle.occ_law_rules.specs.Choice.{each_case_under}
 use Rattle.occ_law_rules.specs.Lists.{all_cases, conditions}
-use Rattle.occ_law_rules.specs.States.{AreFew, BranchesEqual, EachEqual, ExcludeEachOther, IsEqualWhere, IsNever}
+use Rattle.occ_law_rules.specs.States.{AreFew, ExcludeEachOther, IsEqualWhere, IsNever}
+use Rattle.occ_law_choice_if.specs.Processes.{ProcessesEqual}
 
 -- behind choices that are the same in both: here, or further on
 pub data Somewhere (J : Cases → Cases → Cases → Type 0) : Cases → Cases → Cases → Type 0 where
@@ -31,16 +32,9 @@ pub data SwapHere (S : List (Name × Kind)) : Cases → Cases → Cases → Type
 pub data MergeHere : Cases → Cases → Cases → Type 0 where
   merge_here : {front : Cases} (b c : Exp) (p : Tree) (ds : Cases) → MergeHere front (and_case b p (and_case c p ds)) (and_case (operation Or b c) p ds)
 
--- two processes that differ in expressions alone, which are equal where b is true and all of bs are false
-pub data IsUnder (S : List (Name × Kind)) (b : Exp) (bs : List Exp) : Tree → Tree → Type 0 where
-  assignments : (xs : List ℕ) (es fs : List Exp) → EachEqual (IsEqualWhere S b bs) es fs → IsUnder S b bs (assign xs es) (assign xs fs)
-  sequences : (xs : List ℕ) (es fs : List Exp) (ps : Trees) → EachEqual (IsEqualWhere S b bs) es fs
-      → IsUnder S b bs (seq (and_tree (assign xs es) ps)) (seq (and_tree (assign xs fs) ps))
-  alternatives : (gs hs : Branches) → BranchesEqual (IsEqualWhere S b bs) gs hs → IsUnder S b bs (alt gs) (alt hs)
-
 -- the process of a choice changes
 pub data UnderHere (S : List (Name × Kind)) : Cases → Cases → Cases → Type 0 where
-  under_here : {front : Cases} (b : Exp) (p q : Tree) (ds : Cases) → IsUnder S b (conditions front) p q → UnderHere S front (and_case b p ds) (and_case b q ds)
+  under_here : {front : Cases} (b : Exp) (p q : Tree) (ds : Cases) → ProcessesEqual (IsEqualWhere S b (conditions front)) p q → UnderHere S front (and_case b p ds) (and_case b q ds)
 
 -- where nothing is left, there is no such place
 

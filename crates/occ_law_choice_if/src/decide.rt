@@ -7,15 +7,15 @@ ghost use Rattle.occ_law_rules.specs.Table.{LAW};
 
 use crate::placed::{if_false, if_merge, if_nest, if_swap};
 use crate::simple::{if_copy, if_cut, if_else_stop, if_none, if_true};
+use crate::under::if_under;
 use occ_base::Memory;
 use occ_dd::Store;
 use occ_law::LawId;
 use occ_syntax::{Proc, Scope};
 use std::alloc::Global;
 
-/// Whether two parts are the two sides of a law in a scope. So far the law is one of if-none, if-false, if-true, if-else-stop,
-/// if-cut, if-nest, if-swap, if-merge and if-copy. Both parts keep names, types, directions and usage in the scope. Where a law
-/// asks about states, the answer is false over 24 bits.
+/// Whether two parts are the two sides of a law of IF in a scope, from if-none to if-under. Both parts keep names, types,
+/// directions and usage in the scope. Where a law asks about states, the answer is false over 24 bits.
 pub fn holds(
     alloc: Global,
     store: &mut Store,
@@ -25,7 +25,7 @@ pub fn holds(
     right: &Proc,
 ) -> Result<bool, Memory>
     requires first { 16 ≤ law.0 }
-    requires last { law.0 ≤ 24 }
+    requires last { law.0 ≤ 25 }
     requires scope { scope_kept scope.now ≡ true }
     requires left { Keeps (environment scope.now) (tree left.now) }
     requires right { Keeps (environment scope.now) (tree right.now) }
@@ -40,6 +40,7 @@ pub fn holds(
         21 => if_nest(alloc, store, left, right),
         22 => if_swap(alloc, store, scope, left, right),
         23 => if_merge(alloc, store, left, right),
-        _ => if_copy(alloc, store, scope, left, right),
+        24 => if_copy(alloc, store, scope, left, right),
+        _ => if_under(alloc, store, scope, left, right),
     }
 }

@@ -6,5 +6,6 @@ mod decide;
 mod placed;
 mod places;
 mod simple;
+mod under;
 
 pub use decide::holds;

@@ -43,7 +43,12 @@ returns-in-23 c =
     let number : c.args.law.0 ≡ 23 = omega arith in
     in_table c.args.law.0 23 c.args.scope.now (tree c.args.left.now) (tree c.args.right.now) number c.requires.left c.requires.right c.if_merge.result c.if_merge.ensures
 
-pub returns-in_default : goal.returns-in_default
-returns-in_default c =
+pub returns-in-24 : goal.returns-in-24
+returns-in-24 c =
     let number : c.args.law.0 ≡ 24 = omega arith in
     in_table c.args.law.0 24 c.args.scope.now (tree c.args.left.now) (tree c.args.right.now) number c.requires.left c.requires.right c.if_copy.result c.if_copy.ensures
+
+pub returns-in_default : goal.returns-in_default
+returns-in_default c =
+    let number : c.args.law.0 ≡ 25 = omega arith in
+    in_table c.args.law.0 25 c.args.scope.now (tree c.args.left.now) (tree c.args.right.now) number c.requires.left c.requires.right c.if_under.result c.if_under.ensures

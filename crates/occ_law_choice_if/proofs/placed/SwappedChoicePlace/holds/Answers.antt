@@ -15,7 +15,7 @@ exclude_each_other-requires-clause-second c =
     let kept = first_kept (environment c.args.self.now.scope.now) (cases c.args.here.now.before.now) (cases c.args.here.now.rest.now) (exp c.in-Some.first.condition.now)
     (tree c.in-Some.first.process.now) (cases c.in-Some.first.behind.now) c.requires.1 c.in-Some.ensures in
     (first_kept (environment c.args.self.now.scope.now) no_case (cases c.in-Some.first.behind.now) (exp c.in-Some-divided.second.condition.now)
-    (tree c.in-Some-divided.second.process.now) (cases c.in-Some-divided.second.behind.now) kept.1 c.in-Some-divided.ensures).0
+    (tree c.in-Some-divided.second.process.now) (cases c.in-Some-divided.second.behind.now) kept.2 c.in-Some-divided.ensures).0
 
 pub returns : goal.returns
 returns c =
