@@ -1,8 +1,8 @@
 ghost use Rattle.std.specs.Prelude.{◌≡◌, true};
 ghost use Rattle.occ_accept.specs.Order.{event_cmp, strict};
 
-use crate::tests::events::{A, A_IN_0, A_IN_1, B};
-use occ_accept::{AcceptSet, Antichain, cross, join, least, without};
+use crate::tests::events::{A, B};
+use occ_accept::{AcceptSet, Antichain, join, least, without};
 use occ_base::{Event, Memory, Name};
 use std::alloc::Global;
 
@@ -30,19 +30,6 @@ fn the_least_of_three_sets(rt: HostRuntime) -> Result<(), Memory> {
     assert_eq!(rt; least.items()[0].items(), [A].as_slice());
     assert_eq!(rt; least.items()[1].items(), [B].as_slice());
     assert!(rt; least.copy(alloc)? == least);
-    Ok(())
-}
-
-#[test]
-fn the_sets_of_two_antichains(rt: HostRuntime) -> Result<(), Memory> {
-    let alloc = rt.alloc();
-    let a = single(alloc, &[A])?;
-    let both = single(alloc, &[A, B])?;
-    assert!(rt; join(alloc, &a, &both)? == a);
-    let inputs = single(alloc, &[A_IN_0, A_IN_1])?;
-    assert!(rt; cross(alloc, &a, &inputs)?.items().is_empty());
-    let b = single(alloc, &[B])?;
-    assert!(rt; cross(alloc, &a, &b)? == both);
     Ok(())
 }
 

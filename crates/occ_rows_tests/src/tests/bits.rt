@@ -3,7 +3,7 @@ ghost use Rattle.occ_syntax.specs.Tree.{operation};
 ghost use Rattle.occ_syntax.specs.View.{exp};
 
 use occ_base::{Memory, Name, Width};
-use occ_bits::{Layout, condition, equal_under, named_bits, word};
+use occ_bits::{Layout, condition, equal_under, named_bits};
 use occ_dd::Store;
 use occ_syntax::{Expr, Kind, Op, Scope};
 use std::alloc::Global;
@@ -67,23 +67,6 @@ fn a_condition_on_two_words(rt: HostRuntime) -> Result<(), Memory> {
 }
 
 #[test]
-fn the_digits_of_a_difference(rt: HostRuntime) -> Result<(), Memory> {
-    let alloc = rt.alloc();
-    let scope = x_and_y(alloc, Width::Word(2))?;
-    let layout = Layout::of(alloc, &scope)?;
-    let mut store = Store::new(alloc)?;
-    let minus = two(alloc, Op::Minus, Expr::Var(X), Expr::Var(Y))?;
-    let digits = word(alloc, &mut store, &layout, &minus)?;
-    assert_eq!(rt; digits.bits().len(), 2);
-    // 1 MINUS 2 is 3, and 2 MINUS 0 is 2
-    for (bits, low, high) in [(0b1001, true, true), (0b0010, false, true)] {
-        assert_eq!(rt; store.has(digits.bits()[0], bits), low);
-        assert_eq!(rt; store.has(digits.bits()[1], bits), high);
-    }
-    Ok(())
-}
-
-#[test]
 fn a_sum_under_a_condition(rt: HostRuntime) -> Result<(), Memory> {
     let alloc = rt.alloc();
     let mut scope = Scope::new(alloc);
@@ -105,20 +88,5 @@ fn a_sum_under_a_condition(rt: HostRuntime) -> Result<(), Memory> {
     assert!(rt; equal_under(alloc, &mut store, &scope, &[zero], &sum, &one)?);
     assert!(rt; !equal_under(alloc, &mut store, &scope, &[], &sum, &one)?);
     assert_eq!(rt; named_bits(&scope, &[sum, one]), 2);
-    Ok(())
-}
-
-// Three words of 8 bits are the 24 bits that a comparison may name.
-#[test]
-fn a_sum_of_three_words_in_another_order(rt: HostRuntime) -> Result<(), Memory> {
-    let alloc = rt.alloc();
-    let mut scope = x_and_y(alloc, Width::Word(8))?;
-    scope.push((Name(2), Kind::Var(Width::Word(8))))?;
-    let x_y = two(alloc, Op::Plus, Expr::Var(X), Expr::Var(Y))?;
-    let sum = two(alloc, Op::Plus, x_y, Expr::Var(Name(2)))?;
-    let y_x = two(alloc, Op::Plus, Expr::Var(Y), Expr::Var(X))?;
-    let turned = two(alloc, Op::Plus, Expr::Var(Name(2)), y_x)?;
-    let mut store = Store::new(alloc)?;
-    assert!(rt; equal_under(alloc, &mut store, &scope, &[], &sum, &turned)?);
     Ok(())
 }

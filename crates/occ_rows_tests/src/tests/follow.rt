@@ -2,7 +2,7 @@ ghost use Rattle.std.specs.Prelude.{IfOk};
 ghost use Rattle.occ_node.specs.World.{Grows, IsNode, Leads};
 ghost use Rattle.occ_follow.specs.Sequence.{HasNodes};
 
-use crate::tests::events::{A, B};
+use crate::tests::events::A;
 use occ_accept::least;
 use occ_base::Memory;
 use occ_choice::{alt, prefix_out};
@@ -38,17 +38,6 @@ fn either_way(world: &mut World, high: NodeId, low: NodeId) -> Result<MapId, Mem
     world.maps.ite(&mut world.store, set, one, zero)
 }
 
-// A node that ends, with two nodes that go on.
-fn ended_then(alloc: Global, world: &mut World, high: NodeId, low: NodeId) -> Result<NodeId, Memory>
-    requires high { IsNode world.old high }
-    requires low { IsNode world.old low }
-    ensures { IfOk result (IsNode world.new) }
-{
-    let node = ended(alloc, world)?;
-    let map = either_way(world, high, low)?;
-    follow(alloc, world, node, map)
-}
-
 // A node that ends after an output, with a node that goes on.
 fn output_then(alloc: Global, world: &mut World, next: NodeId) -> Result<NodeId, Memory>
     requires { IsNode world.old next }
@@ -58,20 +47,6 @@ fn output_then(alloc: Global, world: &mut World, next: NodeId) -> Result<NodeId,
     let node = prefix_out(alloc, world, A, end)?;
     let map = either_way(world, next, next)?;
     follow(alloc, world, node, map)
-}
-
-#[test]
-fn it_goes_on_from_every_end(rt: HostRuntime) -> Result<(), Memory> {
-    let alloc = rt.alloc();
-    let mut world = World::new(alloc)?;
-    let stop = alt(alloc, &mut world, &[])?;
-    let first = prefix_out(alloc, &mut world, A, stop)?;
-    let second = prefix_out(alloc, &mut world, B, stop)?;
-    let both = ended_then(alloc, &mut world, first, second)?;
-    assert_eq!(rt; world.child(both, A), Some(stop));
-    assert_eq!(rt; world.child(both, B), Some(stop));
-    assert!(rt; !world.has_end(both, 0));
-    Ok(())
 }
 
 #[test]

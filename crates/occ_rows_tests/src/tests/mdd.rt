@@ -45,32 +45,6 @@ fn a_bit_chooses(rt: HostRuntime) -> Result<(), Memory> {
     Ok(())
 }
 
-#[test]
-fn a_flip_turns_the_bit(rt: HostRuntime) -> Result<(), Memory> {
-    let mut store = Store::new(rt.alloc())?;
-    let mut maps = Maps::new(rt.alloc());
-    let bit = store.bit(0)?;
-    let label = maps.constant(Some(true))?;
-    let none = maps.constant(None)?;
-    let map = maps.ite(&mut store, bit, label, none)?;
-    let turned = maps.flip(map, 0)?;
-    assert_eq!(rt; maps.get(turned, 1), None);
-    assert_eq!(rt; maps.get(turned, 0), Some(true));
-    Ok(())
-}
-
-#[test]
-fn the_first_of_a_map_and_itself(rt: HostRuntime) -> Result<(), Memory> {
-    let mut store = Store::new(rt.alloc())?;
-    let mut maps = Maps::new(rt.alloc());
-    let bit = store.bit(0)?;
-    let label = maps.constant(Some(true))?;
-    let none = maps.constant(None)?;
-    let map = maps.ite(&mut store, bit, label, none)?;
-    assert_eq!(rt; maps.apply2(map, map, &mut First)?, map);
-    Ok(())
-}
-
 // The assignments with an odd number of ones among 40 bits, of which a table would have 2^40 rows.
 fn odd_of_forty(store: &mut Store) -> Result<SetId, Memory>
     ensures { IfOk result (IsKnown store.new) }
@@ -96,20 +70,5 @@ fn a_set_of_forty_bits_chooses(rt: HostRuntime) -> Result<(), Memory> {
     let map = maps.ite(&mut store, odd, label, none)?;
     assert_eq!(rt; maps.get(map, 7), Some(true));
     assert_eq!(rt; maps.get(map, 0), None);
-    Ok(())
-}
-
-#[test]
-fn one_label_on_a_bit(rt: HostRuntime) -> Result<(), Memory> {
-    let mut store = Store::new(rt.alloc())?;
-    let mut maps = Maps::new(rt.alloc());
-    let bit = store.bit(0)?;
-    let label = maps.constant(Some(true))?;
-    let none = maps.constant(None)?;
-    let map = maps.ite(&mut store, bit, label, none)?;
-    assert_eq!(rt;
-        maps.leaves_under(&mut store, map, bit)?.as_slice(),
-        [true].as_slice()
-    );
     Ok(())
 }

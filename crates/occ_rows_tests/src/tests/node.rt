@@ -37,18 +37,6 @@ fn before(alloc: Global, world: &mut World, next: NodeId) -> Result<NodeId, Memo
 }
 
 #[test]
-fn a_row_has_one_node(rt: HostRuntime) -> Result<(), Memory> {
-    let alloc = rt.alloc();
-    let mut world = World::new(alloc)?;
-    let end = stop(alloc, &mut world)?;
-    assert_eq!(rt; stop(alloc, &mut world)?, end);
-    assert_eq!(rt; world.nodes(), 1);
-    assert!(rt; world.refuses(end, &[A]));
-    assert_eq!(rt; world.child(end, A), None);
-    Ok(())
-}
-
-#[test]
 fn an_offer_leads_to_its_node(rt: HostRuntime) -> Result<(), Memory> {
     let alloc = rt.alloc();
     let mut world = World::new(alloc)?;

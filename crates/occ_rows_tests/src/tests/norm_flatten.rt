@@ -28,11 +28,3 @@ fn a_par_within_a_channel_in_a_par_is_one(rt: HostRuntime) -> Result<(), Memory>
     }
     Ok(())
 }
-
-#[test]
-fn a_flat_par_has_no_other_form(rt: HostRuntime) -> Result<(), Memory> {
-    let alloc = rt.alloc();
-    let flat = Proc::Par(beside(alloc, Proc::Skip, Proc::Stop)?);
-    assert!(rt; flattened(alloc, &flat)?.is_none());
-    Ok(())
-}

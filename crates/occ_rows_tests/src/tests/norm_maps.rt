@@ -1,7 +1,6 @@
-use crate::tests::events::A;
 use occ_base::Memory;
 use occ_node::World;
-use occ_norm_maps::{cofactor, merged, prefixed, shifted, skip, stop};
+use occ_norm_maps::{merged, shifted, skip, stop};
 
 #[test]
 fn a_shift_and_back(rt: HostRuntime) -> Result<(), Memory> {
@@ -12,17 +11,6 @@ fn a_shift_and_back(rt: HostRuntime) -> Result<(), Memory> {
     let back = shifted(alloc, &mut world, there, 2)?;
     assert!(rt; there != ended);
     assert_eq!(rt; back, ended);
-    Ok(())
-}
-
-#[test]
-fn the_sides_of_a_bit(rt: HostRuntime) -> Result<(), Memory> {
-    let alloc = rt.alloc();
-    let mut world = World::new(alloc)?;
-    let stopped = stop(alloc, &mut world)?;
-    let before = prefixed(alloc, &mut world, stopped, A)?;
-    let one = cofactor(&mut world, before, 0, true)?;
-    assert_eq!(rt; one, before);
     Ok(())
 }
 

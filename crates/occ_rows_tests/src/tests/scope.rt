@@ -8,9 +8,7 @@ use occ_base::{Memory, Name};
 use occ_choice::{alt, prefix_out};
 use occ_dd::{SetId, Store};
 use occ_node::{NodeId, Offers, Row, World};
-use occ_scope::{
-    Forgets, Restricts, Shifts, forget_with, restrict, restrict_with, shift, shift_with,
-};
+use occ_scope::{Forgets, Shifts, forget_with, restrict, shift_with};
 use std::alloc::Global;
 
 // The set of the assignment in which all bits are 0.
@@ -93,19 +91,5 @@ fn what_waits_for_the_channel_stops(rt: HostRuntime) -> Result<(), Memory> {
     assert_eq!(rt; world.child(hidden, A), None);
     assert!(rt; world.refuses(hidden, &[A, A.counterpart()]));
     assert_eq!(rt; hidden, stop);
-    Ok(())
-}
-
-#[test]
-fn no_bits_and_no_events_change_nothing(rt: HostRuntime) -> Result<(), Memory> {
-    let alloc = rt.alloc();
-    let mut world = World::new(alloc)?;
-    let stop = alt(alloc, &mut world, &[])?;
-    let mut restricts = Restricts::new(alloc, Name(0));
-    assert_eq!(rt;
-        restrict_with(alloc, &mut world, &mut restricts, stop)?,
-        stop
-    );
-    assert_eq!(rt; shift(alloc, &mut world, stop, 0)?, stop);
     Ok(())
 }

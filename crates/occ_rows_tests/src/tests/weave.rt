@@ -18,20 +18,6 @@ fn a_communication_passes_unseen(rt: HostRuntime) -> Result<(), Memory> {
 }
 
 #[test]
-fn a_lone_output_on_a_closed_channel_stops(rt: HostRuntime) -> Result<(), Memory> {
-    let alloc = rt.alloc();
-    let mut world = World::new(alloc)?;
-    let stop = alt(alloc, &mut world, &[])?;
-    let sender = prefix_out(alloc, &mut world, A, stop)?;
-    assert_eq!(rt;
-        weave(alloc, &mut world, sender, stop, 0, &[Name(0)])?,
-        stop
-    );
-    assert_eq!(rt; weave(alloc, &mut world, sender, stop, 0, &[])?, sender);
-    Ok(())
-}
-
-#[test]
 fn events_come_in_any_order(rt: HostRuntime) -> Result<(), Memory> {
     let alloc = rt.alloc();
     let mut world = World::new(alloc)?;
@@ -43,21 +29,5 @@ fn events_come_in_any_order(rt: HostRuntime) -> Result<(), Memory> {
     assert_eq!(rt; world.child(both, B), Some(first));
     assert!(rt; !world.refuses(both, &[A]));
     assert!(rt; world.refuses(both, &[A.counterpart()]));
-    Ok(())
-}
-
-#[test]
-fn a_communication_that_nothing_hinders_passes_at_once(rt: HostRuntime) -> Result<(), Memory> {
-    let alloc = rt.alloc();
-    let mut world = World::new(alloc)?;
-    let stop = alt(alloc, &mut world, &[])?;
-    let next = prefix_out(alloc, &mut world, B, stop)?;
-    let sender = prefix_out(alloc, &mut world, A, stop)?;
-    let receiver = prefix_in(alloc, &mut world, Name(0), &[stop, stop])?;
-    let busy = weave(alloc, &mut world, receiver, next, 0, &[])?;
-    let made = world.nodes();
-    let both = weave(alloc, &mut world, sender, busy, 0, &[Name(0)])?;
-    assert_eq!(rt; both, next);
-    assert_eq!(rt; world.nodes(), made);
     Ok(())
 }
