@@ -1,10 +1,16 @@
 -- Processes that differ in expressions alone, taken apart.
 use Rattle.std.proofs.Common.{◌≡◌, ℕ, ◌↔◌, Bool, IsTrue, true, List, refl, ap, sym, ◌∙◌, subst}
 use Rattle.std.proofs.lemmas.Bool.{and_parts}
+use Rattle.std.specs.Borrow.{Bor}
+use Rattle.occ_base.specs.declared.names.Name.{Name}
+use Rattle.occ_syntax.specs.declared.expr.Expr.{Expr}
 use Rattle.occ_syntax.specs.Scopes.{Environment}
 use Rattle.occ_syntax.specs.Types.{all_types_kept, is_pair, pairs_kept, types_kept}
 use Rattle.occ_syntax.specs.Tree.{Exp, Tree, assign, seq, alt, Trees, no_tree, and_tree, Branches}
 use Rattle.occ_law_rules.specs.States.{BranchesEqual, EachEqual}
+use Rattle.occ_law_shape.specs.declared.form.Form.{Form}
+use Rattle.occ_law_shape.specs.declared.form.Form.TheVariants as form
+use Rattle.occ_law_shape.specs.Form.{form_tree}
 use Rattle.occ_law_states.specs.Types.{agree_each}
 use Rattle.occ_law_states.proofs.Typed.{pairs_agree}
 use Rattle.occ_law_choice_if.specs.Processes.{AssignmentsEqual, equal_assignments, ProcessesEqual, by_assignments, by_beginnings, by_branches}
@@ -26,6 +32,15 @@ sides_test E l r xs ys es fs a e f same test = (
 
 pub sides_differ : (E : Exp → Exp → Type 0) (l r : Tree) (xs ys : List ℕ) (es fs : List Exp) → assign xs es ≡ l → assign ys fs ≡ r → (xs ≡ ys → ⊥) → AssignmentsEqual E l r → ⊥
 sides_differ E l r xs ys es fs e f differ h = differ (sides_of E l r xs ys es fs e f h).0
+
+-- a form that isn't an assignment stands for none
+not_assign : (f : Form) → ((vars : Bor (List Name)) (values : Bor (List Expr)) → f ≡ form.Assign vars values → ⊥) → (xs : List ℕ) (es : List Exp) → form_tree f ≡ assign xs es → ⊥
+not_assign (form.Assign vars values) wrong xs es e = wrong vars values refl
+not_assign f wrong xs es e = cc
+
+pub assigns_never : (E : Exp → Exp → Type 0) (f : Form) (l r : Tree) → form_tree f ≡ r → ((vars : Bor (List Name)) (values : Bor (List Expr)) → f ≡ form.Assign vars values → ⊥)
+    → AssignmentsEqual E l r → ⊥
+assigns_never E f l r e wrong (equal_assignments xs es fs h) = not_assign f wrong xs fs e
 
 pairs_typed : (Γ : Environment) (l : Tree) (xs : List ℕ) (es : List Exp) → assign xs es ≡ l → types_kept l Γ ≡ true → pairs_kept Γ xs es ≡ true
 pairs_typed Γ l xs es e h = (and_parts (is_pair xs) (pairs_kept Γ xs es) (ap (λ z. types_kept z Γ) e ∙ h)).1

@@ -34,7 +34,8 @@ pub data MergeHere : Cases → Cases → Cases → Type 0 where
 
 -- the process of a choice changes
 pub data UnderHere (S : List (Name × Kind)) : Cases → Cases → Cases → Type 0 where
-  under_here : {front : Cases} (b : Exp) (p q : Tree) (ds : Cases) → ProcessesEqual (IsEqualWhere S b (conditions front)) p q → UnderHere S front (and_case b p ds) (and_case b q ds)
+  under_here : {front : Cases} (b : Exp) (p q : Tree) (ds : Cases) → ProcessesEqual (IsEqualWhere S b (conditions front)) p q
+      → UnderHere S front (and_case b p ds) (and_case b q ds)
 
 -- where nothing is left, there is no such place
 
