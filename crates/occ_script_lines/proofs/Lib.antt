@@ -1,3 +1,4 @@
+pub mod Placing
 pub mod Rows
 pub mod Divided
 pub mod Words

@@ -1,5 +1,5 @@
 -- Rows of a text from a place on.
-use Rattle.std.proofs.Common.{◌≡◌, ℕ, zero, suc, ◌+◌, ◌<◌, ◌≤◌, List, [], ◌∷◌, ◌++◌, length, take, drop, refl, sym, ap, ◌∙◌, arith}
+use Rattle.std.proofs.Common.{◌≡◌, ℕ, zero, suc, ◌+◌, ◌-◌, ◌<◌, ◌≤◌, List, [], ◌∷◌, ◌++◌, length, take, drop, refl, sym, ap, ◌∙◌, arith}
 use Rattle.std.specs.List.{concat}
 use Rattle.std.proofs.lemmas.List.{drop-drop, drop_all, length-drop, take_at}
 use Rattle.occ_lex.specs.Rows.{first_row, rows}
@@ -36,3 +36,8 @@ take-add (suc n) m (x ∷ xs) = let e : suc n + m ≡ suc (n + m) = omega arith 
 -- the bytes of a row, at its place
 pub row_there : (text row : List ℕ) (at : ℕ) → at < length text → row ≡ first_row (drop at text) → take (length row) (drop at text) ≡ row
 row_there text row at within is = ap (take (length row)) (row_bytes text row at within is) ∙ take_at row (drop (at + length row) text) (length row) refl
+
+-- the text up to the end of a row
+pub front_row : (text row : List ℕ) (at : ℕ) → at < length text → row ≡ first_row (drop at text) → take (at + length row) text ≡ take at text ++ row
+front_row text row at within is =
+    take-add at (length row) text ∙ ap (λ rest. take at text ++ rest) (ap (take (length row)) (row_bytes text row at within is) ∙ take_at row (drop (at + length row) text) (length row) refl)

@@ -1,3 +1,4 @@
 pub mod Lines
 pub mod Heads
 pub mod Sections
+pub mod Left

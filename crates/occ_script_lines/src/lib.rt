@@ -5,10 +5,11 @@ mod framing;
 mod keyword;
 mod reading;
 mod section;
+mod splitting;
 #[cfg(test)]
 mod tests;
 
 pub use framing::{framed, is_blank, last_line};
 pub use keyword::{Head, is_keyword, is_line, step_line};
 pub use reading::lines;
-pub use section::{Format, Section};
+pub use section::{Format, Section, Sections};

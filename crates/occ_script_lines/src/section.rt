@@ -1,4 +1,4 @@
-ghost use Rattle.std.specs.Prelude.{◌<◌, ◌≤◌, length};
+ghost use Rattle.std.specs.Prelude.{◌+◌, ◌<◌, ◌≤◌, length};
 
 /// The two formats: which words begin a keyword line.
 #[derive(Clone, Copy, Debug, PartialEq, Eq)]
@@ -24,4 +24,18 @@ pub struct Section<'a> {
     ghost within: { end ≤ length upto.now },
     ghost counted: { number ≤ end },
     ghost small: { length upto.now < 4294967295 },
+}
+
+/// The sections of a text that are left, of which the first of all begins with the text's first line.
+#[derive(Clone, Copy, Debug)]
+pub struct Sections<'a> {
+    pub(crate) format: Format,
+    pub(crate) text: &'a [u8],
+    /// Where the next section begins.
+    pub(crate) at: usize,
+    /// The number of the line there.
+    pub(crate) number: u32,
+    ghost within: { at ≤ length text.now },
+    ghost counted: { number ≤ at + 1 },
+    ghost small: { length text.now < 4294967295 },
 }

@@ -1,11 +1,24 @@
-use crate::{last_line, step_line};
+use crate::{Format, Sections, is_blank, last_line, lines, step_line};
 use occ_base::Memory;
 use occ_script_path::Direction;
 
+const SCRIPT: &[u8] =
+    b"occam-script 2\nFROM -- first\n\nSTEP seq-one FORWARD /0/12\n  SKIP\n\nTO\nTOP\n\n";
+
 #[test]
-fn last_lines_are_not_blank(rt: HostRuntime) -> Result<(), Memory> {
-    assert!(rt; last_line(b"occam-script 2\nTO\n -- end\n\n") == 2);
-    assert!(rt; last_line(b"") == 1);
+fn texts_have_sections(rt: HostRuntime) -> Result<(), Memory> {
+    let mut sections = Sections::new(Format::Script, SCRIPT);
+    let wanted: [(u32, bool); 4] = [(1, true), (2, true), (4, false), (7, false)];
+    for (number, blank) in &wanted {
+        if let Some(section) = sections.next() {
+            assert!(rt; section.number == *number);
+            assert!(rt; is_blank(&section) == *blank);
+            let reading = lines(rt.alloc(), &section)?;
+            assert!(rt; reading.lines.is_empty() == *blank);
+        }
+    }
+    assert!(rt; sections.next().is_none());
+    assert!(rt; last_line(SCRIPT) == 8);
     Ok(())
 }
 

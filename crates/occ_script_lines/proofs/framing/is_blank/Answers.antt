@@ -1,4 +1,4 @@
-use Rattle.std.proofs.Common.{◌≡◌, ap, drop, false, true, ◌∙◌, arith}
+use Rattle.std.proofs.Common.{◌≡◌, ap, drop, false, length, sym, true, ◌∙◌, arith}
 use Rattle.std.proofs.lemmas.List.{take_rest}
 use Rattle.occ_lex.specs.Rows.{first_row}
 use Rattle.occ_lex.proofs.RowLemmas.{row_fits}

@@ -1,0 +1,10 @@
+pub mod Again
+pub mod Judged
+pub mod Ordered
+pub mod Texts
+pub mod Grown
+pub mod Few
+pub mod Listed
+pub mod Once
+pub mod OnceAll
+pub mod OnceTexts
