@@ -1,0 +1,17 @@
+pub mod Lists
+pub mod Channels
+pub mod Bodies
+pub mod Together
+pub mod Sizes
+pub mod Rows
+pub mod Beginning
+pub mod Fronts
+pub mod Led
+pub mod Interfaces
+pub mod Standing
+pub mod Points
+pub mod States
+pub mod Applying
+pub mod Refusing
+pub mod Listing
+pub mod Listed

@@ -1,0 +1,26 @@
+//! Stepping a program: a machine that takes one numbered step after another, and tells how it stands.
+#![tactic(auto)]
+
+mod answer;
+mod apply;
+mod control;
+mod effect;
+mod law;
+mod machine;
+mod offers;
+mod pairs;
+mod place;
+mod settle;
+mod stand;
+mod stepping;
+#[cfg(test)]
+mod tests;
+mod within;
+
+pub use answer::{Move, Stand, StepFault};
+pub use law::{
+    numbers_that_are_followed_lead, what_a_stand_shows_belongs_to_the_program,
+    what_is_seen_is_a_trace_of_the_program,
+};
+pub use machine::Machine;
+pub use stepping::start;
