@@ -1,4 +1,4 @@
--- Two programs mean the same exactly where each refines the other, by the answers to them.
+-- Two accepted programs mean the same exactly where each refines the other, by the answers to them.
 use Rattle.std.proofs.Common.{◌≡◌, ◌↔◌, ◌==◌, ℕ, List, [], ◌∷◌, Bool, true, false, codes, refl, sym, ap, ◌∙◌, subst}
 use Rattle.std.proofs.lemmas.Bool.{false≢true}
 use Rattle.occ_base.specs.declared.names.Name.{Name}

@@ -19,29 +19,28 @@ use Rattle.occ_parse_reading.specs.declared.fault.Which.TheVariants.{Bytes as Al
 use Rattle.occ_usage.specs.declared.accepted.Accepted.{Accepted}
 use Rattle.occ_usage.specs.declared.fault.UsageFault.{UsageFault}
 use Rattle.occ_behaviour.specs.declared.behaviour.Side.{Side}
-use Rattle.occ_behaviour.specs.declared.behaviour.Side.TheVariants.{First, Second}
+use Rattle.occ_behaviour.specs.declared.behaviour.Side.TheVariants.{First}
 use Rattle.occ_tool_run.specs.declared.answer.Answer.{Answer}
 use Rattle.occ_tool_run.specs.declared.accept.Refusal.{Refusal}
 use Rattle.occ_tool_run.specs.declared.accept.Refusal.TheVariants as refusal
-use Rattle.occ_tool_run.specs.declared.judge.Question.{Question}
 use Rattle.occ_tool_run.specs.declared.load.Loaded.{Loaded}
 use Rattle.occ_tool_run.specs.declared.load.Loaded.TheVariants.{Bytes, TooLong}
 use Rattle.occ_tool_run.specs.Files.{IsLoaded, most_bytes}
 use Rattle.occ_tool_run.specs.Accepts.{IsThere, IsAccepted, IsRefused, IsUnusable}
-use Rattle.occ_tool_run.specs.Answers.{Takes, refused, unusable, accepted, Replies, Settles, IsJudged, Judges}
+use Rattle.occ_tool_run.specs.Answers.{Takes, refused, unusable, accepted, IsJudged, Judges}
 use Rattle.occ_tool_run.specs.Judged.{HasInterface, IsAcceptedFrom, IsRefusedFrom, IsRefusedFor, IsRefusalAnswer, IsSayable}
 
-there : (l : Loaded) (file : Option (List ℕ)) → IsLoaded most_bytes file l → IsThere file
+pub there : (l : Loaded) (file : Option (List ℕ)) → IsLoaded most_bytes file l → IsThere file
 there (Bytes text) file h = (text.items, h.0)
 there TooLong None h = absurd h
 there TooLong (Some bytes) h = (bytes, refl)
 
-accepted_file : (l : Loaded) (file : Option (List ℕ)) (old new : List (List ℕ)) (program : Program) → IsAcceptedFrom l old new program → IsLoaded most_bytes file l
+pub accepted_file : (l : Loaded) (file : Option (List ℕ)) (old new : List (List ℕ)) (program : Program) → IsAcceptedFrom l old new program → IsLoaded most_bytes file l
     → IsAccepted file old new program
 accepted_file (Bytes text) file old new program r h = record { bytes = text.items; there = h.0; text = r.accepted }
 accepted_file TooLong file old new program r h = absurd r
 
-refused_file : (l : Loaded) (file : Option (List ℕ)) (old new : List (List ℕ)) (fault : ParseFault) → IsRefusedFrom l old new (refusal.Text fault) → IsLoaded most_bytes file l
+pub refused_file : (l : Loaded) (file : Option (List ℕ)) (old new : List (List ℕ)) (fault : ParseFault) → IsRefusedFrom l old new (refusal.Text fault) → IsLoaded most_bytes file l
     → IsRefused file old fault
 refused_file (Bytes text) file old new fault r h = record { bytes = text.items; there = h.0; text = r.0 }
 refused_file TooLong None old new fault r h = absurd h
@@ -51,14 +50,14 @@ refused_file TooLong (Some bytes) old new fault r h = record {
   text = subst (IsRefusedText bound.Program bytes old) (sym r) (too_long (lt-ltb 65536 (length bytes) h));
 }
 
-unusable_file : (l : Loaded) (file : Option (List ℕ)) (old new : List (List ℕ)) (line : ℕ) (fault : UsageFault) → IsRefusedFrom l old new (refusal.Usage line fault)
+pub unusable_file : (l : Loaded) (file : Option (List ℕ)) (old new : List (List ℕ)) (line : ℕ) (fault : UsageFault) → IsRefusedFrom l old new (refusal.Usage line fault)
     → IsLoaded most_bytes file l → IsUnusable file old new line fault
 unusable_file (Bytes text) file old new line fault r h = record { bytes = text.items; there = h.0; text = r.0 }
 unusable_file TooLong file old new line fault r h = absurd r
 
 -- ---- the answer to one text, whatever decides where it is accepted
 
-refusal_taken : (place : Side) (l : Loaded) (file : Option (List ℕ)) (old new : List (List ℕ)) (rest : List (List ℕ) → Program → Answer → Type 0) (f : Refusal) (a : Answer)
+pub refusal_taken : (place : Side) (l : Loaded) (file : Option (List ℕ)) (old new : List (List ℕ)) (rest : List (List ℕ) → Program → Answer → Type 0) (f : Refusal) (a : Answer)
     → IsRefusalAnswer new place f a → IsRefusedFrom l old new f → IsLoaded most_bytes file l → Takes place file old rest a
 refusal_taken place l file old new rest (refusal.Text fault) a is why h = refused fault (refused_file l file old new fault why h) is
 refusal_taken place l file old new rest (refusal.Usage line fault) a is why h = unusable new line fault (unusable_file l file old new line fault why h) is
@@ -100,35 +99,6 @@ take_judging (Ok a) first second new p read h = λ one two j k.
     let t = there second two k in
     let P : Option (List ℕ) → Type 0 = λ file. IsLoaded most_bytes file second in
     record { bytes = t.0; there = t.1; judged = accepted new p (accepted_file first one [] new p read j) (h t.0 (subst P t.1 k)) }
-
--- ---- two programs
-
-abbrev SettlesAll : Question → Loaded → Loaded → Answer → Type 0
-SettlesAll question first second a = (one two : Option (List ℕ)) → IsLoaded most_bytes one first → IsLoaded most_bytes two second → Settles question one two a
-
-abbrev Behind : Question → Option (List ℕ) → List (List ℕ) → Program → Answer → Type 0
-Behind question two names p = Takes Second two names (Replies question p)
-
-pub refuse_first : (question : Question) (r : Result Answer Memory) (first second : Loaded) (new : List (List ℕ)) (f : Refusal) → IfOk r (IsRefusalAnswer new First f) → IsRefusedFrom first [] new f
-    → IfOk r (SettlesAll question first second)
-refuse_first question (Err m) first second new f is why = tt
-refuse_first question (Ok a) first second new f is why = λ one two h k. record { there = there second two k; judged = refusal_taken First first one [] new (Behind question two) f a is why h }
-
-pub refuse_second : (question : Question) (r : Result Answer Memory) (first second : Loaded) (between new : List (List ℕ)) (p : Program) (f : Refusal) → IsAcceptedFrom first [] between p
-    → IfOk r (IsRefusalAnswer new Second f) → IsRefusedFrom second between new f → IfOk r (SettlesAll question first second)
-refuse_second question (Err m) first second between new p f read is why = tt
-refuse_second question (Ok a) first second between new p f read is why = λ one two h k. record {
-  there = there second two k;
-  judged = accepted between p (accepted_file first one [] between p read h) (refusal_taken Second second two between new (Replies question p) f a is why k);
-}
-
-pub settle : (question : Question) (r : Result Answer Memory) (first second : Loaded) (between new : List (List ℕ)) (p q : Program) → IsAcceptedFrom first [] between p → IsAcceptedFrom second between new q
-    → IfOk r (Replies question p new q) → IfOk r (SettlesAll question first second)
-settle question (Err m) first second between new p q read also h = tt
-settle question (Ok a) first second between new p q read also h = λ one two j k. record {
-  there = there second two k;
-  judged = accepted between p (accepted_file first one [] between p read j) (accepted new q (accepted_file second two between new q also k) h);
-}
 
 -- ---- what an accepted program and a refusal have
 

@@ -7,10 +7,11 @@ use Rattle.occ_tool_run.specs.declared.load.Stop.{Stop}
 use Rattle.occ_tool_run.specs.declared.load.Stop.TheVariants.{Read, Memory}
 use Rattle.occ_tool_run.specs.declared.answer.Answer.{Answer}
 use Rattle.occ_gen.specs.declared.shape.Shape.{Shape}
-use Rattle.occ_tool_words.specs.Words.{Job, same, normalise, normal, belongs, stress, refine, deadlock, job_of}
+use Rattle.occ_tool_words.specs.Words.{Job, same, normalise, normal, belongs, stress, refine, deadlock, job_of, replay}
 use Rattle.occ_tool_run.specs.Files.{Files, AsksFront, AsksFor, IsLoaded}
 use Rattle.occ_tool_run.specs.Texts.{status_of, text_of}
-use Rattle.occ_tool_run.specs.Answers.{IsAnswer, comparison, normalisation, checking, membership, stressing, refinement, seeking, Answers, Settles, Normalises, Checks, Judges, Stresses, Seeks}
+use Rattle.occ_tool_run.specs.Answers.{IsAnswer, comparison, normalisation, checking, membership, stressing, refinement, seeking, Answers, Settles, Normalises, Checks, Judges, Stresses, Seeks, replaying}
+use Rattle.occ_tool_run.specs.Derivations.{Replays}
 use Rattle.occ_tool_run.specs.declared.judge.Question.TheVariants.{WhetherSame, WhetherRefined}
 use Rattle.occ_tool_run.specs.Ran.{Ran, answered, cut_short}
 
@@ -147,6 +148,12 @@ pub asked_deadlock : {E : Type 0} (told : Option Files) (words : List (List ℕ)
 asked_deadlock None words a (Ok answer) is s = tt
 asked_deadlock (Some files) words a (Ok answer) is s = seeking a (sym is) s
 asked_deadlock told words a (Err e) is s = tt
+
+pub asked_replay : {E : Type 0} (told : Option Files) (words : List (List ℕ)) (a : List ℕ) (r : Result Answer E) → Some (replay a) ≡ job_of words
+    → IfOk r (λ answer. IfSome told (λ files. Replays (files a) answer)) → IfOk r (λ answer. IfSome told (λ files. IsAnswer files words answer))
+asked_replay None words a (Ok answer) is s = tt
+asked_replay (Some files) words a (Ok answer) is s = replaying a (sym is) s
+asked_replay told words a (Err e) is s = tt
 
 pub asked_stress : (told : Option Files) (words : List (List ℕ)) (shape : Shape) (stages : ℕ) (answer : Answer) → Some (stress shape stages) ≡ job_of words
     → Stresses shape stages answer → IfSome told (λ files. IsAnswer files words answer)

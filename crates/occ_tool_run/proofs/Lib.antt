@@ -1,10 +1,15 @@
 pub mod Judging
+pub mod Pairs
 pub mod Leaving
 pub mod Once
+pub mod Taken
 pub mod OneAnswer
 pub mod BothWays
+pub mod EitherOrder
 pub mod Known
 pub mod Accepting
 pub mod Named
 pub mod Stages
 pub mod Members
+pub mod Scripted
+pub mod OneReplay

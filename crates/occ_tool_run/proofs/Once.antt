@@ -1,5 +1,5 @@
--- What is asked of the reading of texts for an answer to be one.
-use Rattle.std.proofs.Common.{◌≡◌, ◌↔◌, ◌<◌, ◌^◌, ◌∙◌, sym, ℕ, true, List, [], ◌∷◌, length}
+-- What is asked of the reading of texts for an answer to be one, and what one answer is.
+use Rattle.std.proofs.Common.{◌≡◌, ◌↔◌, ◌<◌, ◌^◌, ◌∙◌, ap, sym, ℕ, true, List, [], ◌∷◌, length, Option, Some}
 use Rattle.occ_base.specs.Names.{IsDistinct}
 use Rattle.occ_base.specs.declared.names.Name.{Name}
 use Rattle.occ_syntax.specs.declared.scope.Kind.{Kind}
@@ -18,7 +18,24 @@ use Rattle.occ_usage.specs.Accepted.{usage_faults}
 use Rattle.occ_usage.specs.declared.fault.UsageFault.{UsageFault}
 use Rattle.occ_usage.specs.Faults.{names_of}
 use Rattle.occ_usage.proofs.Law.{keeps_no_fault}
+use Rattle.occ_tool_run.specs.declared.answer.Answer.{Answer}
 use Rattle.occ_tool_run.specs.Accepts.{ReadsAs}
+use Rattle.occ_tool_run.specs.Texts.{status_of, text_of}
+
+-- answers that are written alike
+pub record AreAlike (a b : Answer) : Type 0 where
+  pub status : status_of a ≡ status_of b
+  pub text : text_of a ≡ text_of b
+
+pub alike : (a b c d : Answer) → a ≡ c → c ≡ d → b ≡ d → AreAlike a b
+alike a b c d e f g = let h : a ≡ b = e ∙ f ∙ sym g in record { status = ap status_of h; text = ap text_of h }
+
+some_is : {X : Type 0} (x y : X) → Some x ≡ Some y → x ≡ y
+some_is x y e = cc
+
+-- the bytes of a file are one list
+pub same_bytes : (file : Option (List ℕ)) (a b : List ℕ) → file ≡ Some a → file ≡ Some b → a ≡ b
+same_bytes file a b e f = some_is a b (sym e ∙ f)
 
 pub record IsOneReading (m n : List (List ℕ)) (p q : Program) (ls ks : List ℕ) : Type 0 where
   pub names : m ≡ n

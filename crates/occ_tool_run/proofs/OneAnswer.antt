@@ -1,5 +1,7 @@
 -- A command line over the same files has one answer.
 use Rattle.std.proofs.Common.{◌≡◌, ◌↔◌, ◌<◌, ◌^◌, ℕ, Bool, true, false, IsTrue, List, [], ◌∷◌, length, Option, Some, None, Result, Ok, Err, Vec, Global, refl, sym, ◌∙◌, ap, ap₂, subst, arith, slice_index_or}
+use Rattle.std.specs.declared.cmp.Ordering.{Ordering}
+use Rattle.std.specs.declared.cmp.Ordering.TheVariants.{Less, Equal, Greater}
 use Rattle.occ_base.specs.Names.{IsDistinct}
 use Rattle.occ_base.specs.declared.names.Name.{Name}
 use Rattle.occ_syntax.specs.declared.scope.Program.{Program}
@@ -31,20 +33,20 @@ use Rattle.occ_gen.specs.declared.shape.Shape.{Shape}
 use Rattle.occ_gen.specs.Programs.{program_text}
 use Rattle.occ_nform.specs.Written.{IsNormalText}
 use Rattle.occ_nform_program.specs.Counted.{HasCounts, counts_of}
-use Rattle.occ_tool_words.specs.Words.{Job, same, normalise, normal, belongs, stress, refine, deadlock, job_of}
+use Rattle.occ_tool_words.specs.Words.{Job, same, normalise, normal, belongs, stress, refine, deadlock, replay, job_of}
 use Rattle.occ_tool_run.specs.declared.answer.Answer.{Answer}
 use Rattle.occ_tool_run.specs.declared.answer.Answer.TheVariants.{Usage, Refused, Unusable, TooLong, RefusedTable, RefusedClaim, InterfacesDiffer, Compared, Written, Counted, Member, Stressed, Allowed, Sought}
 use Rattle.occ_tool_run.specs.declared.judge.Question.{Question}
 use Rattle.occ_tool_run.specs.declared.judge.Question.TheVariants.{WhetherSame, WhetherRefined}
-use Rattle.occ_tool_run.specs.Files.{Files}
+use Rattle.occ_tool_run.specs.Files.{Files, order_of}
+use Rattle.occ_tool_run.specs.Derivations.{Replays}
 use Rattle.occ_tool_run.specs.Texts.{status_of, text_of}
 use Rattle.occ_tool_run.specs.Accepts.{ReadsAs, IsAccepted, IsRefused, IsUnusable, node_of}
-use Rattle.occ_tool_run.specs.Answers.{Takes, refused, unusable, accepted, Compares, apart, compared, Refines, other, allowed, Replies, Settles, IsSought, Seeks, IsNormalised, Normalises, IsChecked, too_long_table, faulty_table, normal_table, Checks}
-use Rattle.occ_tool_run.specs.Answers.{IsJudged, too_long_claim, faulty_claim, judged_claim, Judges, IsStressed, Stresses, IsAnswer, usage, comparison, normalisation, checking, membership, stressing, refinement, seeking, Answers}
-use Rattle.occ_tool_run.proofs.Once.{IsOneReading, IsOnce, IsOneText, faultless}
-
-some_is : {X : Type 0} (x y : X) → Some x ≡ Some y → x ≡ y
-some_is x y e = cc
+use Rattle.occ_tool_run.specs.Answers.{Takes, TakesBoth, Turned, refused_behind, unusable_behind, accepted_behind, Compares, apart, compared, Refines, other, allowed, Replies, Settles, IsSought, Seeks, IsNormalised, Normalises, IsChecked, too_long_table, faulty_table, normal_table, Checks}
+use Rattle.occ_tool_run.specs.Answers.{IsJudged, too_long_claim, faulty_claim, judged_claim, Judges, IsStressed, Stresses, IsAnswer, usage, comparison, normalisation, checking, membership, stressing, refinement, seeking, replaying, Answers}
+use Rattle.occ_tool_run.proofs.Once.{AreAlike, IsOnce, IsOneText, alike, same_bytes}
+use Rattle.occ_tool_run.proofs.OneReplay.{IsOneScript, replays_alike}
+use Rattle.occ_tool_run.proofs.Taken.{AreOne, agree, as_refused, as_taken, as_unusable, takes_alike}
 
 ok_is : {X E : Type 0} (x y : X) (r : Result X E) → r ≡ Ok x → r ≡ Ok y → x ≡ y
 ok_is x y r e f = cc
@@ -54,10 +56,6 @@ err_is x y r e f = cc
 
 not_both : {X E : Type 0} (x : X) (y : E) (r : Result X E) → r ≡ Ok x → r ≡ Err y → ⊥
 not_both x y r e f = cc
-
--- the bytes of a file are one list
-same_bytes : (file : Option (List ℕ)) (a b : List ℕ) → file ≡ Some a → file ≡ Some b → a ≡ b
-same_bytes file a b e f = some_is a b (sym e ∙ f)
 
 same_truth : (x y : Bool) → (IsTrue x → IsTrue y) → (IsTrue y → IsTrue x) → x ≡ y
 same_truth true true f g = refl
@@ -69,58 +67,13 @@ same_truth false false f g = refl
 short : (text : Vec ℕ Global) → length text.items < 2 ^ 64
 short text = omega (arith, text.ok, text.small)
 
--- ---- answers that are written alike
-
-record AreAlike (a b : Answer) : Type 0 where
-  status : status_of a ≡ status_of b
-  text : text_of a ≡ text_of b
-
-alike : (a b c d : Answer) → a ≡ c → c ≡ d → b ≡ d → AreAlike a b
-alike a b c d e f g = let h : a ≡ b = e ∙ f ∙ sym g in record { status = ap status_of h; text = ap text_of h }
-
--- ---- what becomes of one text
-
-data Outcome : Type 0 where
-  as_taken : List (List ℕ) → Program → Outcome
-  as_refused : ParseFault → Outcome
-  as_unusable : List (List ℕ) → ℕ → UsageFault → Outcome
-
-abbrev Comes : Option (List ℕ) → List (List ℕ) → Outcome → Type 0
-Comes file old (as_taken new program) = IsAccepted file old new program
-Comes file old (as_refused fault) = IsRefused file old fault
-Comes file old (as_unusable new line fault) = IsUnusable file old new line fault
-
-record AreOne (m n : List (List ℕ)) (p q : Program) : Type 0 where
-  names : m ≡ n
-  params : p.params ≡ q.params
-  body : tree p.body ≡ tree q.body
-
-record AreOneFault (m n : List (List ℕ)) (k l : ℕ) (f g : UsageFault) : Type 0 where
-  names : m ≡ n
-  lines : k ≡ l
-  faults : f ≡ g
-
-abbrev Agree : Outcome → Outcome → Type 0
-Agree (as_taken m p) (as_taken n q) = AreOne m n p q
-Agree (as_taken m p) (as_refused g) = ⊥
-Agree (as_taken m p) (as_unusable n l g) = ⊥
-Agree (as_refused f) (as_taken n q) = ⊥
-Agree (as_refused f) (as_refused g) = f ≡ g
-Agree (as_refused f) (as_unusable n l g) = ⊥
-Agree (as_unusable m k f) (as_taken n q) = ⊥
-Agree (as_unusable m k f) (as_refused g) = ⊥
-Agree (as_unusable m k f) (as_unusable n l g) = AreOneFault m n k l f g
-
-head_is : {X : Type 0} (x y : X) (xs ys : List X) → x ∷ xs ≡ y ∷ ys → x ≡ y
-head_is x y xs ys e = cc
-
 -- two programs have one verdict, and one answer to whether one refines the other; one program is stuck in one way
 pub record IsOneVerdict : Type 0 where
   pub one : (params : List (Name × Kind)) (p q : Tree) (v w : Verdict) → IsVerdictOf params p q v → IsVerdictOf params p q w → v ≡ w
   pub refinement : (params : List (Name × Kind)) (p q : Tree) (v w : Refinement) → IsRefinement params p q v → IsRefinement params p q w → v ≡ w
   pub deadlock : (params : List (Name × Kind)) (p : Tree) (v w : Option Behaviour) → IsDeadlockAnswer params p v → IsDeadlockAnswer params p w → v ≡ w
 
-back : {A B C : Type 0} (P : A → B → C → Type 0) (x y : A) (z u : B) (v w : C) → x ≡ y → z ≡ u → v ≡ w → P y u w → P x z v
+pub back : {A B C : Type 0} (P : A → B → C → Type 0) (x y : A) (z u : B) (v w : C) → x ≡ y → z ≡ u → v ≡ w → P y u w → P x z v
 back {A} {B} {C} P x y z u v w e f g h =
     let F : A → Type 0 = λ t. P t z v in
     let G : B → Type 0 = λ t. P y t v in
@@ -130,71 +83,32 @@ back {A} {B} {C} P x y z u v w e f g h =
 itself : (params : List (Name × Kind)) (p : Tree) → SAME (environment params) p p
 itself params p = record { same_failures = λ s t X i w. (λ h. h, λ h. h); same_ends = λ s t u i. (λ h. h, λ h. h) }
 
--- what follows stands on the reading of a text being one, on the verdict being one, and on the normal text being one
-module _ (once : IsOnce) (only : IsOneVerdict) (single : IsOneText) where
-  reads : (a b : List ℕ) (old m n : List (List ℕ)) (p q : Program) (ls ks : List ℕ) → b ≡ a → ReadsAs a old m p ls → ReadsAs b old n q ks → IsOneReading m n p q ls ks
-  reads a b old m n p q ls ks alike r s =
-      let P : List ℕ → Type 0 = λ t. ReadsAs t old n q ks in
-      once.one_reading a old m n p q ls ks r (subst P alike s)
+-- what the words ask for has this answer
+abbrev pub Does : Files → Option Job → Answer → Type 0
+Does files None a = a ≡ Usage
+Does files (Some (same x y)) a = Settles WhetherSame (files x) (files y) a
+Does files (Some (normalise x)) a = Normalises (files x) a
+Does files (Some (normal x)) a = Checks (files x) a
+Does files (Some (belongs x y)) a = Judges (files x) (files y) a
+Does files (Some (stress shape stages)) a = Stresses shape stages a
+Does files (Some (refine x y)) a = Settles WhetherRefined (files x) (files y) a
+Does files (Some (deadlock x)) a = Seeks (files x) a
+Does files (Some (replay x)) a = Replays (files x) a
 
-  not_refused : (a b : List ℕ) (old m : List (List ℕ)) (p : Program) (ls : List ℕ) (f : ParseFault) → b ≡ a → ReadsAs a old m p ls → IsRefusedText bound.Program b old f → ⊥
-  not_refused a b old m p ls f alike r s =
-      let P : List ℕ → Type 0 = λ t. IsRefusedText bound.Program t old f in
-      once.not_both a old m p ls f r (subst P alike s)
+pub does : (files : Files) (words : List (List ℕ)) (a : Answer) → IsAnswer files words a → Does files (job_of words) a
+does files words a (usage none e) = let P : Option Job → Type 0 = λ j. Does files j a in subst P (sym none) e
+does files words a (comparison x y is s) = let P : Option Job → Type 0 = λ j. Does files j a in subst P (sym is) s
+does files words a (normalisation x is s) = let P : Option Job → Type 0 = λ j. Does files j a in subst P (sym is) s
+does files words a (checking x is s) = let P : Option Job → Type 0 = λ j. Does files j a in subst P (sym is) s
+does files words a (membership x y is s) = let P : Option Job → Type 0 = λ j. Does files j a in subst P (sym is) s
+does files words a (stressing x n is s) = let P : Option Job → Type 0 = λ j. Does files j a in subst P (sym is) s
+does files words a (refinement x y is s) = let P : Option Job → Type 0 = λ j. Does files j a in subst P (sym is) s
+does files words a (seeking x is s) = let P : Option Job → Type 0 = λ j. Does files j a in subst P (sym is) s
+does files words a (replaying x is s) = let P : Option Job → Type 0 = λ j. Does files j a in subst P (sym is) s
 
-  one_fault_of : (p q : Program) (f g : UsageFault) (fs gs : List UsageFault) → p.params ≡ q.params → tree p.body ≡ tree q.body → usage_faults p ≡ f ∷ fs → usage_faults q ≡ g ∷ gs → f ≡ g
-  one_fault_of p q f g fs gs params body x y =
-      let alike : usage_faults p ≡ usage_faults q = λ i. faults (body i) 0 (names_of (params i)) in
-      head_is f g fs gs (sym x ∙ alike ∙ y)
-
-  no_fault : (p q : Program) (f : UsageFault) (fs : List UsageFault) → p.params ≡ q.params → tree p.body ≡ tree q.body → KeepsUsage (tree p.body) → usage_faults q ≡ f ∷ fs → ⊥
-  no_fault p q f fs params body keeps found =
-      let P : Tree → Type 0 = KeepsUsage in
-      faultless q f fs (subst P body keeps) found
-
-  agree : (file : Option (List ℕ)) (old : List (List ℕ)) (x y : Outcome) → Comes file old x → Comes file old y → Agree x y
-  agree file old (as_taken m p) (as_taken n q) a b =
-      let e = reads a.bytes b.bytes old m n p q a.text.numbers b.text.numbers (same_bytes file b.bytes a.bytes b.there a.there) a.text.read b.text.read in
-      record { names = e.names; params = e.params; body = e.body }
-  agree file old (as_taken m p) (as_refused g) a b =
-      not_refused a.bytes b.bytes old m p a.text.numbers g (same_bytes file b.bytes a.bytes b.there a.there) a.text.read b.text
-  agree file old (as_taken m p) (as_unusable n l g) a b =
-      let e = reads a.bytes b.bytes old m n p b.text.program a.text.numbers b.text.numbers (same_bytes file b.bytes a.bytes b.there a.there) a.text.read b.text.read in
-      no_fault p b.text.program g b.text.later e.params e.body a.text.usage b.text.found
-  agree file old (as_refused f) (as_taken n q) a b =
-      not_refused b.bytes a.bytes old n q b.text.numbers f (same_bytes file a.bytes b.bytes a.there b.there) b.text.read a.text
-  agree file old (as_refused f) (as_refused g) a b =
-      let P : List ℕ → Type 0 = λ t. IsRefusedText bound.Program t old g in
-      once.one_fault a.bytes old f g a.text (subst P (same_bytes file b.bytes a.bytes b.there a.there) b.text)
-  agree file old (as_refused f) (as_unusable n l g) a b =
-      not_refused b.bytes a.bytes old n b.text.program b.text.numbers f (same_bytes file a.bytes b.bytes a.there b.there) b.text.read a.text
-  agree file old (as_unusable m k f) (as_taken n q) a b =
-      let e = reads b.bytes a.bytes old n m q a.text.program b.text.numbers a.text.numbers (same_bytes file a.bytes b.bytes a.there b.there) b.text.read a.text.read in
-      no_fault q a.text.program f a.text.later e.params e.body b.text.usage a.text.found
-  agree file old (as_unusable m k f) (as_refused g) a b =
-      not_refused a.bytes b.bytes old m a.text.program a.text.numbers g (same_bytes file b.bytes a.bytes b.there a.there) a.text.read b.text
-  agree file old (as_unusable m k f) (as_unusable n l g) a b =
-      let e = reads a.bytes b.bytes old m n a.text.program b.text.program a.text.numbers b.text.numbers (same_bytes file b.bytes a.bytes b.there a.there) a.text.read b.text.read in
-      let alike : f ≡ g = one_fault_of a.text.program b.text.program f g a.text.later b.text.later e.params e.body a.text.found b.text.found in
-      let at : slice_index_or a.text.numbers (node_of f) 1 ≡ slice_index_or b.text.numbers (node_of g) 1 = λ i. slice_index_or (e.numbers i) (node_of (alike i)) 1 in
-      record { names = e.names; lines = a.text.line_is ∙ at ∙ sym b.text.line_is; faults = alike }
-
-  -- two answers where a text is taken, and where so are those of the rest
-  takes_alike : (place : Side) (file : Option (List ℕ)) (old : List (List ℕ)) (R S : List (List ℕ) → Program → Answer → Type 0) (a b : Answer)
-      → ((m n : List (List ℕ)) (p q : Program) → IsAccepted file old m p → AreOne m n p q → R m p a → S n q b → AreAlike a b)
-      → Takes place file old R a → Takes place file old S b → AreAlike a b
-  takes_alike place file old R S a b rest (refused f r e) (refused g s h) = alike a b (Refused place f) (Refused place g) e (ap (Refused place) (agree file old (as_refused f) (as_refused g) r s)) h
-  takes_alike place file old R S a b rest (refused f r e) (unusable n l g s h) = absurd (agree file old (as_refused f) (as_unusable n l g) r s)
-  takes_alike place file old R S a b rest (refused f r e) (accepted n q s y) = absurd (agree file old (as_refused f) (as_taken n q) r s)
-  takes_alike place file old R S a b rest (unusable m k f r e) (refused g s h) = absurd (agree file old (as_unusable m k f) (as_refused g) r s)
-  takes_alike place file old R S a b rest (unusable m k f r e) (unusable n l g s h) =
-      let d = agree file old (as_unusable m k f) (as_unusable n l g) r s in
-      alike a b (Unusable m place k f) (Unusable n place l g) e (λ i. Unusable (d.names i) place (d.lines i) (d.faults i)) h
-  takes_alike place file old R S a b rest (unusable m k f r e) (accepted n q s y) = absurd (agree file old (as_unusable m k f) (as_taken n q) r s)
-  takes_alike place file old R S a b rest (accepted m p r x) (refused g s h) = absurd (agree file old (as_taken m p) (as_refused g) r s)
-  takes_alike place file old R S a b rest (accepted m p r x) (unusable n l g s h) = absurd (agree file old (as_taken m p) (as_unusable n l g) r s)
-  takes_alike place file old R S a b rest (accepted m p r x) (accepted n q s y) = rest m n p q r (agree file old (as_taken m p) (as_taken n q) r s) x y
-
+-- what follows stands on the reading of a text being one, on the verdict being one, on the normal text being one, and on scripts
+-- being read and answered in one way
+module _ (once : IsOnce) (only : IsOneVerdict) (single : IsOneText) (scripts : IsOneScript) where
   -- ---- two programs
 
   decided_alike : (p q r s : Program) (v w : Verdict) → p.params ≡ r.params → tree p.body ≡ tree r.body → tree q.body ≡ tree s.body
@@ -227,13 +141,40 @@ module _ (once : IsOnce) (only : IsOneVerdict) (single : IsOneText) where
   replies_alike WhetherSame j k m n p q r s a b first second f g = compares_alike j k m n p q r s a b first second f g
   replies_alike WhetherRefined j k m n p q r s a b first second f g = refines_alike j k m n p q r s a b first second f g
 
-  settles_alike : (question : Question) (one two : Option (List ℕ)) (a b : Answer) → Settles question one two a → Settles question one two b → AreAlike a b
-  settles_alike question one two a b s t =
-      takes_alike First one [] (λ names p. Takes Second two names (Replies question p)) (λ names p. Takes Second two names (Replies question p)) a b
+  -- two programs, of which the second was read first
+  turned_alike : (question : Question) (one two : Option (List ℕ)) (a b : Answer) → Turned question one two a → Turned question one two b → AreAlike a b
+  turned_alike question one two a b (refused_behind f r s) (refused_behind g t u) =
+      takes_alike once First one [] (λ m p x. x ≡ Refused Second f) (λ m p x. x ≡ Refused Second g) a b
+      (λ m n p q y d e h. alike a b (Refused Second f) (Refused Second g) e (ap (Refused Second) (agree once two [] (as_refused f) (as_refused g) r t)) h) s u
+  turned_alike question one two a b (refused_behind f r s) (unusable_behind n l g t u) = absurd (agree once two [] (as_refused f) (as_unusable n l g) r t)
+  turned_alike question one two a b (refused_behind f r s) (accepted_behind n q t u) = absurd (agree once two [] (as_refused f) (as_taken n q) r t)
+  turned_alike question one two a b (unusable_behind m k f r s) (refused_behind g t u) = absurd (agree once two [] (as_unusable m k f) (as_refused g) r t)
+  turned_alike question one two a b (unusable_behind m k f r s) (unusable_behind n l g t u) =
+      let d = agree once two [] (as_unusable m k f) (as_unusable n l g) r t in
+      takes_alike once First one [] (λ j p x. x ≡ Unusable m Second k f) (λ j p x. x ≡ Unusable n Second l g) a b
+      (λ j i p q y o e h. alike a b (Unusable m Second k f) (Unusable n Second l g) e (λ z. Unusable (d.names z) Second (d.lines z) (d.faults z)) h) s u
+  turned_alike question one two a b (unusable_behind m k f r s) (accepted_behind n q t u) = absurd (agree once two [] (as_unusable m k f) (as_taken n q) r t)
+  turned_alike question one two a b (accepted_behind m p r s) (refused_behind g t u) = absurd (agree once two [] (as_taken m p) (as_refused g) r t)
+  turned_alike question one two a b (accepted_behind m p r s) (unusable_behind n l g t u) = absurd (agree once two [] (as_taken m p) (as_unusable n l g) r t)
+  turned_alike question one two a b (accepted_behind m p r s) (accepted_behind n q t u) =
+      let d = agree once two [] (as_taken m p) (as_taken n q) r t in
+      let P : List (List ℕ) → Type 0 = λ o. Takes First one o (λ names x. Replies question x names q) b in
+      takes_alike once First one m (λ names x. Replies question x names p) (λ names x. Replies question x names q) a b
+      (λ j k x y z e f g. replies_alike question j k j k x p y q a b e (record { names = e.names; params = d.params; body = d.body }) f g) s (subst P (sym d.names) u)
+
+  both_alike : (order : Ordering) (question : Question) (one two : Option (List ℕ)) (a b : Answer) → TakesBoth order question one two a → TakesBoth order question one two b → AreAlike a b
+  both_alike Less question one two a b s t =
+      takes_alike once First one [] (λ names p. Takes Second two names (Replies question p)) (λ names p. Takes Second two names (Replies question p)) a b
       (λ m n p q x first f g.
       let P : List (List ℕ) → Type 0 = λ o. Takes Second two o (Replies question q) b in
-      takes_alike Second two m (Replies question p) (Replies question q) a b (λ j k r u y second. replies_alike question m n j k p r q u a b first second) f (subst P (sym first.names) g))
-      s.judged t.judged
+      takes_alike once Second two m (Replies question p) (Replies question q) a b (λ j k r u y second. replies_alike question m n j k p r q u a b first second) f (subst P (sym first.names) g))
+      s t
+  both_alike Equal question one two a b s t =
+      takes_alike once First one [] (λ names p. Replies question p names p) (λ names p. Replies question p names p) a b (λ m n p q x d f g. replies_alike question m n m n p p q q a b d d f g) s t
+  both_alike Greater question one two a b s t = turned_alike question one two a b s t
+
+  settles_alike : (question : Question) (one two : Option (List ℕ)) (a b : Answer) → Settles question one two a → Settles question one two b → AreAlike a b
+  settles_alike question one two a b s t = both_alike (order_of one two) question one two a b s.judged t.judged
 
   -- ---- where a program can be stuck
 
@@ -312,41 +253,22 @@ module _ (once : IsOnce) (only : IsOneVerdict) (single : IsOneText) where
   judges_alike : (one two : Option (List ℕ)) (a b : Answer) → Judges one two a → Judges one two b → AreAlike a b
   judges_alike one two a b s t =
       let P : List ℕ → Type 0 = λ bytes. Takes First one [] (IsJudged bytes) b in
-      takes_alike First one [] (IsJudged s.bytes) (IsJudged s.bytes) a b (λ m n p q x d. judged_alike s.bytes m n p q a b d) s.judged
+      takes_alike once First one [] (IsJudged s.bytes) (IsJudged s.bytes) a b (λ m n p q x d. judged_alike s.bytes m n p q a b d) s.judged
       (subst P (same_bytes two t.bytes s.bytes t.there s.there) t.judged)
 
   -- ---- command lines
-
-  abbrev Does : Files → Option Job → Answer → Type 0
-  Does files None a = a ≡ Usage
-  Does files (Some (same x y)) a = Settles WhetherSame (files x) (files y) a
-  Does files (Some (normalise x)) a = Normalises (files x) a
-  Does files (Some (normal x)) a = Checks (files x) a
-  Does files (Some (belongs x y)) a = Judges (files x) (files y) a
-  Does files (Some (stress shape stages)) a = Stresses shape stages a
-  Does files (Some (refine x y)) a = Settles WhetherRefined (files x) (files y) a
-  Does files (Some (deadlock x)) a = Seeks (files x) a
-
-  does : (files : Files) (words : List (List ℕ)) (a : Answer) → IsAnswer files words a → Does files (job_of words) a
-  does files words a (usage none e) = let P : Option Job → Type 0 = λ j. Does files j a in subst P (sym none) e
-  does files words a (comparison x y is s) = let P : Option Job → Type 0 = λ j. Does files j a in subst P (sym is) s
-  does files words a (normalisation x is s) = let P : Option Job → Type 0 = λ j. Does files j a in subst P (sym is) s
-  does files words a (checking x is s) = let P : Option Job → Type 0 = λ j. Does files j a in subst P (sym is) s
-  does files words a (membership x y is s) = let P : Option Job → Type 0 = λ j. Does files j a in subst P (sym is) s
-  does files words a (stressing x n is s) = let P : Option Job → Type 0 = λ j. Does files j a in subst P (sym is) s
-  does files words a (refinement x y is s) = let P : Option Job → Type 0 = λ j. Does files j a in subst P (sym is) s
-  does files words a (seeking x is s) = let P : Option Job → Type 0 = λ j. Does files j a in subst P (sym is) s
 
   does_alike : (files : Files) (j : Option Job) (a b : Answer) → Does files j a → Does files j b → AreAlike a b
   does_alike files None a b s t = alike a b Usage Usage s refl t
   does_alike files (Some (same x y)) a b s t = settles_alike WhetherSame (files x) (files y) a b s t
   does_alike files (Some (refine x y)) a b s t = settles_alike WhetherRefined (files x) (files y) a b s t
-  does_alike files (Some (deadlock x)) a b s t = takes_alike First (files x) [] IsSought IsSought a b (λ m n p q y d. sought_alike m n p q a b d) s t
-  does_alike files (Some (normalise x)) a b s t = takes_alike First (files x) [] IsNormalised IsNormalised a b (λ m n p q y d. normalised_alike (files x) m n p q a b y d) s t
+  does_alike files (Some (deadlock x)) a b s t = takes_alike once First (files x) [] IsSought IsSought a b (λ m n p q y d. sought_alike m n p q a b d) s t
+  does_alike files (Some (normalise x)) a b s t = takes_alike once First (files x) [] IsNormalised IsNormalised a b (λ m n p q y d. normalised_alike (files x) m n p q a b y d) s t
   does_alike files (Some (normal x)) a b s t = checks_alike (files x) a b s t
+  does_alike files (Some (replay x)) a b s t = replays_alike scripts (files x) a b s t
   does_alike files (Some (belongs x y)) a b s t = judges_alike (files x) (files y) a b s t
   does_alike files (Some (stress shape n)) a b s t =
-      takes_alike First (Some (program_text shape n)) [] (IsStressed shape n) (IsStressed shape n) a b (λ j k p q y d. stressed_alike (Some (program_text shape n)) shape n j k p q a b y d) s t
+      takes_alike once First (Some (program_text shape n)) [] (IsStressed shape n) (IsStressed shape n) a b (λ j k p q y d. stressed_alike (Some (program_text shape n)) shape n j k p q a b y d) s t
 
   pub one_answer : (files : Files) (words : List (List ℕ)) (s t : ℕ) (a b : List ℕ) → Answers files words s a → Answers files words t b → (s ≡ t) × (a ≡ b)
   one_answer files words s t a b x y =

@@ -3,7 +3,7 @@ use Rattle.std.proofs.Common.{◌≡◌, ◌+◌, ◌*◌, ◌≤◌, ◌==◌, 
 use Rattle.std.specs.Str.{bytes_eq}
 use Rattle.std.proofs.lemmas.Bool.{and_parts, leb-true}
 use Rattle.occ_gen.specs.declared.shape.Shape.{Shape}
-use Rattle.occ_tool_words.specs.Words.{Job, same, normalise, normal, belongs, stress, refine, deadlock, digit_of, in_range, is_plain, job_of, shape_of, stages_of, stress_of, two_digits, with_one, with_two}
+use Rattle.occ_tool_words.specs.Words.{Job, same, normalise, normal, belongs, stress, refine, deadlock, replay, digit_of, in_range, is_plain, job_of, shape_of, stages_of, stress_of, two_digits, with_one, with_two}
 
 abbrev pub InRange : ℕ → Type 0
 InRange n = (1 ≤ n) × (n ≤ 48)
@@ -21,6 +21,7 @@ IsFit (Some (belongs a b)) = Unit {0}
 IsFit (Some (stress shape n)) = InRange n
 IsFit (Some (refine a b)) = Unit {0}
 IsFit (Some (deadlock a)) = Unit {0}
+IsFit (Some (replay a)) = Unit {0}
 
 -- either of two
 choice : (b : Bool) (x y : Option Job) → IsFit x → IsFit y → IsFit (if b then x else y)
@@ -63,7 +64,8 @@ of_one : (command first : List ℕ) → IsFit (with_one command first)
 of_one command first =
     choice (bytes_eq command (codes "normalise")) (Some (normalise first)) _ tt
     (choice (bytes_eq command (codes "normal")) (Some (normal first)) _ tt
-    (choice (bytes_eq command (codes "deadlock")) (Some (deadlock first)) None tt tt))
+    (choice (bytes_eq command (codes "deadlock")) (Some (deadlock first)) _ tt
+    (choice (bytes_eq command (codes "replay")) (Some (replay first)) None tt tt)))
 
 of_two : (command first second : List ℕ) → IsFit (with_two command first second)
 of_two command first second =

@@ -1,6 +1,8 @@
 -- Which answer a command line has over the files.
 use Rattle.std.specs.Prelude.{ℕ, ◌≡◌, ◌≤◌, ◌<◌, ◌↔◌, Bool, true, List, [], length, Option, None, Some, Result, Ok, Err, IsTrue, Vec}
 use Rattle.std.specs.declared.alloc.Global.{Global}
+use Rattle.std.specs.declared.cmp.Ordering.{Ordering}
+use Rattle.std.specs.declared.cmp.Ordering.TheVariants.{Less, Equal, Greater}
 use Rattle.occ_syntax.specs.declared.scope.Program.{Program}
 use Rattle.occ_syntax.specs.View.{tree}
 use Rattle.occ_parse_reading.specs.declared.fault.ParseFault.{ParseFault}
@@ -21,13 +23,14 @@ use Rattle.occ_nform.specs.Written.{IsNormalText}
 use Rattle.occ_nform_program.specs.Counted.{HasCounts}
 use Rattle.occ_views.specs.declared.refined.Refined.{Refined as Refinement}
 use Rattle.occ_views.specs.Programs.{IsRefinement, IsDeadlockAnswer}
-use Rattle.occ_tool_words.specs.Words.{same, normalise, normal, belongs, stress, refine, deadlock, job_of}
+use Rattle.occ_tool_words.specs.Words.{same, normalise, normal, belongs, stress, refine, deadlock, replay, job_of}
 use Rattle.occ_tool_run.specs.declared.answer.Answer.{Answer}
 use Rattle.occ_tool_run.specs.declared.answer.Answer.TheVariants.{Usage, Refused, Unusable, TooLong, RefusedTable, RefusedClaim, InterfacesDiffer, Compared, Written, Counted, Member, Stressed, Allowed, Sought}
 use Rattle.occ_tool_run.specs.declared.judge.Question.{Question}
 use Rattle.occ_tool_run.specs.declared.judge.Question.TheVariants.{WhetherSame, WhetherRefined}
 use Rattle.occ_tool_run.specs.Accepts.{IsAccepted, IsRefused, IsUnusable, IsThere}
-use Rattle.occ_tool_run.specs.Files.{Files, most_bytes, most_table_bytes}
+use Rattle.occ_tool_run.specs.Derivations.{Replays}
+use Rattle.occ_tool_run.specs.Files.{Files, most_bytes, most_table_bytes, order_of}
 use Rattle.occ_tool_run.specs.Texts.{status_of, text_of}
 
 -- What the answer is where a file's text is read as a program, with these names so far: the text is refused, or its program
@@ -65,10 +68,25 @@ abbrev pub Replies : Question → Program → List (List ℕ) → Program → An
 Replies WhetherSame = Compares
 Replies WhetherRefined = Refines
 
--- The answer to two files of whose programs this is asked. Both are there, and the first is judged first.
+-- The answer to two files of which the second is read first. The faults of the first still come before those of the second.
+pub data Turned (question : Question) (one two : Option (List ℕ)) (answer : Answer) : Type 0 where
+  refused_behind : (fault : ParseFault) → IsRefused two [] fault → Takes First one [] (λ names p a. a ≡ Refused Second fault) answer → Turned question one two answer
+  unusable_behind : (new : List (List ℕ)) (line : ℕ) (fault : UsageFault) → IsUnusable two [] new line fault
+      → Takes First one [] (λ names p a. a ≡ Unusable new Second line fault) answer → Turned question one two answer
+  accepted_behind : (new : List (List ℕ)) (q : Program) → IsAccepted two [] new q → Takes First one new (λ names p. Replies question p names q) answer
+      → Turned question one two answer
+
+-- The answer to two files of which the first is read first, or the second, or which have one text, that is read once.
+abbrev pub TakesBoth : Ordering → Question → Option (List ℕ) → Option (List ℕ) → Answer → Type 0
+TakesBoth Less question one two answer = Takes First one [] (λ names p. Takes Second two names (Replies question p)) answer
+TakesBoth Equal question one two answer = Takes First one [] (λ names p. Replies question p names p) answer
+TakesBoth Greater question one two answer = Turned question one two answer
+
+-- The answer to two files of whose programs this is asked. Both are there. They are read in the order of their bytes, so that
+-- names have the same numbers whichever file is given first.
 pub record Settles (question : Question) (one two : Option (List ℕ)) (answer : Answer) : Type 0 where
   pub there : IsThere two
-  pub judged : Takes First one [] (λ names p. Takes Second two names (Replies question p)) answer
+  pub judged : TakesBoth (order_of one two) question one two answer
 
 -- ---- where a program can be stuck
 
@@ -147,6 +165,7 @@ pub data IsAnswer (files : Files) (words : List (List ℕ)) (answer : Answer) : 
   stressing : (shape : Shape) (stages : ℕ) → job_of words ≡ Some (stress shape stages) → Stresses shape stages answer → IsAnswer files words answer
   refinement : (first second : List ℕ) → job_of words ≡ Some (refine first second) → Settles WhetherRefined (files first) (files second) answer → IsAnswer files words answer
   seeking : (program : List ℕ) → job_of words ≡ Some (deadlock program) → Seeks (files program) answer → IsAnswer files words answer
+  replaying : (text : List ℕ) → job_of words ≡ Some (replay text) → Replays (files text) answer → IsAnswer files words answer
 
 -- The words and the files have an answer with this status and this text.
 pub record Answers (files : Files) (words : List (List ℕ)) (status : ℕ) (text : List ℕ) : Type 0 where

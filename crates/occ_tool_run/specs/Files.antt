@@ -1,5 +1,9 @@
 -- What is read of the files that the words name.
-use Rattle.std.specs.Prelude.{ℕ, ◌≡◌, ◌≤◌, ◌<◌, List, length, take, Option, Some, Result, Ok, Err, IsSomeAnd}
+use Rattle.std.specs.Prelude.{ℕ, ◌≡◌, ◌≤◌, ◌<◌, List, length, take, nat_lt, if◌then◌else◌, Option, None, Some, Result, Ok, Err, IsSomeAnd}
+use Rattle.std.specs.Cmp.Lexicographic.{slice_cmp}
+use Rattle.std.specs.Option.{option_cmp}
+use Rattle.std.specs.Ordering.{nat_cmp}
+use Rattle.std.specs.declared.cmp.Ordering.{Ordering}
 use Rattle.occ_desk.specs.Desk.{with_more}
 use Rattle.occ_tool_run.specs.declared.load.Loaded.{Loaded}
 use Rattle.occ_tool_run.specs.declared.load.Loaded.TheVariants.{Bytes, TooLong}
@@ -14,6 +18,10 @@ Files = List ℕ → Option (List ℕ)
 abbrev pub most_bytes : ℕ
 most_bytes = 65536
 
+-- how many bytes a script has at most
+abbrev pub most_script_bytes : ℕ
+most_script_bytes = 4194304
+
 -- how many bytes a normal text has at most
 abbrev pub most_table_bytes : ℕ
 most_table_bytes = 67108864
@@ -27,6 +35,22 @@ IsLoaded most file TooLong = IsSomeAnd file (λ bytes. most < length bytes)
 abbrev pub IsShort : ℕ → Loaded → Type 0
 IsShort most (Bytes bytes) = length bytes.items ≤ most
 IsShort most TooLong = Unit {0}
+
+-- the bytes of a file that isn't too long for the text of a program
+abbrev pub short_bytes : Option (List ℕ) → Option (List ℕ)
+short_bytes None = None
+short_bytes (Some bytes) = if nat_lt most_bytes (length bytes) then None else Some bytes
+
+abbrev pub loaded_bytes : Loaded → Option (List ℕ)
+loaded_bytes (Bytes bytes) = Some bytes.items
+loaded_bytes TooLong = None
+
+-- the order of two texts by their bytes, one that is too long in front of all others
+abbrev pub text_order : Option (List ℕ) → Option (List ℕ) → Ordering
+text_order = option_cmp (slice_cmp nat_cmp)
+
+abbrev pub order_of : Option (List ℕ) → Option (List ℕ) → Ordering
+order_of one two = text_order (short_bytes one) (short_bytes two)
 
 -- A front of the names was asked for, that many of them.
 pub record AsksFront (old new : Option (List (List ℕ))) (names : List (List ℕ)) (from : ℕ) : Type 0 where

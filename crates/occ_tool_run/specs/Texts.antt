@@ -24,8 +24,12 @@ use Rattle.occ_nform_table.specs.declared.table.TableFault.TheVariants as table
 use Rattle.occ_gen.specs.declared.shape.Shape.{Shape}
 use Rattle.occ_gen.specs.declared.shape.Shape.TheVariants.{Buffers, Adders, Muxes}
 use Rattle.occ_nform.specs.declared.figures.Counts.{Counts}
+use Rattle.occ_replay.specs.declared.result.Rejected.{Rejected}
+use Rattle.occ_replay.specs.declared.result.Rejected.TheVariants as rejected
+use Rattle.occ_script.specs.declared.fault.ScriptFault.{ScriptFault}
+use Rattle.occ_script.specs.declared.fault.ScriptFault.TheVariants as script
 use Rattle.occ_tool_run.specs.declared.answer.Answer.{Answer}
-use Rattle.occ_tool_run.specs.declared.answer.Answer.TheVariants.{Usage, Refused, Unusable, TooLong, RefusedTable, RefusedClaim, InterfacesDiffer, Compared, Written, Counted, Member, Stressed, Allowed, Sought}
+use Rattle.occ_tool_run.specs.declared.answer.Answer.TheVariants.{Usage, Refused, Unusable, TooLong, RefusedTable, RefusedClaim, InterfacesDiffer, Compared, Written, Counted, Member, Stressed, Allowed, Sought, RefusedScript, Joined, Unjoined}
 
 abbrev pub status_of_verdict : Verdict → ℕ
 status_of_verdict Same = 0
@@ -58,6 +62,9 @@ status_of (Member is) = status_of_member is
 status_of (Stressed shape stages counts) = 0
 status_of (Allowed names refined) = status_of_refined refined
 status_of (Sought names found) = status_of_found found
+status_of (RefusedScript fault) = 3
+status_of (Joined steps) = 0
+status_of (Unjoined names line cause) = 1
 
 abbrev pub place_text : Side → List ℕ
 place_text First = codes "FIRST"
@@ -146,6 +153,48 @@ table_refusal_text (table.Empty row) = row_refusal_text row (codes "Empty")
 table_refusal_text (table.Unreached row) = row_refusal_text row (codes "Unreached")
 table_refusal_text table.Memory = []
 
+-- ---- a text that isn't a script
+
+abbrev pub script_refusal_text : ScriptFault → List ℕ
+script_refusal_text (script.Form line) = refusal_text First line (codes "Form")
+script_refusal_text (script.Version line) = refusal_text First line (codes "Version")
+script_refusal_text (script.Text fault) = refusal_text First (line_of fault) (fault_words fault)
+script_refusal_text script.Memory = []
+
+-- a fault that isn't out of memory
+abbrev pub ScriptFaultIsTold : ScriptFault → Type 0
+ScriptFaultIsTold (script.Form line) = Unit {0}
+ScriptFaultIsTold (script.Version line) = Unit {0}
+ScriptFaultIsTold (script.Text fault) = fault ≢ Memory
+ScriptFaultIsTold script.Memory = ⊥
+
+-- ---- a script that doesn't join its programs
+
+abbrev pub step_rejection_text : ℕ → List ℕ → List ℕ
+step_rejection_text step words = codes "REJECTED " ++ decimal step ++ codes " " ++ words ++ codes "\n"
+
+abbrev pub from_rejection_text : ℕ → List ℕ → List ℕ
+from_rejection_text line words = codes "REJECTED FROM " ++ decimal line ++ codes " " ++ words ++ codes "\n"
+
+abbrev pub rejection_text : List (List ℕ) → ℕ → Rejected → List ℕ
+rejection_text names line (rejected.From fault) = from_rejection_text line (words_of_usage names fault)
+rejection_text names line (rejected.NoLaw step) = step_rejection_text step (codes "NoLaw")
+rejection_text names line (rejected.NoPath step) = step_rejection_text step (codes "NoPath")
+rejection_text names line (rejected.NotAccepted step) = step_rejection_text step (codes "NotAccepted")
+rejection_text names line (rejected.NotInstance step) = step_rejection_text step (codes "NotInstance")
+rejection_text names line rejected.WrongEnd = codes "REJECTED TO WrongEnd\n"
+rejection_text names line rejected.Memory = []
+
+-- a cause that isn't out of memory, and the names that it mentions have texts
+abbrev pub CauseIsNamed : List (List ℕ) → Rejected → Type 0
+CauseIsNamed names (rejected.From fault) = FaultIsNamed names fault
+CauseIsNamed names (rejected.NoLaw step) = Unit {0}
+CauseIsNamed names (rejected.NoPath step) = Unit {0}
+CauseIsNamed names (rejected.NotAccepted step) = Unit {0}
+CauseIsNamed names (rejected.NotInstance step) = Unit {0}
+CauseIsNamed names rejected.WrongEnd = Unit {0}
+CauseIsNamed names rejected.Memory = ⊥
+
 -- ---- the answers that aren't refusals
 
 abbrev pub member_text : Bool → List ℕ
@@ -196,6 +245,9 @@ text_of (Member is) = member_text is
 text_of (Stressed shape stages counts) = stress_text shape stages ++ counts_text counts
 text_of (Allowed names refined) = refined_text names refined
 text_of (Sought names found) = found_text names found
+text_of (RefusedScript fault) = script_refusal_text fault
+text_of (Joined steps) = figure_text (codes "JOINED") steps
+text_of (Unjoined names line cause) = rejection_text names line cause
 
 abbrev pub RefinementIsNamed : List (List ℕ) → Refinement → Type 0
 RefinementIsNamed names Yes = Unit {0}
@@ -221,3 +273,6 @@ IsPrintable (Member is) = Unit {0}
 IsPrintable (Stressed shape stages counts) = Unit {0}
 IsPrintable (Allowed names refined) = RefinementIsNamed names refined
 IsPrintable (Sought names found) = FoundIsNamed names found
+IsPrintable (RefusedScript fault) = ScriptFaultIsTold fault
+IsPrintable (Joined steps) = Unit {0}
+IsPrintable (Unjoined names line cause) = CauseIsNamed names cause

@@ -2,6 +2,7 @@ ghost use Rattle.std.specs.Prelude.{◌≡◌, ◌≢◌, ◌≤◌, [], IfOk, I
 ghost use Rattle.occ_syntax.specs.View.{tree};
 ghost use Rattle.occ_syntax.specs.Usage.{KeepsUsage};
 ghost use Rattle.occ_usage.specs.Accepted.{IsTyped};
+ghost use Rattle.occ_tool_run.specs.Accepts.{node_of};
 ghost use Rattle.occ_tool_run.specs.Files.{IsShort, most_bytes};
 ghost use Rattle.occ_tool_run.specs.Texts.{IsPrintable};
 ghost use Rattle.occ_tool_run.specs.Judged.{HasInterface, IsAcceptedFrom, IsAcceptedAs, IsRefusedFrom, IsRefusedFor, IsFaulty, IsRefusalAt, IsRefusalAnswer, IsSayable};
@@ -93,6 +94,17 @@ fn refusal_at(lines: &[u32], fault: UsageFault) -> Refusal
                 fault,
             }
         }
+    }
+}
+
+/// The line of the PAR of a fault of usage, by the lines of the processes.
+pub fn line_of(lines: &[u32], fault: UsageFault) -> u32
+    ensures { result ≡ slice_index_or lines.now (node_of fault) 1 }
+{
+    match fault {
+        UsageFault::SharedVariable { node, .. } => line_at(lines, node),
+        UsageFault::SharedEnd { node, .. } => line_at(lines, node),
+        UsageFault::Memory => line_at(lines, 0),
     }
 }
 

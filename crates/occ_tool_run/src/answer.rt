@@ -1,7 +1,10 @@
 ghost use Rattle.std.specs.Prelude.{◌≡◌, ◌++◌, codes, IfOk, OnOk};
 ghost use Rattle.occ_tool_run.specs.Texts.{status_of, text_of, figure_text, counts_text, found_text, member_text, refined_text, shape_text, stress_text, FoundIsNamed, RefinementIsNamed, IsPrintable};
 
-use crate::refusal::{claim_refusal, refusal, table_refusal, too_long, usage_refusal};
+use crate::refusal::{
+    claim_refusal, refusal, script_refusal, table_refusal, too_long, usage_refusal,
+};
+use crate::rejection::rejection;
 use itoa::Buffer;
 use occ_base::{Memory, Names};
 use occ_behaviour::{Behaviour, Side, Verdict, behaviour_text, verdict_text};
@@ -9,6 +12,8 @@ use occ_gen::Shape;
 use occ_nform::Counts;
 use occ_nform_table::TableFault;
 use occ_parse_reading::ParseFault;
+use occ_replay::Rejected;
+use occ_script::ScriptFault;
 use occ_usage::UsageFault;
 use occ_views::Refined;
 use std::alloc::Global;
@@ -78,6 +83,21 @@ pub enum Answer {
         names: Names,
         found: Option<Behaviour>,
     },
+    /// The first text isn't a script. The fault is never out of memory.
+    RefusedScript {
+        fault: ScriptFault,
+    },
+    /// The steps of a script, so many, join its two programs.
+    Joined {
+        steps: u32,
+    },
+    /// A script doesn't join its two programs. Where the first one breaks the usage rule, the PAR stands on the line. The cause is
+    /// never out of memory.
+    Unjoined {
+        names: Names,
+        line: u32,
+        cause: Rejected,
+    },
 }
 
 /// The status of an answer.
@@ -103,6 +123,9 @@ pub fn status(answer: &Answer) -> u8
             None => 0,
             Some(_) => 1,
         },
+        Answer::RefusedScript { .. } => 3,
+        Answer::Joined { .. } => 0,
+        Answer::Unjoined { .. } => 1,
     }
 }
 
@@ -138,6 +161,9 @@ pub fn text(alloc: Global, answer: Answer) -> Result<Vec<u8>, Memory>
         } => stress_figures(alloc, shape, stages, counts),
         Answer::Allowed { names, refined } => refined_lines(alloc, &names, refined),
         Answer::Sought { names, found } => found_lines(alloc, &names, found),
+        Answer::RefusedScript { fault } => script_refusal(alloc, fault),
+        Answer::Joined { steps } => figure(alloc, b"JOINED", u64::from(steps)),
+        Answer::Unjoined { names, line, cause } => rejection(alloc, &names, line, cause),
     }
 }
 

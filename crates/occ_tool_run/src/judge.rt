@@ -1,10 +1,14 @@
-ghost use Rattle.std.specs.Prelude.{◌≡◌, ◌≢◌, ◌↔◌, ℕ, List, Option, IfOk, IsTrue};
-ghost use Rattle.occ_parse.specs.Known.{NamesAreKnown};
+ghost use Rattle.std.specs.Prelude.{◌≡◌, ◌≢◌, ◌↔◌, ℕ, List, [], Option, IfOk, IsTrue};
+ghost use Rattle.std.specs.declared.cmp.Ordering.TheVariants.{Less, Equal, Greater};
+ghost use Rattle.occ_behaviour.specs.declared.behaviour.Side.TheVariants.{First, Second};
 ghost use Rattle.occ_tool_run.specs.Files.{IsLoaded, IsShort, most_bytes};
 ghost use Rattle.occ_tool_run.specs.Texts.{IsPrintable};
-ghost use Rattle.occ_tool_run.specs.Answers.{Compares, Refines, Replies, Settles};
+ghost use Rattle.occ_tool_run.specs.Answers.{Compares, Refines, Replies, Settles, Takes};
+ghost use Rattle.occ_tool_run.specs.declared.accept.Refusal.TheVariants as why;
+ghost use Rattle.occ_tool_run.specs.Judged.{IsRefusalAnswer, IsSayable};
+ghost use Rattle.occ_tool_run.specs.Pairs.{IsOneKnown, SettlesAll};
 
-use crate::accept::{accept, accept_first, refused};
+use crate::accept::{Refusal, accept, accept_first, refused};
 use crate::answer::Answer;
 use crate::load::Loaded;
 use occ_base::{Memory, Name, Names};
@@ -13,6 +17,7 @@ use occ_syntax::Kind;
 use occ_usage::Accepted;
 use occ_verdict::{decide, refined};
 use std::alloc::Global;
+use std::cmp::Ordering;
 
 /// What is asked of two programs.
 #[derive(Clone, Copy, Debug)]
@@ -23,8 +28,8 @@ pub enum Question {
     WhetherRefined,
 }
 
-/// The answer to two files of whose programs this is asked. The texts are read in order, and the first that is refused
-/// decides.
+/// The answer to two files of whose programs this is asked. The first that is refused decides. They are read in the order of
+/// their bytes, so that names have the same numbers whichever file is given first.
 pub fn judge(
     alloc: Global,
     question: Question,
@@ -34,6 +39,26 @@ pub fn judge(
     requires first { IsShort most_bytes first.now }
     requires second { IsShort most_bytes second.now }
     ensures settles { IfOk result (λ answer. (one two : Option (List ℕ)) → IsLoaded most_bytes one first.now → IsLoaded most_bytes two second.now → Settles question one two answer) }
+    ensures printable { IfOk result IsPrintable }
+    ensures usage { IfOk result (λ answer. answer ≢ Answer.Usage) }
+{
+    match first.order(second) {
+        Ordering::Less => in_order(alloc, question, first, second),
+        Ordering::Equal => alike(alloc, question, first),
+        Ordering::Greater => turned(alloc, question, first, second),
+    }
+}
+
+/// The answer to two files, of which the first is read first.
+fn in_order(
+    alloc: Global,
+    question: Question,
+    first: &Loaded,
+    second: &Loaded,
+) -> Result<Answer, Memory>
+    requires first { IsShort most_bytes first.now }
+    requires second { IsShort most_bytes second.now }
+    ensures settles { IfOk result (SettlesAll Less question first.now second.now) }
     ensures printable { IfOk result IsPrintable }
     ensures usage { IfOk result (λ answer. answer ≢ Answer.Usage) }
 {
@@ -49,6 +74,75 @@ pub fn judge(
     reply(alloc, question, names, &left, &right)
 }
 
+/// The answer to two files with one text, which is read once.
+fn alike(alloc: Global, question: Question, text: &Loaded) -> Result<Answer, Memory>
+    requires { IsShort most_bytes text.now }
+    ensures settles { IfOk result (λ answer. (second : Loaded) → SettlesAll Equal question text.now second answer) }
+    ensures printable { IfOk result IsPrintable }
+    ensures usage { IfOk result (λ answer. answer ≢ Answer.Usage) }
+{
+    let mut names = Names::new(alloc);
+    match accept_first(alloc, &mut names, text) {
+        Ok(accepted) => reply(alloc, question, names, &accepted, &accepted),
+        Err(refusal) => refused(names, Side::First, refusal),
+    }
+}
+
+/// The answer to two files, of which the second is read first.
+fn turned(
+    alloc: Global,
+    question: Question,
+    first: &Loaded,
+    second: &Loaded,
+) -> Result<Answer, Memory>
+    requires first { IsShort most_bytes first.now }
+    requires second { IsShort most_bytes second.now }
+    ensures settles { IfOk result (SettlesAll Greater question first.now second.now) }
+    ensures printable { IfOk result IsPrintable }
+    ensures usage { IfOk result (λ answer. answer ≢ Answer.Usage) }
+{
+    let mut names = Names::new(alloc);
+    let right = match accept_first(alloc, &mut names, second) {
+        Ok(accepted) => accepted,
+        Err(refusal) => return refused_behind(alloc, names, first, refusal),
+    };
+    match accept(alloc, &mut names, first) {
+        Ok(left) => reply(alloc, question, names, &left, &right),
+        Err(refusal) => refused(names, Side::First, refusal),
+    }
+}
+
+/// The answer to two files, of which the second was read first and is refused: the first may have a fault too.
+fn refused_behind(
+    alloc: Global,
+    names: Names,
+    first: &Loaded,
+    refusal: Refusal,
+) -> Result<Answer, Memory>
+    requires first { IsShort most_bytes first.now }
+    requires sayable { IsSayable names refusal }
+    ensures told { IfOk result (λ answer. (file : Option (List ℕ)) → IsLoaded most_bytes file first.now
+        → Takes First file [] (λ new p. IsRefusalAnswer names Second refusal) answer) }
+    ensures known { IfOk result (λ answer. refusal ≢ why.Memory) }
+    ensures printable { IfOk result IsPrintable }
+    ensures usage { IfOk result (λ answer. answer ≢ Answer.Usage) }
+{
+    if is_memory(&refusal) {
+        return Err(Memory);
+    }
+    let mut own = Names::new(alloc);
+    match accept_first(alloc, &mut own, first) {
+        Ok(_accepted) => refused(names, Side::Second, refusal),
+        Err(refusal) => refused(own, Side::First, refusal),
+    }
+}
+
+fn is_memory(refusal: &Refusal) -> bool
+    ensures { IsTrue result ↔ (refusal.now ≡ why.Memory) }
+{
+    matches!(refusal, Refusal::Memory)
+}
+
 /// The answer to two accepted programs.
 fn reply(
     alloc: Global,
@@ -57,7 +151,7 @@ fn reply(
     left: &Accepted,
     right: &Accepted,
 ) -> Result<Answer, Memory>
-    requires { NamesAreKnown names right.now.program }
+    requires { IsOneKnown names left.now.program right.now.program }
     ensures settles { IfOk result (Replies question left.now.program names right.now.program) }
     ensures printable { IfOk result IsPrintable }
     ensures usage { IfOk result (λ answer. answer ≢ Answer.Usage) }
@@ -70,7 +164,7 @@ fn reply(
 
 /// Whether the second of two accepted programs refines the first.
 fn allowed(alloc: Global, names: Names, left: &Accepted, right: &Accepted) -> Result<Answer, Memory>
-    requires { NamesAreKnown names right.now.program }
+    requires { IsOneKnown names left.now.program right.now.program }
     ensures settles { IfOk result (Refines left.now.program names right.now.program) }
     ensures printable { IfOk result IsPrintable }
     ensures usage { IfOk result (λ answer. answer ≢ Answer.Usage) }
@@ -91,7 +185,7 @@ fn compared(
     left: &Accepted,
     right: &Accepted,
 ) -> Result<Answer, Memory>
-    requires { NamesAreKnown names right.now.program }
+    requires { IsOneKnown names left.now.program right.now.program }
     ensures settles { IfOk result (Compares left.now.program names right.now.program) }
     ensures printable { IfOk result IsPrintable }
     ensures usage { IfOk result (λ answer. answer ≢ Answer.Usage) }

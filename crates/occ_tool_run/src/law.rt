@@ -1,13 +1,12 @@
-ghost use Rattle.std.specs.Prelude.{ℕ, ◌≡◌, ◌↔◌, List, codes};
-ghost use Rattle.occ_syntax.specs.declared.scope.Program.{Program};
-ghost use Rattle.occ_tool_run.specs.declared.answer.Answer.{Answer};
+ghost use Rattle.std.specs.Prelude.{ℕ, ◌≡◌, ◌↔◌, List, [], ◌∷◌, codes};
 ghost use Rattle.occ_tool_run.specs.Files.{Files};
-ghost use Rattle.occ_tool_run.specs.Answers.{Answers, Compares, Refines};
-ghost use Rattle.occ_tool_run.specs.Texts.{text_of};
+ghost use Rattle.occ_tool_run.specs.Answers.{Answers};
 
 use occ_nform::normal_texts_tell_programs_apart;
 use occ_nform_params::parameters_have_names;
 use occ_parse_reading::one_reading;
+use occ_replay_rules::scripts_have_one_answer;
+use occ_script::one_script;
 use occ_verdict::{one_verdict, refined_both_ways};
 use occ_views::{one_deadlock, one_refinement};
 
@@ -22,12 +21,18 @@ pub fn one_answer()
     one_verdict();
     one_refinement();
     one_deadlock();
+    one_script();
+    scripts_have_one_answer();
 }
 
-/// Two accepted programs are answered with SAME exactly where each of them is answered to refine the other.
+/// Two files are answered with SAME exactly where each of them is answered to refine the other, whichever is given first.
 pub fn same_where_both_refine()
-    ensures { (p q : Program) (k m n : List (List ℕ)) (x y z : Answer) → Refines p k q x → Refines q m p y → Compares p n q z
-        → ((text_of x ≡ codes "REFINES\n") × (text_of y ≡ codes "REFINES\n")) ↔ (text_of z ≡ codes "SAME\n") }
+    ensures { (files : Files) (tool first second : List ℕ) (k m n : ℕ) (x y z : List ℕ)
+        → Answers files (tool ∷ codes "refine" ∷ first ∷ second ∷ []) k x
+        → Answers files (tool ∷ codes "refine" ∷ second ∷ first ∷ []) m y
+        → Answers files (tool ∷ codes "same" ∷ first ∷ second ∷ []) n z
+        → ((x ≡ codes "REFINES\n") × (y ≡ codes "REFINES\n")) ↔ (z ≡ codes "SAME\n") }
 {
+    one_reading();
     refined_both_ways();
 }

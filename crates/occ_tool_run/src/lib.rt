@@ -11,6 +11,8 @@ mod measure;
 mod member;
 mod normal;
 mod refusal;
+mod rejection;
+mod replaying;
 mod stuck;
 #[cfg(test)]
 mod tests;

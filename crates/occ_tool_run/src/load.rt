@@ -1,14 +1,18 @@
 ghost use Rattle.std.specs.Prelude.{◌≡◌, ◌≤◌, ◌<◌, ◌∷◌, [], length, IfOk, IfSome};
-ghost use Rattle.occ_tool_run.specs.Files.{IsLoaded, IsShort, AsksFor, CountsStop, most_bytes, most_table_bytes};
+ghost use Rattle.occ_tool_run.specs.Files.{IsLoaded, IsShort, AsksFor, CountsStop, most_bytes, most_script_bytes, most_table_bytes, loaded_bytes, text_order};
 ghost use Rattle.occ_tool_run.specs.declared.load.Stop.TheVariants.{Memory as NoMemory};
 
 use occ_base::Memory;
 use occ_desk::{Desk, ReadError};
 use std::alloc::Global;
+use std::cmp::Ordering;
 use thiserror::Error;
 
 /// How many bytes the text of a program or of a behaviour has at most.
 pub const MOST_BYTES: u64 = 65_536;
+
+/// How many bytes a script has at most.
+const MOST_SCRIPT_BYTES: u64 = 4_194_304;
 
 /// How many bytes a normal text has at most.
 const MOST_TABLE_BYTES: u64 = 67_108_864;
@@ -20,6 +24,20 @@ pub enum Loaded {
     Bytes(Vec<u8>),
     /// It has more.
     TooLong,
+}
+
+impl Loaded {
+    /// The order of two texts by their bytes, one that is too long in front of all others.
+    pub fn order(&self, other: &Loaded) -> Ordering
+        ensures { result ≡ text_order (loaded_bytes self.now) (loaded_bytes other.now) }
+    {
+        match (self, other) {
+            (Loaded::Bytes(one), Loaded::Bytes(two)) => one.as_slice().cmp(&two.as_slice()),
+            (Loaded::Bytes(_), Loaded::TooLong) => Ordering::Greater,
+            (Loaded::TooLong, Loaded::Bytes(_)) => Ordering::Less,
+            (Loaded::TooLong, Loaded::TooLong) => Ordering::Equal,
+        }
+    }
 }
 
 /// Why there is no answer.
@@ -90,6 +108,21 @@ pub fn load_table<D: Desk>(alloc: Global, desk: &mut D, name: &str) -> Result<Lo
     ensures write_faults { D.write_faults desk.new ≡ D.write_faults desk.old }
 {
     load(alloc, desk, name, MOST_TABLE_BYTES)
+}
+
+/// Reads a file that is to hold a script.
+pub fn load_script<D: Desk>(alloc: Global, desk: &mut D, name: &str) -> Result<Loaded, Stop>
+    requires reads_countable { D.read_faults desk.old < u64.MAX }
+    requires writes_countable { D.write_faults desk.old < u64.MAX }
+    ensures content { IfOk result (λ loaded. IfSome (D.files desk.old) (λ files. IsLoaded most_script_bytes (files name.now) loaded)) }
+    ensures short { IfOk result (IsShort most_script_bytes) }
+    ensures asked { AsksFor (D.asked desk.old) (D.asked desk.new) (name.now ∷ []) result }
+    ensures read_faults { CountsStop (D.read_faults desk.old) (D.read_faults desk.new) result }
+    ensures files { D.files desk.new ≡ D.files desk.old }
+    ensures written { D.written desk.new ≡ D.written desk.old }
+    ensures write_faults { D.write_faults desk.new ≡ D.write_faults desk.old }
+{
+    load(alloc, desk, name, MOST_SCRIPT_BYTES)
 }
 
 /// Reads two files that are to hold texts of programs or behaviours, in order. The first that can't be read ends it.

@@ -1,5 +1,5 @@
 ghost use Rattle.std.specs.Prelude.{◌≡◌, ◌≢◌, ◌++◌, ◌∷◌, decimal, codes, IfOk};
-ghost use Rattle.occ_tool_run.specs.Texts.{place_text, line_of, fault_words, refusal_text, refused_at_text, words_of_usage, mark_text, line_fault_text, limit_text, row_refusal_text, table_refusal_text, FaultIsNamed};
+ghost use Rattle.occ_tool_run.specs.Texts.{place_text, line_of, fault_words, refusal_text, refused_at_text, words_of_usage, mark_text, line_fault_text, limit_text, row_refusal_text, script_refusal_text, table_refusal_text, FaultIsNamed, ScriptFaultIsTold};
 
 use itoa::Buffer;
 use occ_base::{Dir, Memory, Names};
@@ -7,6 +7,7 @@ use occ_behaviour::Side;
 use occ_lex::LineFault;
 use occ_nform_table::TableFault;
 use occ_parse_reading::{ParseFault, Which};
+use occ_script::ScriptFault;
 use occ_usage::UsageFault;
 use std::alloc::Global;
 
@@ -101,8 +102,21 @@ pub fn usage_refusal(
     Ok(text)
 }
 
+/// The line that refuses a script.
+pub fn script_refusal(alloc: Global, fault: ScriptFault) -> Result<Vec<u8>, Memory>
+    requires { ScriptFaultIsTold fault }
+    ensures { IfOk result (λ text. text.items ≡ script_refusal_text fault) }
+{
+    match fault {
+        ScriptFault::Form { line } => refusal_with(alloc, Side::First, line, b"Form"),
+        ScriptFault::Version { line } => refusal_with(alloc, Side::First, line, b"Version"),
+        ScriptFault::Text(fault) => refusal(alloc, Side::First, fault),
+        ScriptFault::Memory => unreachable!(),
+    }
+}
+
 /// The words for what the parts of a PAR share.
-fn usage_words(alloc: Global, names: &Names, fault: UsageFault) -> Result<Vec<u8>, Memory>
+pub fn usage_words(alloc: Global, names: &Names, fault: UsageFault) -> Result<Vec<u8>, Memory>
     requires { FaultIsNamed names.now fault }
     ensures { IfOk result (λ text. text.items ≡ words_of_usage names.now fault) }
 {

@@ -477,3 +477,35 @@ fn programs_are_stuck_or_not(rt: HostRuntime) -> Result<(), Fail> {
     }
     Ok(())
 }
+
+const SCRIPT: &str =
+    "occam-script 2\nFROM\nPROC p (WORD1 x)\n  SEQ\n    x := 1\n:\nSTEP seq-one FORWARD /\n  x := 1\nTO\nPROC p (WORD1 x)\n  x := 1\n:\n";
+
+const WRONG_END: &str =
+    "occam-script 2\nFROM\nPROC p ()\n  SEQ\n:\nSTEP seq-none FORWARD /\n  SKIP\nTO\nPROC p ()\n  STOP\n:\n";
+
+const NO_INSTANCE: &str =
+    "occam-script 2\nFROM\nPROC p ()\n  SEQ\n:\nSTEP seq-none BACKWARD /\n  SKIP\nTO\nPROC p ()\n  SKIP\n:\n";
+
+const NO_PATH: &str =
+    "occam-script 2\nFROM\nPROC p ()\n  SEQ\n:\nSTEP seq-none FORWARD /0\n  SKIP\nTO\nPROC p ()\n  SKIP\n:\n";
+
+const SHARED: &str =
+    "occam-script 2\nFROM\nPROC p (WORD1 x)\n  PAR\n    x := 1\n    x := 0\n:\nTO\nPROC p (WORD1 x)\n  STOP\n:\n";
+
+#[test]
+fn scripts_are_replayed(rt: HostRuntime) -> Result<(), Fail> {
+    for (script, status, text) in [
+        (SCRIPT, 0, "JOINED 1\n"),
+        (WRONG_END, 1, "REJECTED TO WrongEnd\n"),
+        (NO_INSTANCE, 1, "REJECTED 1 NotInstance\n"),
+        (NO_PATH, 1, "REJECTED 1 NoPath\n"),
+        (SHARED, 1, "REJECTED FROM 4 SharedVariable x\n"),
+        ("occam-script 1\n", 3, "REFUSED FIRST 1 Version\n"),
+    ] {
+        let (answer, desk) = command(rt.alloc(), &["occam", "replay", "A"], script, SKIP)?;
+        assert_eq!(rt; answer, status);
+        assert_eq!(rt; desk.written(), text.as_bytes());
+    }
+    Ok(())
+}

@@ -6,7 +6,9 @@ ghost use Rattle.occ_tool_run.specs.Answers.{IsAnswer, Answers};
 ghost use Rattle.occ_tool_run.specs.Ran.{Ran, Asked};
 
 use crate::answer::{Answer, status, text};
-use crate::files::{belongs_file, check_file, compare_files, deadlock_file, normalise_file};
+use crate::files::{
+    belongs_file, check_file, compare_files, deadlock_file, normalise_file, replay_file,
+};
 use crate::judge::Question;
 use crate::load::Stop;
 use crate::measure::stress;
@@ -115,5 +117,6 @@ fn find_answer<D: Desk>(alloc: Global, words: &[String], desk: &mut D) -> Result
             compare_files(alloc, Question::WhetherRefined, first, second, desk)
         }
         Command::Deadlock { program } => deadlock_file(alloc, program, desk),
+        Command::Replay { text } => replay_file(alloc, text, desk),
     }
 }

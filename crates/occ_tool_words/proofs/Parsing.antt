@@ -10,7 +10,7 @@ use Rattle.clap.specs.Kinds.{Kinds, or_else}
 use Rattle.clap.specs.Faults.{turn_fault, walk_fault, entered_fault, fault_of, settle_fault, defaults_fault, check_fault, stray_fault}
 use Rattle.clap.specs.Simple.{App, Shape, built, names_of, rows_at, subcommand_of, entered}
 use Rattle.clap.proofs.OnLiterals.{clap_on_literals}
-use Rattle.occ_tool_words.specs.Words.{Job, same, normalise, normal, belongs, refine, deadlock, is_plain, job_of, stress_of, with_one, with_two}
+use Rattle.occ_tool_words.specs.Words.{Job, same, normalise, normal, belongs, refine, deadlock, replay, is_plain, job_of, stress_of, with_one, with_two}
 use Rattle.occ_tool_words.specs.CommandLine.{line, job_found, job_named}
 use Rattle.std.proofs.Common.{String, Global, string_bytes}
 use Rattle.std.specs.Prelude.{Box}
@@ -38,6 +38,7 @@ data One : Type 0 where
   normalises : One
   checks : One
   sticks : One
+  replays : One
 
 data Two : Type 0 where
   compares : Two
@@ -49,6 +50,7 @@ abbrev one_named : One → Text
 one_named normalises = codes "normalise"
 one_named checks = codes "normal"
 one_named sticks = codes "deadlock"
+one_named replays = codes "replay"
 
 abbrev two_named : Two → Text
 two_named compares = codes "same"
@@ -65,6 +67,7 @@ record IsOther (word : Text) : Type 0 where
   not_stress : bytes_eq (codes "stress") word ≡ false
   not_refine : bytes_eq (codes "refine") word ≡ false
   not_deadlock : bytes_eq (codes "deadlock") word ≡ false
+  not_replay : bytes_eq (codes "replay") word ≡ false
 
 data Naming (word : Text) : Type 0 where
   names_one : (v : One) → one_named v ≡ word → Naming word
@@ -90,7 +93,19 @@ naming word =
                 | inl e ↦ names_two refines (equal (codes "refine") word e)
                 | inr g ↦ elim (cases_Bool (bytes_eq (codes "deadlock") word)) [
                   | inl e ↦ names_one sticks (equal (codes "deadlock") word e)
-                  | inr h ↦ names_none (record { not_same = a; not_normalise = b; not_normal = c; not_belongs = d; not_stress = f; not_refine = g; not_deadlock = h })
+                  | inr h ↦ elim (cases_Bool (bytes_eq (codes "replay") word)) [
+                    | inl e ↦ names_one replays (equal (codes "replay") word e)
+                    | inr i ↦ names_none (record {
+                      not_same = a;
+                      not_normalise = b;
+                      not_normal = c;
+                      not_belongs = d;
+                      not_stress = f;
+                      not_refine = g;
+                      not_deadlock = h;
+                      not_replay = i;
+                    })
+                  ]
                 ]
               ]
             ]
@@ -123,7 +138,7 @@ other_name word other =
     past_name (codes "same") word (drop 1 names) other.not_same ∙ past_name (codes "normalise") word (drop 2 names) other.not_normalise
     ∙ past_name (codes "normal") word (drop 3 names) other.not_normal ∙ past_name (codes "belongs") word (drop 4 names) other.not_belongs
     ∙ past_name (codes "stress") word (drop 5 names) other.not_stress ∙ past_name (codes "refine") word (drop 6 names) other.not_refine
-    ∙ past_name (codes "deadlock") word [] other.not_deadlock
+    ∙ past_name (codes "deadlock") word (drop 7 names) other.not_deadlock ∙ past_name (codes "replay") word [] other.not_replay
 
 stray : (name word : Text) (more : List Text) → is_plain word ≡ true → IsOther word → fault_of line (name ∷ word ∷ more) ≡ [] → ⊥
 unfolding walk_fault
@@ -176,6 +191,12 @@ enters_one checks = record {
 enters_one sticks = record {
   walks = λ more. kept top.rules names (codes "deadlock") [] more;
   passes = λ more. no_more_faults top names (codes "deadlock") [] more;
+  fails = λ more. refl;
+  found = λ more. refl;
+}
+enters_one replays = record {
+  walks = λ more. kept top.rules names (codes "replay") [] more;
+  passes = λ more. no_more_faults top names (codes "replay") [] more;
   fails = λ more. refl;
   found = λ more. refl;
 }
@@ -289,24 +310,29 @@ turned xs ys e = elim (cases_Bool (bytes_eq ys xs)) [
   | inr f ↦ f
 ]
 
+-- a word that isn't another one goes on to what follows
+passed : (text word : Text) (here behind : Option Job) → bytes_eq text word ≡ false → behind ≡ None → cond (bytes_eq word text) here behind ≡ None
+passed text word here behind other e = ap (λ b. cond b here behind) (turned text word other) ∙ e
+
 other_one : (word a : Text) → IsOther word → with_one word a ≡ None
 other_one word a other =
-    ap (λ b. cond b (Some (normalise a)) (cond (bytes_eq word (codes "normal")) (Some (normal a)) (cond (bytes_eq word (codes "deadlock")) (Some (deadlock a)) None))) (turned (codes "normalise") word other.not_normalise)
-    ∙ ap (λ b. cond b (Some (normal a)) (cond (bytes_eq word (codes "deadlock")) (Some (deadlock a)) None)) (turned (codes "normal") word other.not_normal)
-    ∙ ap (λ b. cond b (Some (deadlock a)) None) (turned (codes "deadlock") word other.not_deadlock)
+    passed (codes "normalise") word _ _ other.not_normalise
+    (passed (codes "normal") word _ _ other.not_normal
+    (passed (codes "deadlock") word _ _ other.not_deadlock
+    (passed (codes "replay") word _ _ other.not_replay refl)))
 
 other_two : (word a b : Text) → IsOther word → with_two word a b ≡ None
 other_two word a b other =
-    ap (λ t. cond t (Some (same a b)) (cond (bytes_eq word (codes "belongs")) (Some (belongs a b)) (cond (bytes_eq word (codes "stress")) (stress_of a b) (cond (bytes_eq word (codes "refine")) (Some (refine a b)) None))))
-    (turned (codes "same") word other.not_same)
-    ∙ ap (λ t. cond t (Some (belongs a b)) (cond (bytes_eq word (codes "stress")) (stress_of a b) (cond (bytes_eq word (codes "refine")) (Some (refine a b)) None))) (turned (codes "belongs") word other.not_belongs)
-    ∙ ap (λ t. cond t (stress_of a b) (cond (bytes_eq word (codes "refine")) (Some (refine a b)) None)) (turned (codes "stress") word other.not_stress)
-    ∙ ap (λ t. cond t (Some (refine a b)) None) (turned (codes "refine") word other.not_refine)
+    passed (codes "same") word _ _ other.not_same
+    (passed (codes "belongs") word _ _ other.not_belongs
+    (passed (codes "stress") word _ _ other.not_stress
+    (passed (codes "refine") word _ _ other.not_refine refl)))
 
 not_with_two : (v : One) (a b : Text) → with_two (one_named v) a b ≡ None
 not_with_two normalises a b = refl
 not_with_two checks a b = refl
 not_with_two sticks a b = refl
+not_with_two replays a b = refl
 
 not_with_one : (v : Two) (a : Text) → with_one (two_named v) a ≡ None
 not_with_one compares a = refl
@@ -360,6 +386,7 @@ one_is_plain : (v : One) → is_plain (one_named v) ≡ true
 one_is_plain normalises = refl
 one_is_plain checks = refl
 one_is_plain sticks = refl
+one_is_plain replays = refl
 
 two_is_plain : (v : Two) → is_plain (two_named v) ≡ true
 two_is_plain compares = refl

@@ -16,10 +16,12 @@ two_word_line name = with_rule (one_word_line name) (required_word (codes "secon
 abbrev pub command_line : (List ℕ × ℕ) → App
 command_line command = if command.1 == 1 then one_word_line command.0 else two_word_line command.0
 
+abbrev pub later_commands : List (List ℕ × ℕ)
+later_commands = (codes "refine", 2) ∷ (codes "deadlock", 1) ∷ (codes "replay", 1) ∷ []
+
 -- the commands, and how many words each takes
 abbrev pub commands : List (List ℕ × ℕ)
-commands = (codes "same", 2) ∷ (codes "normalise", 1) ∷ (codes "normal", 1) ∷ (codes "belongs", 2) ∷ (codes "stress", 2) ∷ (codes "refine", 2)
-    ∷ (codes "deadlock", 1) ∷ []
+commands = (codes "same", 2) ∷ (codes "normalise", 1) ∷ (codes "normal", 1) ∷ (codes "belongs", 2) ∷ (codes "stress", 2) ∷ later_commands
 
 abbrev pub bare_line : App
 bare_line = record (new_app (codes "occam")) {

@@ -4,7 +4,7 @@ use Rattle.std.specs.Str.{bytes_eq}
 use Rattle.occ_gen.specs.declared.shape.Shape.{Shape}
 use Rattle.occ_gen.specs.declared.shape.Shape.TheVariants.{Buffers, Adders, Muxes}
 use Rattle.occ_tool_words.specs.declared.words.Command.{Command}
-use Rattle.occ_tool_words.specs.declared.words.Command.TheVariants.{Usage, Same, Normalise, Normal, Belongs, Stress, Refine, Deadlock}
+use Rattle.occ_tool_words.specs.declared.words.Command.TheVariants.{Usage, Same, Normalise, Normal, Belongs, Stress, Refine, Deadlock, Replay}
 
 -- a command with its words: those that name files as they stand, the kind of a chain, and how many stages it has
 pub data Job : Type 0 where
@@ -15,6 +15,7 @@ pub data Job : Type 0 where
   stress : Shape → ℕ → Job
   refine : List ℕ → List ℕ → Job
   deadlock : List ℕ → Job
+  replay : List ℕ → Job
 
 abbrev pub job : Command → Option Job
 job Usage = None
@@ -25,6 +26,7 @@ job (Belongs program text) = Some (belongs program.now text.now)
 job (Stress shape stages) = Some (stress shape stages)
 job (Refine first second) = Some (refine first.now second.now)
 job (Deadlock program) = Some (deadlock program.now)
+job (Replay text) = Some (replay text.now)
 
 -- the word isn't empty and doesn't begin with a hyphen
 abbrev pub is_plain : List ℕ → Bool
@@ -63,7 +65,8 @@ abbrev pub with_one : List ℕ → List ℕ → Option Job
 with_one command first =
     if bytes_eq command (codes "normalise") then Some (normalise first)
     else (if bytes_eq command (codes "normal") then Some (normal first)
-    else (if bytes_eq command (codes "deadlock") then Some (deadlock first) else None))
+    else (if bytes_eq command (codes "deadlock") then Some (deadlock first)
+    else (if bytes_eq command (codes "replay") then Some (replay first) else None)))
 
 -- a command that two words follow
 abbrev pub with_two : List ℕ → List ℕ → List ℕ → Option Job
@@ -92,6 +95,7 @@ files_of (belongs program text) = program ∷ text ∷ []
 files_of (stress shape stages) = []
 files_of (refine first second) = first ∷ second ∷ []
 files_of (deadlock program) = program ∷ []
+files_of (replay text) = text ∷ []
 
 abbrev pub file_words_of : Option Job → List (List ℕ)
 file_words_of None = []

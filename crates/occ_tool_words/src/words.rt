@@ -1,7 +1,7 @@
 ghost use Rattle.std.specs.Prelude.{◌≡◌, ◌↔◌, map, drop, string_bytes, option_map, option_and_then, IfOk, IsTrue, true, false};
-ghost use Rattle.std.specs.List.{list_all};
+ghost use Rattle.std.specs.List.{fold, list_all};
 ghost use Rattle.occ_tool_words.specs.Words.{is_plain, job, job_of, stress_of, with_one, with_two};
-ghost use Rattle.occ_tool_words.specs.CommandLine.{bare_line as no_commands, line as whole_line, job_found, job_named, one_word_line, two_word_line, with_command};
+ghost use Rattle.occ_tool_words.specs.CommandLine.{bare_line as no_commands, line as whole_line, job_found, job_named, later_commands, one_word_line, two_word_line, with_command};
 ghost use Rattle.std.specs.Option.{option_copied};
 ghost use Rattle.clap.specs.Words.{app_of, subcommand_rows_of, kind_of};
 ghost use Rattle.clap.specs.declared.builder.command.Command.TheViews.{out-Command as fields_of};
@@ -32,6 +32,8 @@ pub enum Command<'a> {
     Refine { first: &'a str, second: &'a str },
     /// To say whether the program in a file can be stuck.
     Deadlock { program: &'a str },
+    /// To check the derivation in a file, law by law.
+    Replay { text: &'a str },
 }
 
 /// What the words of a command line ask for, the program's own name first.
@@ -89,8 +91,16 @@ fn command_line<'a>(alloc: Global) -> Result<clap::Command<'a>, AllocError>
     let line = add_one(alloc, line, "normal")?;
     let line = add_two(alloc, line, "belongs")?;
     let line = add_two(alloc, line, "stress")?;
+    add_later(alloc, line)
+}
+
+/// Adds the commands behind `stress`.
+fn add_later<'a>(alloc: Global, line: clap::Command<'a>) -> Result<clap::Command<'a>, AllocError>
+    ensures { IfOk result (λ made. app_of made ≡ fold with_command (app_of line.entry) later_commands) }
+{
     let line = add_two(alloc, line, "refine")?;
-    add_one(alloc, line, "deadlock")
+    let line = add_one(alloc, line, "deadlock")?;
+    add_one(alloc, line, "replay")
 }
 
 /// The command line with no command yet.
@@ -173,6 +183,8 @@ fn command_of_one<'a>(name: &str, first: &'a str) -> Command<'a>
         Command::Normal { text: first }
     } else if name == "deadlock" {
         Command::Deadlock { program: first }
+    } else if name == "replay" {
+        Command::Replay { text: first }
     } else {
         Command::Usage
     }

@@ -1,15 +1,14 @@
-use Rattle.occ_tool_run.proofs.Judging.{refuse_first, refuse_second, settle}
+use Rattle.std.proofs.Common.{◌∙◌, sym}
+use Rattle.std.specs.declared.cmp.Ordering.TheVariants.{Less, Equal, Greater}
+use Rattle.occ_tool_run.proofs.Pairs.{of_alike, ordered}
 use Rattle.occ_tool_run.proofs.judge.judge.Goals as goal
 
-pub returns-in-Err-clause-settles : goal.returns-in-Err-clause-settles
-returns-in-Err-clause-settles c = refuse_first c.args.question c.refused.result c.args.first.now c.args.second.now _ c.in-Err.refusal c.refused.ensures.refused c.in-Err.ensures.refused
+pub returns-in-Less-clause-settles : goal.returns-in-Less-clause-settles
+returns-in-Less-clause-settles c = ordered Less c.args.question c.in_order.result c.args.first.now c.args.second.now (sym c.order.ensures ∙ c.in-Less.is) c.in_order.ensures.settles
 
-pub returns-in-Err-accept-clause-settles : goal.returns-in-Err-accept-clause-settles
-returns-in-Err-accept-clause-settles c =
-    refuse_second c.args.question c.refused-in-Err-accept.result c.args.first.now c.args.second.now _ _ c.in-Ok.accepted.program c.in-Err-accept.refusal c.in-Ok.ensures.accepted
-    c.refused-in-Err-accept.ensures.refused c.in-Err-accept.ensures.refused
+pub returns-in-Equal-clause-settles : goal.returns-in-Equal-clause-settles
+returns-in-Equal-clause-settles c = ordered Equal c.args.question c.alike.result c.args.first.now c.args.second.now (sym c.order.ensures ∙ c.in-Equal.is)
+    (of_alike c.args.question c.alike.result c.args.first.now c.args.second.now c.alike.ensures.settles)
 
-pub returns-clause-settles : goal.returns-clause-settles
-returns-clause-settles c =
-    settle c.args.question c.reply.result c.args.first.now c.args.second.now _ _ c.in-Ok.accepted.program c.in-Ok-accept.accepted.program c.in-Ok.ensures.accepted c.in-Ok-accept.ensures.accepted
-    c.reply.ensures.settles
+pub returns-in-Greater-clause-settles : goal.returns-in-Greater-clause-settles
+returns-in-Greater-clause-settles c = ordered Greater c.args.question c.turned.result c.args.first.now c.args.second.now (sym c.order.ensures ∙ c.in-Greater.is) c.turned.ensures.settles

@@ -15,4 +15,9 @@ returns c = one_answer (record {
 }) (record { one = c.one_verdict.ensures; refinement = c.one_refinement.ensures; deadlock = c.one_deadlock.ensures }) (record {
   distinct = λ text new p ls r. (c.parameters_have_names.ensures text [] new p.name p.params (tree p.body) ls no_name_twice r).0;
   one = c.normal_texts_tell_programs_apart.ensures;
+}) (record {
+  one_script = λ text old m n s t f g. c.one_script.ensures.script text old m n s t f g;
+  one_fault = λ text old e f g h. c.one_script.ensures.fault text old e f g h;
+  not_both = λ text old m s e g h. c.one_script.ensures.apart text old m s e g h;
+  one_answer = c.scripts_have_one_answer.ensures;
 })
