@@ -1,10 +1,11 @@
-ghost use Rattle.std.specs.Prelude.{◌≡◌, [], ◌∷◌, ◌++◌, ◌^◌, ◌-◌, OnOk, OnErr, IfOk, IsSome, MatchOption};
+ghost use Rattle.std.specs.Prelude.{◌≡◌, ◌<◌, [], ◌∷◌, ◌++◌, ◌^◌, ◌-◌, OnOk, OnErr, IfOk, IsSome, MatchOption, length, slice_index_or, slice_set};
 ghost use Rattle.occ_syntax.specs.Declarations.{IsDeclared, declaring, declaring_all};
 ghost use Rattle.occ_syntax.specs.View.{tree, trees, cases, branches, in_procs, in_choices, in_alternatives};
 
 use crate::{Expr, Exprs, Guard, Kind, NameList};
 use occ_base::{Memory, Name, Width};
 use std::alloc::Global;
+use std::mem::replace;
 
 /// A process.
 #[derive(Debug)]
@@ -164,6 +165,15 @@ impl Procs {
     {
         self.list.as_slice()
     }
+
+    /// Puts a process in the place of the one that stands there, and gives that one. It takes no memory.
+    pub fn exchange(&mut self, place: usize, item: Proc) -> Proc
+        requires { place < length (in_procs self.old) }
+        ensures taken { result ≡ slice_index_or (in_procs self.old) place result }
+        ensures put { in_procs self.new ≡ slice_set (in_procs self.old) place item }
+    {
+        replace(&mut self.list[place], item)
+    }
 }
 
 #[tactic(auto, unfolding(crate::specs::View::in_choices))]
@@ -192,6 +202,15 @@ impl Choices {
     {
         self.list.as_slice()
     }
+
+    /// Puts a choice in the place of the one that stands there, and gives that one. It takes no memory.
+    pub fn exchange(&mut self, place: usize, item: (Expr, Proc)) -> (Expr, Proc)
+        requires { place < length (in_choices self.old) }
+        ensures taken { result ≡ slice_index_or (in_choices self.old) place result }
+        ensures put { in_choices self.new ≡ slice_set (in_choices self.old) place item }
+    {
+        replace(&mut self.list[place], item)
+    }
 }
 
 #[tactic(auto, unfolding(crate::specs::View::in_alternatives))]
@@ -219,5 +238,14 @@ impl Alternatives {
         ensures { result.now ≡ in_alternatives self.now }
     {
         self.list.as_slice()
+    }
+
+    /// Puts an alternative in the place of the one that stands there, and gives that one. It takes no memory.
+    pub fn exchange(&mut self, place: usize, item: (Guard, Proc)) -> (Guard, Proc)
+        requires { place < length (in_alternatives self.old) }
+        ensures taken { result ≡ slice_index_or (in_alternatives self.old) place result }
+        ensures put { in_alternatives self.new ≡ slice_set (in_alternatives self.old) place item }
+    {
+        replace(&mut self.list[place], item)
     }
 }
