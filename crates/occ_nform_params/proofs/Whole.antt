@@ -22,7 +22,7 @@ use Rattle.occ_parse_sound.proofs.Small.{param_bits}
 use Rattle.occ_parse_layout.specs.declared.placed.Frame.TheVariants as frame
 use Rattle.occ_parse_layout.specs.Whole.{IsProgram}
 use Rattle.occ_parse_layout.proofs.Framed.{whole_of}
-use Rattle.occ_parse_unroll.specs.Elements.{with_places, with_elements, program_places, params_places, elements}
+use Rattle.occ_parse_unroll.specs.Elements.{with_element, with_places, with_elements, program_places, params_places, elements}
 use Rattle.occ_parse_unroll.specs.Numbers.{number_in}
 use Rattle.occ_parse_unroll.proofs.Elements.{places_behind}
 use Rattle.occ_parse_reading.specs.declared.bound.Bound.TheVariants as bound
@@ -99,7 +99,7 @@ by_tables : (old t : Table) (name : Name) (params : List Param) (below : Forest)
 by_tables old t name params below d g k table =
     let rest = (elements below).first (param_scope params) (λ i. 0) in
     let mid = with_places old (params_places params) in
-    let two : t ≡ with_places mid rest = table ∙ places_behind old (params_places params) rest in
+    let two : t ≡ with_places mid rest = table ∙ places_behind with_element old (params_places params) rest in
     let behind : Extends mid t = subst (Extends mid) (sym two) (places_extend mid rest) in
     let all : Extends old t = extends_trans old mid t (places_extend old (params_places params)) behind in
     let distinct : IsDistinct t = subst IsDistinct (sym table) (places_distinct old (program_places params below) d) in

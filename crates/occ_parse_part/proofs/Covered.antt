@@ -9,7 +9,7 @@ use Rattle.occ_parse_sound.specs.Agreement.{Has}
 use Rattle.occ_parse_unroll.specs.Numbers.{number_in}
 use Rattle.occ_parse.proofs.Places.{knows as in_table}
 use Rattle.occ_parse_part.specs.Elements.{Elements, element_count, elements_in, named_row, no_elements, row_in, row_number, with_arrays_in, with_row}
-use Rattle.occ_parse_part.proofs.Single.{eqb-refl}
+use Rattle.occ_parse_part.proofs.Equal.{eqb-refl}
 use Rattle.occ_parse_part.specs.Parts.{IsNumbered}
 use Rattle.occ_parse_part.proofs.Counted.{count_is}
 

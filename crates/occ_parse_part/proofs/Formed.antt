@@ -19,7 +19,7 @@ use Rattle.occ_parse_rules.specs.Forest.{Forest, no_line, and_line, Laid, lines_
 use Rattle.occ_parse_rules.specs.Places.{Place, places, elements_from}
 use Rattle.occ_parse_sound.specs.Agreement.{Has, declared_places, AreKnown}
 use Rattle.occ_parse_sound.specs.Passing.{shape_passes}
-use Rattle.occ_parse_unroll.specs.Elements.{with_places}
+use Rattle.occ_parse_unroll.specs.Elements.{with_element, with_places}
 use Rattle.occ_parse_unroll.specs.Numbers.{number_in}
 use Rattle.occ_parse_unroll.proofs.Elements.{places_behind}
 use Rattle.occ_parse_reading.specs.declared.fault.ParseFault.{ParseFault}
@@ -29,7 +29,7 @@ use Rattle.occ_parse.proofs.Knowing.{EachLine, IsLineOf, each_map, each_of_lines
 use Rattle.occ_parse.proofs.Places.{knows as in_table, HasElement, HasPlace, all_brought_in, are_known, forest_all, known_step, lines_places, one_to_one, places_extend, small_at}
 use Rattle.occ_parse_part.specs.Arrays.{arrays_of, declared_array, line_arrays}
 use Rattle.occ_parse_part.specs.Elements.{Elements, element_count, elements_in, no_elements, with_arrays}
-use Rattle.occ_parse_part.proofs.Single.{eqb-refl}
+use Rattle.occ_parse_part.proofs.Equal.{eqb-refl}
 use Rattle.occ_parse_part.specs.Parts.{AreJudged, IsGood, IsWellLaid, is_element, is_itself, knows}
 use Rattle.occ_parse_part.proofs.Known.{arrays_known, arrays_pass, lines_are_of, lines_pass_test, names_pass}
 use Rattle.occ_parse_part.proofs.Laid.{part_placed}
@@ -159,7 +159,7 @@ arrays_places : (t : List (List ℕ)) (arrays : List Name) → with_arrays t arr
 arrays_places t [] = refl
 arrays_places t (x ∷ arrays) =
     let first = elements_from x.0 0 element_count in
-    arrays_places (with_places t first) arrays ∙ sym (places_behind t first (all_elements arrays))
+    arrays_places (with_places t first) arrays ∙ sym (places_behind with_element t first (all_elements arrays))
 
 below_elements : (n x k m : ℕ) → x < n → AllByRecursion (λ (p : Place). p.name < n) (elements_from x k m)
 below_elements n x k zero h = tt

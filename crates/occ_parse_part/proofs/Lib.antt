@@ -1,11 +1,11 @@
-mod Single
+mod Equal
 mod Kept
-mod Counted
+pub mod Counted
 mod Listed
-mod Known
+pub mod Known
 mod Laid
 mod Scoped
 mod Typed
-mod Covered
+pub mod Covered
 mod Formed
 mod Once

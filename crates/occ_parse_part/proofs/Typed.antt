@@ -24,7 +24,7 @@ use Rattle.occ_parse_reading.specs.declared.fault.ParseFault.{ParseFault}
 use Rattle.occ_parse_reading.specs.declared.fault.ParseFault.TheVariants as fault
 use Rattle.occ_parse_reading.specs.Drafts.{as_fault, name_fault_on, type_fault_on}
 use Rattle.occ_parse_part.specs.Elements.{Elements, numbers}
-use Rattle.occ_parse_part.proofs.Single.{eqb-refl}
+use Rattle.occ_parse_part.proofs.Equal.{eqb-refl}
 use Rattle.occ_parse_part.specs.Parts.{Part, IsGood, IsNumbered, is_element, is_itself, knows}
 use Rattle.occ_parse_part.specs.Resolving.{part_fault, part_process, scope_of, scope_params}
 

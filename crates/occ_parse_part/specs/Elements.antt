@@ -7,7 +7,7 @@ use Rattle.occ_parse_forms.specs.declared.form.Declared.TheVariants as declared
 use Rattle.occ_parse_rules.specs.Places.{elements_from}
 use Rattle.occ_parse_rules.specs.Unrolled.{Numbers}
 use Rattle.occ_parse_unroll.specs.Elements.{with_places}
-use Rattle.occ_parse_unroll.specs.Numbers.{number_in}
+use Rattle.occ_parse_unroll.specs.Numbers.{number_in, numbering}
 
 -- The number of the element of an array at a place, and what a name is: an element, or else a name by itself.
 pub record Elements : Type 0 where
@@ -19,8 +19,7 @@ no_elements = record { number = λ x k. 0; named = λ n. declared.Plain (record 
 
 -- the number of each name, and of each element
 abbrev pub numbers : Elements → Numbers
-numbers e x None = x
-numbers e x (Some k) = e.number x k
+numbers e = numbering e.number
 
 -- ---- one array more
 

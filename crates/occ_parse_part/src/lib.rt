@@ -4,13 +4,10 @@
 
 mod arrays;
 mod elements;
-mod expression;
 mod faults;
 mod forming;
 mod laws;
-mod line;
-mod naming;
-mod process;
+mod numbering;
 mod raw;
 mod resolving;
 mod rows;

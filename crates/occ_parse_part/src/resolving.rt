@@ -8,12 +8,12 @@ ghost use Rattle.occ_parse_part.specs.Shown.{part_of};
 
 use crate::elements::Elements;
 use crate::faults::fault_in;
-use crate::process::slot;
+use crate::numbering::Known;
 use crate::raw::Raw;
-use occ_base::{Memory, Name};
+use occ_base::{Memory, Name, Names};
 use occ_parse_forms::Param;
 use occ_parse_reading::ParseFault;
-use occ_parse_unroll::Context;
+use occ_parse_unroll::{Context, slot};
 use occ_syntax::{Kind, Proc, Scope};
 use std::alloc::Global;
 
@@ -53,6 +53,11 @@ pub fn resolve(alloc: Global, scope: &Scope, raw: &Raw) -> Result<Proc, ParseFau
     if let Some(fault) = fault_in(alloc, &mut context.scopes, nodes)? {
         return Err(fault);
     }
-    let process = slot(alloc, &raw.elements, &mut context, nodes)?;
+    let known = Known {
+        alloc,
+        elements: &raw.elements,
+    };
+    let mut names = Names::new(alloc);
+    let process = slot(&known, &mut names, &mut context, nodes)?;
     Ok(process)
 }

@@ -11,6 +11,3 @@ mod types;
 
 pub use directions::{direction_fault, direction_fault_in};
 pub use types::{type_fault, type_fault_in};
-
-#[cfg(test)]
-mod cases;

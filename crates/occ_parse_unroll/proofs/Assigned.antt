@@ -1,30 +1,18 @@
 -- The two sides of an assignment, item by item.
-use Rattle.std.proofs.Common.{◌≡◌, ℕ, zero, suc, subst, unwrap_or, ◌+◌, ◌<◌, ◌≤◌, min, List, [], ◌∷◌, ◌++◌, length, get_or, drop, map, refl, sym, ap, ◌∙◌, arith, append_assoc, ⊎_elim}
+use Rattle.std.proofs.Common.{◌≡◌, ℕ, zero, suc, subst, unwrap_or, ◌+◌, ◌<◌, ◌≤◌, min, List, [], ◌∷◌, ◌++◌, length, get_or, drop, refl, sym, ap, ◌∙◌, arith, append_assoc, ⊎_elim}
 use Rattle.std.proofs.lemmas.Bool.{cases_lt}
 use Rattle.std.proofs.lemmas.List.{drop_more, drop_all, map-append, append-nil}
 use Rattle.std.specs.List.{AllByRecursion}
-use Rattle.occ_base.specs.declared.names.Name.{Name}
 use Rattle.occ_base.specs.declared.width.Width.{Width}
 use Rattle.occ_base.specs.declared.width.Width.TheVariants.{Bool as TruthValue}
 use Rattle.occ_syntax.specs.declared.expr.Expr.{Expr}
-use Rattle.occ_syntax.specs.View.{exp, exps, numbers}
+use Rattle.occ_syntax.specs.View.{exp, exps}
 use Rattle.occ_parse_forms.specs.declared.form.Item.{Item}
 use Rattle.occ_parse_forms.specs.declared.phrase.Phrase.{Phrase}
 use Rattle.occ_parse_forms.specs.Shape.{Said, said, all_said}
 use Rattle.occ_parse_rules.specs.Places.{Sorts, Indices}
 use Rattle.occ_parse_rules.specs.Types.{variable_here}
-use Rattle.occ_parse_rules.specs.Unrolled.{Numbers, item_number, expression, value, values}
-
-pub one_left : (N : Numbers) (ρ : Indices) (items : List Item) (i : ℕ) (z : Item) (list list' : List Name) (name : Name) → i < length items
-    → name.0 ≡ item_number N ρ (get_or items i z) → list' ≡ list ++ name ∷ []
-    → numbers list' ++ map (item_number N ρ) (drop (i + 1) items) ≡ numbers list ++ map (item_number N ρ) (drop i items)
-one_left N ρ items i z list list' name h e p =
-    let rest = map (item_number N ρ) (drop (i + 1) items) in
-    ap (λ l. numbers l ++ rest) p
-    ∙ ap (λ l. l ++ rest) (map-append (λ n. n.0) list (name ∷ []))
-    ∙ append_assoc (numbers list) (name.0 ∷ []) rest
-    ∙ ap (λ n. numbers list ++ n ∷ rest) e
-    ∙ sym (ap (λ xs. numbers list ++ map (item_number N ρ) xs) (drop_more items i z h))
+use Rattle.occ_parse_rules.specs.Unrolled.{Numbers, expression, value, values}
 
 pub one_value : (N : Numbers) (Γ : Sorts) (ρ : Indices) (left : List Item) (right : List Phrase) (i : ℕ) (z : Item) (phrase : Phrase) (width : Width) (list list' : List Expr) (e : Expr)
     → i < length left → i < length right → phrase ≡ get_or right i phrase → width ≡ unwrap_or (variable_here Γ ρ (get_or left i z)) TruthValue

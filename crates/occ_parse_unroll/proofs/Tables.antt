@@ -79,8 +79,8 @@ item_at N ρ item index k e d =
     sym (ap (λ o. number_of N (place_with ρ item.name.0 o)) e ∙ ap (λ p. number_of N (element_at item.name.0 p)) (sym d))
 
 -- an element at the place that its index gives
-pub item_ok : (new : List (List ℕ)) (ρ : Indices) (item : Item) (index : Index) (k : ℕ) (r : Result Name Memory) → item.index ≡ Some index → Some k ≡ index_at ρ index
-    → IfOk r (λ name. (t : List (List ℕ)) → Extends new t → name.0 ≡ number_in t item.name.0 (Some k))
-    → IfOk r (λ name. (t : List (List ℕ)) → Extends new t → name.0 ≡ item_number (number_in t) ρ item)
-item_ok new ρ item index k (Ok name) e d h = λ t f. h t f ∙ item_at (number_in t) ρ item index k e d
-item_ok new ρ item index k (Err memory) e d h = tt
+pub item_ok : (N : List (List ℕ) → Numbers) (new : List (List ℕ)) (ρ : Indices) (item : Item) (index : Index) (k : ℕ) (r : Result Name Memory) → item.index ≡ Some index → Some k ≡ index_at ρ index
+    → IfOk r (λ name. (t : List (List ℕ)) → Extends new t → name.0 ≡ N t item.name.0 (Some k))
+    → IfOk r (λ name. (t : List (List ℕ)) → Extends new t → name.0 ≡ item_number (N t) ρ item)
+item_ok N new ρ item index k (Ok name) e d h = λ t f. h t f ∙ item_at (N t) ρ item index k e d
+item_ok N new ρ item index k (Err memory) e d h = tt

@@ -21,17 +21,28 @@ use Rattle.occ_parse_unroll.specs.Numbers.{element_text}
 
 -- ---- tables
 
+-- The table behind one place, and behind places one after the other, where a rule says what an element brings in. A name by
+-- itself brings nothing in.
+abbrev pub brought_one : (List (List ℕ) → ℕ → ℕ → List (List ℕ)) → List (List ℕ) → ℕ → Option ℕ → List (List ℕ)
+brought_one brings texts x None = texts
+brought_one brings texts x (Some k) = brings texts x k
+
+abbrev pub brought : (List (List ℕ) → ℕ → ℕ → List (List ℕ)) → List (List ℕ) → List Place → List (List ℕ)
+brought brings texts [] = texts
+brought brings texts (p ∷ ps) = brought brings (brought_one brings texts p.name p.element) ps
+
 -- The table in which an element's text stands: its array's text in the table at hand, and the place in brackets behind it.
 -- A name by itself is in the table already. What is in a table keeps its number, so that the text of an array that the
 -- first table has is its text there.
+abbrev pub with_element : List (List ℕ) → ℕ → ℕ → List (List ℕ)
+with_element texts x k = with_text texts (element_text (slice_index_or texts x []) k)
+
 abbrev pub with_place : List (List ℕ) → ℕ → Option ℕ → List (List ℕ)
-with_place texts x None = texts
-with_place texts x (Some k) = with_text texts (element_text (slice_index_or texts x []) k)
+with_place texts x k = brought_one with_element texts x k
 
 -- the table in which the elements among places stand, one after the other
 abbrev pub with_places : List (List ℕ) → List Place → List (List ℕ)
-with_places texts [] = texts
-with_places texts (p ∷ ps) = with_places (with_place texts p.name p.element) ps
+with_places texts ps = brought with_element texts ps
 
 -- ---- a line's places, in order
 

@@ -7,7 +7,14 @@ use Rattle.occ_parse_rules.specs.Unrolled.{Numbers}
 abbrev pub element_text : List ℕ → ℕ → List ℕ
 element_text text k = text ++ codes "[" ++ decimal k ++ codes "]"
 
--- a name by itself has its own number, and an element that of its text
+-- a name by itself has its own number, and an element that of a rule
+abbrev pub numbering : (ℕ → ℕ → ℕ) → Numbers
+numbering number x None = x
+numbering number x (Some k) = number x k
+
+-- the number of an element in a table: that of its text
+abbrev pub element_number : List (List ℕ) → ℕ → ℕ → ℕ
+element_number texts x k = place_of texts (element_text (slice_index_or texts x []) k)
+
 abbrev pub number_in : List (List ℕ) → Numbers
-number_in texts x None = x
-number_in texts x (Some k) = place_of texts (element_text (slice_index_or texts x []) k)
+number_in texts = numbering (element_number texts)

@@ -1,14 +1,14 @@
 ghost use Rattle.std.specs.Prelude.{◌≡◌, ◌<◌, ◌∷◌, [], drop, length, unwrap_or, OnOk};
 ghost use Rattle.occ_parse_rules.specs.Names.{index_name, is_counter as is_counter_sort, name_counts};
-ghost use Rattle.occ_parse_rules.specs.Places.{counter_of, element_at, sort_at, sort_of_place};
+ghost use Rattle.occ_parse_rules.specs.Places.{counter_of as counter_entry, element_at, sort_at, sort_of_place};
 ghost use Rattle.occ_parse_rules.specs.Types.{channel_here, sort_here, variable_here};
 ghost use Rattle.occ_parse_unroll.specs.Present.{present, values_of};
 
 use crate::values::Values;
 use occ_base::{Memory, Name, Width};
-use occ_parse_forms::{Declared, Index, Item, Times};
-use occ_parse_rules::{Entry, Sort};
-use occ_parse_scopes::Scopes;
+use occ_parse_forms::{Index, Item, Times};
+use occ_parse_rules::Sort;
+use occ_parse_scopes::{Scopes, counter_of};
 use std::alloc::Global;
 
 /// Where a line stands: what is in scope there, and the values of the indices.
@@ -32,16 +32,10 @@ impl Context {
 
     /// Goes into a replicator's copy of that number.
     pub fn enter(&mut self, times: Times, copy: u8) -> Result<(), Memory>
-        ensures scopes { OnOk result (self.new.scopes ≡ counter_of times ∷ self.old.scopes) }
+        ensures scopes { OnOk result (self.new.scopes ≡ counter_entry times ∷ self.old.scopes) }
         ensures values { OnOk result (self.new.values ≡ present times copy ∷ self.old.values) }
     {
-        self.scopes.declare(Entry {
-            declared: Declared::Plain(times.index),
-            sort: Sort::Counter {
-                base: times.base,
-                count: times.count,
-            },
-        })?;
+        self.scopes.declare(counter_of(times))?;
         self.values.enter(times, copy)
     }
 

@@ -11,11 +11,13 @@ ghost use Rattle.occ_parse_unroll.specs.Numbers.{number_in};
 
 use crate::context::Context;
 use crate::lined::line_numbers;
-use crate::naming::{name_places, sort_of};
+use crate::naming::name_places;
+use crate::numbering::InTable;
 use crate::unrolling::slot;
 use occ_base::{List, Memory, Names};
 use occ_parse_forms::Param;
 use occ_parse_rules::{Entry, Node};
+use occ_parse_scopes::sort_of;
 use occ_syntax::{Proc, Scope};
 use std::alloc::Global;
 
@@ -51,7 +53,7 @@ pub fn unroll(
 {
     let mut context = Context::new(alloc);
     let params = declare_params(alloc, names, &mut context, params)?;
-    let body = slot(alloc, names, &mut context, below)?;
+    let body = slot(&InTable { alloc }, names, &mut context, below)?;
     let lines = line_numbers(alloc, below)?;
     Ok(Unrolled {
         params,
@@ -80,7 +82,13 @@ fn declare_params(
             declared: param.declared,
             sort: sort_of(param.kind),
         })?;
-        name_places(alloc, names, param.kind, param.declared, &mut scope)?;
+        name_places(
+            &InTable { alloc },
+            names,
+            param.kind,
+            param.declared,
+            &mut scope,
+        )?;
     }
     Ok(scope)
 }

@@ -151,7 +151,7 @@ module _ (P : ℕ → Place) where
   has_child_part m n (connect c w p) after = child_first n m (declaration_shape P c (sort.Chan w None)) (own_lines (m + 1) (n + 1) p ++ after)
 
   -- the lines of a part in front of others
-  lines_rest : (m n : ℕ) (p : Tree) (rest : Forest) → lines_at m (part_forest P n p rest) ≡ own_lines m n p ++ lines_at m rest
+  pub lines_rest : (m n : ℕ) (p : Tree) (rest : Forest) → lines_at m (part_forest P n p rest) ≡ own_lines m n p ++ lines_at m rest
   lines_rest m n skip rest = refl
   lines_rest m n stop rest = refl
   lines_rest m n (assign xs es) rest = refl

@@ -57,7 +57,7 @@ module _ (names : List (List ℕ)) (P : ℕ → Place) (table : IsTable names P)
       let g : names_with names t.kind (text_of t text) ≡ names = ap (λ (w : Word). names_with names w.0 w.1) f ∙ h.0 in
       ap (λ k. with_names text k ts) g ∙ same_table ts ps (ap later e) h.1
 
-  rows_at : (n place : ℕ) (ls : List TextLine) → map (words_of text) (printed_lines n place (map (printed names) ls)) ≡ map printed_words (map (printed names) ls)
+  pub rows_at : (n place : ℕ) (ls : List TextLine) → map (words_of text) (printed_lines n place (map (printed names) ls)) ≡ map printed_words (map (printed names) ls)
       → LinesAreSayable (length names) ls → rows_of text names (printed_lines n place (map (printed names) ls)) ≡ line_rows P n ls
   rows_at n place [] e h = refl
   rows_at n place (l ∷ ls) e h =
@@ -72,7 +72,7 @@ module _ (names : List (List ℕ)) (P : ℕ → Place) (table : IsTable names P)
       (same_symbols tokens (pieces names l.symbols) w there ∙ symbols_back names P table (is_header l.symbols) None l.symbols h.0.1)
       ∙ ap (λ rs. record { number = n; level = l.level; symbols = symbols_read P l.symbols } ∷ rs) (rows_at (n + 1) next ls (ap later e) h.1)
 
-  table_at : (n place : ℕ) (ls : List TextLine) → map (words_of text) (printed_lines n place (map (printed names) ls)) ≡ map printed_words (map (printed names) ls)
+  pub table_at : (n place : ℕ) (ls : List TextLine) → map (words_of text) (printed_lines n place (map (printed names) ls)) ≡ map printed_words (map (printed names) ls)
       → LinesAreSayable (length names) ls → with_names_of_all text names (printed_lines n place (map (printed names) ls)) ≡ names
   table_at n place [] e h = refl
   table_at n place (l ∷ ls) e h =

@@ -32,11 +32,11 @@ use Rattle.occ_print_back.proofs.Tokens.{place_back}
 
 -- ---- the numbers of places
 
-element_is : (base : List ℕ) (k : ℕ) → element_text base k ≡ place_text base (Some k)
+pub element_is : (base : List ℕ) (k : ℕ) → element_text base k ≡ place_text base (Some k)
 element_is base k =
     append_assoc (base ++ codes "[") (decimal k) (codes "]") ∙ append_assoc base (codes "[") (decimal k ++ codes "]")
 
-index_is : (names : List (List ℕ)) (y : ℕ) → y < length names → slice_index_or names y [] ≡ name_text names y
+pub index_is : (names : List (List ℕ)) (y : ℕ) → y < length names → slice_index_or names y [] ≡ name_text names y
 index_is names y h = sym (ap (λ o. unwrap_or o []) (slice_get-get_or names y [] h))
 
 module _ (names : List (List ℕ)) (P : ℕ → Place) (table : IsTable names P) where

@@ -365,7 +365,7 @@ module _ (names : List (List ℕ)) (P : ℕ → Place) (table : IsTable names P)
 
 -- ---- what the tokens stand for
 
-number_text : (names : List (List ℕ)) (x : ℕ) → x < length names → slice_get names x ≡ Some (name_text names x)
+pub number_text : (names : List (List ℕ)) (x : ℕ) → x < length names → slice_get names x ≡ Some (name_text names x)
 number_text names x h = let e = slice_get-get_or names x [] h in e ∙ ap Some (sym (ap (λ o. unwrap_or o []) e))
 
 pub place_back : (names : List (List ℕ)) → IsDistinct names → (x : ℕ) → x < length names → place_of names (name_text names x) ≡ x

@@ -1,5 +1,6 @@
 use Rattle.std.proofs.Common.{◌≡◌, ◌+◌, ◌-◌, ◌≤◌, sym, subst, ◌∙◌, arith}
 use Rattle.occ_lex_symbols.proofs.Interned.{extends_same, extends_trans, longer}
+use Rattle.occ_parse_unroll.specs.Elements.{with_element}
 use Rattle.occ_parse_unroll.proofs.Elements.{one_element_more}
 use Rattle.occ_base.specs.Names.{IsDistinct}
 use Rattle.occ_parse.proofs.Places.{places_distinct}
@@ -18,7 +19,7 @@ loop-k-preserved c =
     record {
       whole = λ t f. row_one t c.args.array.0 c.loop-k.k _ _ c.in_ok-element.field-0 _ _ n (s.number t f) c.in_ok-push.ensures.items
           ∙ c.loop-k.invariant.whole t (extends_trans _ _ _ s.extends f);
-      table = one_element_more c.args.array.0 c.loop-k.k _ _ _ _ n s.table ∙ c.loop-k.invariant.table;
+      table = one_element_more with_element c.args.array.0 c.loop-k.k _ _ _ _ n s.table ∙ c.loop-k.invariant.table;
       grown = extends_trans _ _ _ c.loop-k.invariant.grown s.extends;
     }
 

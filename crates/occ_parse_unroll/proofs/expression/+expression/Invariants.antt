@@ -3,4 +3,4 @@ use Rattle.occ_parse_unroll.proofs.Words.{words}
 use Rattle.occ_parse_unroll.proofs.expression.+expression.Given as goal
 
 abbrev pub decreases-expression : goal.decreases-expression
-decreases-expression l = words (said l.phrase.now)
+decreases-expression g l = words (said l.phrase.now)

@@ -4,4 +4,4 @@ use Rattle.occ_parse_unroll.proofs.Known.{said_known}
 use Rattle.occ_parse_unroll.proofs.expression.output.Goals as goal
 
 pub expression-requires : goal.expression-requires
-expression-requires c = said_known _ _ (said c.args.value.now) (longer _ _ c.in_ok-name.ensures.extends) c.requires.value
+expression-requires g c = λ n. said_known _ _ (said c.args.value.now) (longer _ _ c.in_ok-name.ensures.extends) (c.requires.value n)
