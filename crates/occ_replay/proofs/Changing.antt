@@ -21,6 +21,7 @@ use Rattle.occ_syntax.specs.Types.{scope_kept}
 use Rattle.occ_syntax.specs.Usage.{Keeps}
 use Rattle.occ_syntax.specs.View.{tree}
 use Rattle.occ_usage.specs.Accepted.{KeepsRules}
+use Rattle.occ_usage_local.specs.Local.{IsExchanged}
 
 -- ---- putting in
 
@@ -38,6 +39,24 @@ acceptable program whole step S p e found put_in kept = record {
   keeps = subst (Keeps (environment program.params)) (body_of program whole step S p e found put_in)
       (subst (λ T. Keeps (environment T) (tree whole.body)) put_in.params kept.keeps);
 }
+
+-- the program with the part put in has the part in the place of the one that stood there
+pub exchanged : (program whole : Program) (path : List ℕ) (S : List (Name × Kind)) (old part new : Tree) → KeepsRules program → S ≡ scope_list path program.params (tree program.body)
+    → IsPutIn program path part whole → part_at path (tree program.body) ≡ Some old → part_at path (tree whole.body) ≡ Some new → IsExchanged S old new whole
+exchanged program whole path S old part new kept e put_in there found =
+    let p = tree program.body in
+    let s = scopes path program.params p kept.scope kept.keeps.types in
+    let same : part ≡ new = same_Some part new (sym (ap (part_at path) put_in.body ∙ put_there path p old part there) ∙ found) in
+    record {
+      before = p;
+      path = path;
+      scope = subst (λ T. scope_kept T ≡ true) (sym put_in.params) kept.scope;
+      kept = subst (λ T. Keeps (environment T) p) (sym put_in.params) kept.keeps;
+      there = there;
+      put_in = put_in.body ∙ ap (put path p) same;
+      scope_there = ap environment e ∙ s.gives ∙ ap (λ T. environment_at path (environment T) p) (sym put_in.params);
+      scope_kept = subst (λ T. scope_kept T ≡ true) (sym e) s.kept;
+    }
 
 -- ---- the part there, before and after
 

@@ -11,6 +11,7 @@ ghost use Rattle.occ_syntax.specs.Scopes.{environment};
 ghost use Rattle.occ_syntax.specs.Types.{scope_kept};
 ghost use Rattle.occ_syntax.specs.Usage.{Keeps};
 ghost use Rattle.occ_syntax.specs.View.{tree};
+ghost use Rattle.occ_usage.specs.Accepted.{KeepsRules};
 ghost use Rattle.occ_replay.specs.declared.change.Stopped.TheVariants as stopped;
 
 use occ_base::Memory;
@@ -19,9 +20,9 @@ use occ_law::LawId;
 use occ_parse::ParseFault;
 use occ_parse_part::{Raw, resolve};
 use occ_script::Step;
-use occ_script_path::{Direction, replace};
+use occ_script_path::{Direction, at, replace};
 use occ_syntax::{Proc, Program, Scope};
-use occ_usage::keeps;
+use occ_usage_local::keeps_exchanged;
 use std::alloc::Global;
 
 /// Why a step isn't taken.
@@ -65,19 +66,22 @@ fn resolved(alloc: Global, scope: &Scope, raw: &Raw) -> Result<Proc, Stopped>
 /// The program with the part of a step put in, where it may be put in.
 pub(crate) fn changed(
     alloc: Global,
-    program: &Program,
+    program: Program,
     scope: Scope,
     step: &Step,
 ) -> Result<Change, Stopped>
-    requires kept { scope_kept program.now.params ≡ true }
-    requires there { IsSome (part_at step.now.path (tree program.now.body)) }
-    requires scope { scope ≡ scope_list step.now.path program.now.params (tree program.now.body) }
-    ensures found { IfOk result (IsChange program.now (step_of step.now)) }
-    ensures refused { IfErr result (IsRefused program.now (step_of step.now)) }
+    requires rules { KeepsRules program }
+    requires there { IsSome (part_at step.now.path (tree program.body)) }
+    requires scope { scope ≡ scope_list step.now.path program.params (tree program.body) }
+    ensures found { IfOk result (IsChange program (step_of step.now)) }
+    ensures refused { IfErr result (IsRefused program (step_of step.now)) }
 {
     let part = resolved(alloc, &scope, &step.part)?;
     let (whole, old) = replace(alloc, program, &step.path, part)?;
-    if keeps(alloc, &whole)? {
+    let Some(new) = at(&whole, &step.path) else {
+        unreachable!();
+    };
+    if keeps_exchanged(alloc, &scope, &old, new, &whole)? {
         Ok(Change { scope, whole, old })
     } else {
         Err(Stopped::NotAccepted)

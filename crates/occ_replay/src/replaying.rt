@@ -39,7 +39,7 @@ fn follow(alloc: Global, from: &Program, steps: &[Step]) -> Result<Program, Reje
     let mut number: u32 = 0;
     for step in steps {
         number += 1;
-        match take_step(alloc, &mut store, &program, step) {
+        match take_step(alloc, &mut store, program, step) {
             Ok(next) => program = next,
             Err(stopped) => return Err(rejected(stopped, number)),
         }

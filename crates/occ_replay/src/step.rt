@@ -16,20 +16,20 @@ use std::alloc::Global;
 pub(crate) fn take_step(
     alloc: Global,
     store: &mut Store,
-    program: &Program,
+    program: Program,
     step: &Step,
 ) -> Result<Program, Stopped>
-    requires { KeepsRules program.now }
-    ensures taken { IfOk result (IsTaken program.now (step_of step.now)) }
-    ensures stopped { IfErr result (IsStopped program.now (step_of step.now)) }
+    requires { KeepsRules program }
+    ensures taken { IfOk result (IsTaken program (step_of step.now)) }
+    ensures stopped { IfErr result (IsStopped program (step_of step.now)) }
 {
     let Some(law) = step.law else {
         return Err(Stopped::NoLaw);
     };
-    let Some(_old) = at(program, &step.path) else {
+    let Some(_old) = at(&program, &step.path) else {
         return Err(Stopped::NoPath);
     };
-    let scope = scope_at(alloc, program, &step.path)?;
+    let scope = scope_at(alloc, &program, &step.path)?;
     let change = match changed(alloc, program, scope, step) {
         Ok(change) => change,
         Err(stopped) => return Err(stopped),

@@ -7,8 +7,6 @@ mod direction;
 mod laws;
 mod part;
 mod putting;
-#[cfg(test)]
-mod tests;
 mod text;
 
 pub use direction::Direction;

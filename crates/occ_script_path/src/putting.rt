@@ -1,196 +1,158 @@
 //! A part of a program put in the place of another.
 
-ghost use Rattle.std.specs.Prelude.{◌≡◌, ◌<◌, length, IfOk, IsSome, OnOk, Some};
-ghost use Rattle.occ_meaning.specs.Context.{child, part_at, put as put_at, with_branch, with_case, with_child, with_tree};
-ghost use Rattle.occ_meaning.specs.Parallel.{all_of};
+ghost use Rattle.std.specs.List.{AllByRecursion};
+ghost use Rattle.std.specs.Prelude.{◌≡◌, IfOk, IsSome, Some};
+ghost use Rattle.occ_meaning.specs.Context.{branch_at, case_at, child, part_at, tree_at, with_branch, with_case, with_child, with_tree};
 ghost use Rattle.occ_syntax.specs.View.{branches, cases, in_alternatives, in_choices, in_procs, tree, trees};
 ghost use Rattle.occ_script_path.specs.Places.{IsPutIn};
-ghost use Rattle.occ_script_path.specs.Putting.{AreRound, all_branches, all_cases};
+ghost use Rattle.occ_script_path.specs.Putting.{AreRound, HasPart, within};
 
 use crate::Path;
-use crate::part::{at, child as child_at};
 use occ_base::Memory;
-use occ_syntax::{Alternatives, Choices, Expr, Guard, Kind, Proc, Procs, Program};
+use occ_syntax::{Alternatives, Choices, Expr, Guard, Proc, Procs, Program, Wait};
 use std::alloc::Global;
+use std::mem::replace as exchange;
 
-/// A process round a part, and the part's place in it.
-#[derive(Clone, Copy)]
-struct Round<'a> {
-    whole: &'a Proc,
+/// A process round a part, and the part's place in it, where STOP stands meanwhile.
+#[derive(Drop)]
+struct Round {
+    whole: Proc,
     place: u32,
 }
 
-fn push_parts(alloc: Global, row: &mut Procs, parts: &[Proc]) -> Result<(), Memory>
-    ensures { OnOk result (trees (in_procs row.new) ≡ all_of (trees (in_procs row.old)) (trees parts.now)) }
+/// Puts a process in the place of one of a row, and gives that one. It takes no memory.
+fn exchange_part(parts: &mut Procs, place: usize, part: Proc) -> Proc
+    requires { IsSome (tree_at (trees (in_procs parts.old)) place) }
+    ensures put { trees (in_procs parts.new) ≡ with_tree (trees (in_procs parts.old)) place (tree part) }
+    ensures taken { tree_at (trees (in_procs parts.old)) place ≡ Some (tree result) }
 {
-    for part in parts {
-        row.push(part.copy(alloc)?)?;
-    }
-    Ok(())
+    parts.exchange(place, part)
 }
 
-fn push_choices(alloc: Global, row: &mut Choices, choices: &[(Expr, Proc)]) -> Result<(), Memory>
-    ensures { OnOk result (cases (in_choices row.new) ≡ all_cases (cases (in_choices row.old)) (cases choices.now)) }
+/// The same of choices: the condition stays.
+fn exchange_choice(choices: &mut Choices, place: usize, part: Proc) -> Proc
+    requires { IsSome (case_at (cases (in_choices choices.old)) place) }
+    ensures put { cases (in_choices choices.new) ≡ with_case (cases (in_choices choices.old)) place (tree part) }
+    ensures taken { case_at (cases (in_choices choices.old)) place ≡ Some (tree result) }
 {
-    for (condition, part) in choices {
-        row.push((condition.copy(alloc)?, part.copy(alloc)?))?;
-    }
-    Ok(())
+    let (condition, old) = choices.exchange(place, (Expr::Bool(true), Proc::Stop));
+    let (_, _) = choices.exchange(place, (condition, part));
+    old
 }
 
-fn push_alternatives(
-    alloc: Global,
-    row: &mut Alternatives,
-    alternatives: &[(Guard, Proc)],
-) -> Result<(), Memory>
-    ensures { OnOk result (branches (in_alternatives row.new) ≡ all_branches (branches (in_alternatives row.old)) (branches alternatives.now)) }
+/// The same of alternatives: the guard stays.
+fn exchange_alternative(alternatives: &mut Alternatives, place: usize, part: Proc) -> Proc
+    requires { IsSome (branch_at (branches (in_alternatives alternatives.old)) place) }
+    ensures put { branches (in_alternatives alternatives.new)
+        ≡ with_branch (branches (in_alternatives alternatives.old)) place (tree part) }
+    ensures taken { branch_at (branches (in_alternatives alternatives.old)) place ≡ Some (tree result) }
 {
-    for (guard, part) in alternatives {
-        row.push((guard.copy(alloc)?, part.copy(alloc)?))?;
-    }
-    Ok(())
+    let none = Guard {
+        condition: Expr::Bool(true),
+        wait: Wait::Skip,
+    };
+    let (guard, old) = alternatives.exchange(place, (none, Proc::Stop));
+    let (_, _) = alternatives.exchange(place, (guard, part));
+    old
 }
 
-/// The parts with one of them exchanged.
-fn parts_with(alloc: Global, parts: &[Proc], place: usize, part: Proc) -> Result<Procs, Memory>
-    requires { place < length parts.now }
-    ensures { IfOk result (λ row. trees (in_procs row) ≡ with_tree (trees parts.now) place (tree part)) }
-{
-    let mut row = Procs::new(alloc);
-    push_parts(alloc, &mut row, &parts[..place])?;
-    row.push(part)?;
-    push_parts(alloc, &mut row, &parts[place + 1..])?;
-    Ok(row)
-}
-
-/// The choices with the process of one of them exchanged.
-fn choices_with(
-    alloc: Global,
-    choices: &[(Expr, Proc)],
-    place: usize,
-    part: Proc,
-) -> Result<Choices, Memory>
-    requires { place < length choices.now }
-    ensures { IfOk result (λ row. cases (in_choices row) ≡ with_case (cases choices.now) place (tree part)) }
-{
-    let mut row = Choices::new(alloc);
-    push_choices(alloc, &mut row, &choices[..place])?;
-    let (condition, _) = &choices[place];
-    row.push((condition.copy(alloc)?, part))?;
-    push_choices(alloc, &mut row, &choices[place + 1..])?;
-    Ok(row)
-}
-
-/// The alternatives with the process of one of them exchanged.
-fn alternatives_with(
-    alloc: Global,
-    alternatives: &[(Guard, Proc)],
-    place: usize,
-    part: Proc,
-) -> Result<Alternatives, Memory>
-    requires { place < length alternatives.now }
-    ensures { IfOk result (λ row. branches (in_alternatives row) ≡ with_branch (branches alternatives.now) place (tree part)) }
-{
-    let mut row = Alternatives::new(alloc);
-    push_alternatives(alloc, &mut row, &alternatives[..place])?;
-    let (guard, _) = &alternatives[place];
-    row.push((guard.copy(alloc)?, part))?;
-    push_alternatives(alloc, &mut row, &alternatives[place + 1..])?;
-    Ok(row)
-}
-
-/// A process with the part at a place exchanged.
+/// Puts a process in the place of the part at a place of another one, and gives that part. It takes no memory.
 #[tactic(auto, unfolding(occ_syntax::specs::View::tree))]
-fn exchanged(alloc: Global, whole: &Proc, place: u32, part: Proc) -> Result<Proc, Memory>
-    requires { IsSome (child (tree whole.now) place) }
-    ensures { IfOk result (λ p. tree p ≡ with_child (tree whole.now) place (tree part)) }
+fn exchange_child(alloc: Global, whole: &mut Proc, place: u32, part: Proc) -> Proc
+    requires { IsSome (child (tree whole.old) place) }
+    ensures put { tree whole.new ≡ with_child (tree whole.old) place (tree part) }
+    ensures taken { child (tree whole.old) place ≡ Some (tree result) }
 {
     let index = place as usize;
     match whole {
-        Proc::Seq(parts) => Ok(Proc::Seq(parts_with(alloc, parts.items(), index, part)?)),
-        Proc::Par(parts) => Ok(Proc::Par(parts_with(alloc, parts.items(), index, part)?)),
-        Proc::If(choices) => Ok(Proc::If(choices_with(alloc, choices.items(), index, part)?)),
-        Proc::Alt(alternatives) => {
-            let row = alternatives_with(alloc, alternatives.items(), index, part)?;
-            Ok(Proc::Alt(row))
+        Proc::Seq(parts) => {
+            let mut parts = exchange(parts, Procs::new(alloc));
+            let old = exchange_part(&mut parts, index, part);
+            *whole = Proc::Seq(parts);
+            old
         }
-        Proc::Var {
-            name,
-            width,
-            body: _,
-        } => Ok(part.declare(alloc, *name, Kind::Var(*width))?),
-        Proc::Chan {
-            name,
-            width,
-            body: _,
-        } => { Ok(part.declare(alloc, *name, Kind::Chan(*width, None))?) }
+        Proc::Par(parts) => {
+            let mut parts = exchange(parts, Procs::new(alloc));
+            let old = exchange_part(&mut parts, index, part);
+            *whole = Proc::Par(parts);
+            old
+        }
+        Proc::If(choices) => {
+            let mut choices = exchange(choices, Choices::new(alloc));
+            let old = exchange_choice(&mut choices, index, part);
+            *whole = Proc::If(choices);
+            old
+        }
+        Proc::Alt(alternatives) => {
+            let mut alternatives = exchange(alternatives, Alternatives::new(alloc));
+            let old = exchange_alternative(&mut alternatives, index, part);
+            *whole = Proc::Alt(alternatives);
+            old
+        }
+        Proc::Var { body, .. } => exchange(&mut **body, part),
+        Proc::Chan { body, .. } => exchange(&mut **body, part),
         _ => unreachable!(),
     }
 }
 
-/// The processes round the part at a path, from outside in.
-fn all_round<'a>(alloc: Global, body: &'a Proc, path: &Path) -> Result<Vec<Round<'a>>, Memory>
-    requires { IsSome (part_at path.now (tree body.now)) }
-    ensures { IfOk result (λ round. AreRound round.items path.now (tree body.now)) }
+/// The part at a path, and the processes that stand round it, from outside in.
+fn opened(alloc: Global, body: Proc, path: &Path) -> Result<(Vec<Round>, Proc), Memory>
+    requires { IsSome (part_at path.now (tree body)) }
+    ensures round { IfOk result (λ found. AreRound found.0.items path.now (tree body)) }
+    ensures part { IfOk result (λ found. part_at path.now (tree body) ≡ Some (tree found.1)) }
 {
     let mut round = Vec::new(alloc);
     let mut whole = body;
     for place in path.items() {
         let place = *place;
-        let Some(below) = child_at(whole, place) else {
-            unreachable!();
-        };
+        let below = exchange_child(alloc, &mut whole, place, Proc::Stop);
         round.push(Round { whole, place })?;
         whole = below;
     }
-    Ok(round)
+    Ok((round, whole))
 }
 
-/// A process with a part put in at a path.
-fn put_in(alloc: Global, body: &Proc, path: &Path, part: Proc) -> Result<Proc, Memory>
-    requires { IsSome (part_at path.now (tree body.now)) }
-    ensures { IfOk result (λ whole. tree whole ≡ put_at path.now (tree body.now) (tree part)) }
+/// A process put in the place of a part, within the processes that stand round it. It takes no memory.
+fn closed(alloc: Global, round: Vec<Round>, part: Proc) -> Proc
+    requires { AllByRecursion HasPart round.items }
+    ensures { tree result ≡ within round.items (tree part) }
 {
-    let mut round = all_round(alloc, body, path)?;
+    let mut round = round;
     let mut whole = part;
     while let Some(next) = round.pop() {
-        whole = exchanged(alloc, next.whole, next.place, whole)?;
+        let Round {
+            whole: mut outer,
+            place,
+        } = next;
+        let _hole = exchange_child(alloc, &mut outer, place, whole);
+        whole = outer;
     }
-    Ok(whole)
+    whole
 }
 
-/// A program with a part put in at a path, and the part that stood there. What stands beside the path is copied.
+/// A program with a part put in at a path, and the part that stood there. What stands beside the path stays where it is: nothing
+/// is copied.
 pub fn replace(
     alloc: Global,
-    program: &Program,
+    program: Program,
     path: &Path,
     part: Proc,
 ) -> Result<(Program, Proc), Memory>
-    requires { IsSome (part_at path.now (tree program.now.body)) }
-    ensures put { IfOk result (λ done. IsPutIn program.now path.now (tree part) done.0) }
-    ensures taken { IfOk result (λ done. part_at path.now (tree program.now.body) ≡ Some (tree done.1)) }
+    requires { IsSome (part_at path.now (tree program.body)) }
+    ensures put { IfOk result (λ done. IsPutIn program path.now (tree part) done.0) }
+    ensures taken { IfOk result (λ done. part_at path.now (tree program.body) ≡ Some (tree done.1)) }
 {
-    let Some(old) = at(program, path) else {
-        unreachable!();
-    };
-    let old = old.copy(alloc)?;
-    let program = Program {
-        name: program.name,
-        params: program.params.copy(alloc)?,
-        body: put_in(alloc, &program.body, path, part)?,
-    };
-    Ok((program, old))
+    let Program { name, params, body } = program;
+    let (round, old) = opened(alloc, body, path)?;
+    let body = closed(alloc, round, part);
+    Ok((Program { name, params, body }, old))
 }
 
-/// The program with a part put in at a path.
+/// A copy of the program with a part put in at a path.
 pub fn put(alloc: Global, program: &Program, path: &Path, part: &Proc) -> Result<Program, Memory>
     requires { IsSome (part_at path.now (tree program.now.body)) }
     ensures { IfOk result (λ whole. IsPutIn program.now path.now (tree part.now) whole) }
 {
-    let part = part.copy(alloc)?;
-    Ok(Program {
-        name: program.name,
-        params: program.params.copy(alloc)?,
-        body: put_in(alloc, &program.body, path, part)?,
-    })
+    let (whole, _) = replace(alloc, program.copy(alloc)?, path, part.copy(alloc)?)?;
+    Ok(whole)
 }
