@@ -13,8 +13,6 @@ mod place;
 mod settle;
 mod stand;
 mod stepping;
-#[cfg(test)]
-mod tests;
 mod within;
 
 pub use answer::{Move, Stand, StepFault};

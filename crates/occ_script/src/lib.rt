@@ -14,8 +14,6 @@ mod listing;
 mod part;
 mod reading;
 mod script;
-#[cfg(test)]
-mod tests;
 
 pub use content::Content;
 pub use fault::ScriptFault;

@@ -6,8 +6,6 @@ mod keyword;
 mod reading;
 mod section;
 mod splitting;
-#[cfg(test)]
-mod tests;
 
 pub use framing::{framed, is_blank, last_line};
 pub use keyword::{Head, is_keyword, is_line, step_line};

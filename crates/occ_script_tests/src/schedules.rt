@@ -1,5 +1,5 @@
-use crate::{ScheduleFault, read};
 use occ_base::{Memory, Names, Width};
+use occ_run_read::{ScheduleFault, read};
 use occ_syntax::Kind;
 
 #[test]

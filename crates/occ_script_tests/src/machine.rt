@@ -2,8 +2,8 @@ ghost use Rattle.std.specs.Prelude.{◌≡◌, ◌∷◌, IfOk, true, []};
 ghost use Rattle.occ_behaviour.specs.States.{is_state};
 ghost use Rattle.occ_usage.specs.Accepted.{IsTyped};
 
-use crate::{Move, Stand, StepFault, start};
 use occ_base::{Dir, Event, Memory, Name, State, Width};
+use occ_run::{Move, Stand, StepFault, start};
 use occ_syntax::{
     Expr, Exprs, Kind, NameList, Proc, Procs, Program, Scope, controls, interface_bits, scope_bits,
 };

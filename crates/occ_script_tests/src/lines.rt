@@ -1,5 +1,5 @@
-use crate::{Format, Sections, is_blank, last_line, lines, step_line};
 use occ_base::Memory;
+use occ_script_lines::{Format, Sections, is_blank, last_line, lines, step_line};
 use occ_script_path::Direction;
 
 const SCRIPT: &[u8] =
