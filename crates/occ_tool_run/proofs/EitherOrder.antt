@@ -1,8 +1,8 @@
 -- Two files are answered with SAME exactly where each of them is answered to refine the other, in whichever order they are given.
 use Rattle.std.proofs.Common.{◌≡◌, ◌↔◌, ◌==◌, ◌⊎◌, inl, inr, ℕ, List, [], ◌∷◌, length, Bool, true, false, ◌&&◌, cond, nat_lt, Option, Some, None, codes, refl, sym, ap, ◌∙◌, subst}
-use Rattle.std.specs.Cmp.Lexicographic.{nat_list_cmp_total, slice_cmp}
+use Rattle.std.specs.Cmp.Lexicographic.{nat_list_cmp_total}
 use Rattle.std.specs.FinMap.{nat_cmp-IsAntisymmetric, slice_cmp-IsAntisymmetric}
-use Rattle.std.specs.Ordering.{nat_cmp, ordering_reverse}
+use Rattle.std.specs.Ordering.{ordering_reverse}
 use Rattle.std.specs.declared.cmp.Ordering.{Ordering}
 use Rattle.std.specs.declared.cmp.Ordering.TheVariants.{Less, Equal, Greater}
 use Rattle.std.proofs.lemmas.Bool.{cases_Bool, false≢true}
@@ -13,11 +13,9 @@ use Rattle.occ_syntax.specs.Tree.{Tree}
 use Rattle.occ_syntax.specs.View.{tree}
 use Rattle.occ_behaviour.specs.declared.behaviour.Side.{Side}
 use Rattle.occ_behaviour.specs.declared.behaviour.Side.TheVariants.{First, Second}
-use Rattle.occ_behaviour.specs.declared.behaviour.Verdict.{Verdict}
 use Rattle.occ_behaviour.specs.Members.{IsRight}
 use Rattle.occ_parse_reading.specs.Reading.{too_long}
 use Rattle.occ_verdict.specs.Verdict.{IsVerdictOf}
-use Rattle.occ_views.specs.declared.refined.Refined.{Refined as Refinement}
 use Rattle.occ_views.specs.Programs.{IsRefinement}
 use Rattle.occ_tool_words.specs.Words.{is_plain, refine, same}
 use Rattle.occ_tool_run.specs.declared.answer.Answer.{Answer}

@@ -1,5 +1,5 @@
 -- What files that were read are answered with.
-use Rattle.std.proofs.Common.{◌≡◌, ◌≢◌, ◌∙◌, ◌≤◌, ◌↔◌, ℕ, true, List, [], length, Option, Some, None, Result, Ok, Err, IfOk, IfErr, IsTrue, Bool, refl, sym, subst}
+use Rattle.std.proofs.Common.{◌≡◌, ℕ, true, List, [], length, Option, Some, None, Result, Ok, Err, IfOk, IfErr, refl, sym, subst}
 use Rattle.std.proofs.lemmas.Bool.{lt-ltb}
 use Rattle.occ_base.specs.Names.{IsDistinct}
 use Rattle.occ_base.specs.declared.memory.Memory.{Memory}
@@ -13,9 +13,6 @@ use Rattle.occ_parse_reading.specs.Reading.{too_long, IsRead}
 use Rattle.occ_parse_reading.specs.Reading.{IsRefused as IsRefusedText}
 use Rattle.occ_parse_reading.specs.declared.bound.Bound.TheVariants as bound
 use Rattle.occ_parse_reading.specs.declared.fault.ParseFault.{ParseFault}
-use Rattle.occ_parse_reading.specs.declared.fault.ParseFault.TheVariants.{Limit}
-use Rattle.occ_parse_reading.specs.declared.fault.ParseFault.TheVariants.{Memory as NoMemory}
-use Rattle.occ_parse_reading.specs.declared.fault.Which.TheVariants.{Bytes as AllBytes}
 use Rattle.occ_usage.specs.declared.accepted.Accepted.{Accepted}
 use Rattle.occ_usage.specs.declared.fault.UsageFault.{UsageFault}
 use Rattle.occ_behaviour.specs.declared.behaviour.Side.{Side}

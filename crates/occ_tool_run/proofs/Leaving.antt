@@ -7,10 +7,10 @@ use Rattle.occ_tool_run.specs.declared.load.Stop.{Stop}
 use Rattle.occ_tool_run.specs.declared.load.Stop.TheVariants.{Read, Memory}
 use Rattle.occ_tool_run.specs.declared.answer.Answer.{Answer}
 use Rattle.occ_gen.specs.declared.shape.Shape.{Shape}
-use Rattle.occ_tool_words.specs.Words.{Job, same, normalise, normal, belongs, stress, refine, deadlock, job_of, replay}
+use Rattle.occ_tool_words.specs.Words.{same, normalise, normal, belongs, stress, refine, deadlock, job_of, replay, run}
 use Rattle.occ_tool_run.specs.Files.{Files, AsksFront, AsksFor, IsLoaded}
 use Rattle.occ_tool_run.specs.Texts.{status_of, text_of}
-use Rattle.occ_tool_run.specs.Answers.{IsAnswer, comparison, normalisation, checking, membership, stressing, refinement, seeking, Answers, Settles, Normalises, Checks, Judges, Stresses, Seeks, replaying}
+use Rattle.occ_tool_run.specs.Answers.{IsAnswer, comparison, normalisation, checking, membership, stressing, refinement, seeking, Answers, Settles, Normalises, Checks, Judges, Steps, Stresses, Seeks, replaying, running}
 use Rattle.occ_tool_run.specs.Derivations.{Replays}
 use Rattle.occ_tool_run.specs.declared.judge.Question.TheVariants.{WhetherSame, WhetherRefined}
 use Rattle.occ_tool_run.specs.Ran.{Ran, answered, cut_short}
@@ -182,3 +182,9 @@ sent_all old new bytes text e n = n ∙ ap (with_more old) e
 
 pub sent_front : (old new : Option (List ℕ)) (bytes text : List ℕ) → bytes ≡ text → IsCutShort old new bytes → IsCutShort old new text
 sent_front old new bytes text e n = let P : List ℕ → Type 0 = λ t. IsCutShort old new t in subst P e n
+
+pub asked_run : {E : Type 0} (told : Option Files) (words : List (List ℕ)) (a b : List ℕ) (r : Result Answer E) → Some (run a b) ≡ job_of words
+    → IfOk r (λ answer. IfSome told (λ files. Steps (files a) (files b) answer)) → IfOk r (λ answer. IfSome told (λ files. IsAnswer files words answer))
+asked_run None words a b (Ok answer) is s = tt
+asked_run (Some files) words a b (Ok answer) is s = running a b (sym is) s
+asked_run told words a b (Err e) is s = tt

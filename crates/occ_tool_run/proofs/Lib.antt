@@ -12,4 +12,5 @@ pub mod Named
 pub mod Stages
 pub mod Members
 pub mod Scripted
+pub mod Scheduled
 pub mod OneReplay

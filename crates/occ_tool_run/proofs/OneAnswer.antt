@@ -1,25 +1,15 @@
 -- A command line over the same files has one answer.
-use Rattle.std.proofs.Common.{◌≡◌, ◌↔◌, ◌<◌, ◌^◌, ℕ, Bool, true, false, IsTrue, List, [], ◌∷◌, length, Option, Some, None, Result, Ok, Err, Vec, Global, refl, sym, ◌∙◌, ap, ap₂, subst, arith, slice_index_or}
+use Rattle.std.proofs.Common.{◌≡◌, ◌↔◌, ◌<◌, ◌^◌, ℕ, Bool, true, false, IsTrue, List, [], length, Option, Some, None, Result, Ok, Err, Vec, Global, refl, sym, ◌∙◌, ap, ap₂, subst, arith}
 use Rattle.std.specs.declared.cmp.Ordering.{Ordering}
 use Rattle.std.specs.declared.cmp.Ordering.TheVariants.{Less, Equal, Greater}
-use Rattle.occ_base.specs.Names.{IsDistinct}
 use Rattle.occ_base.specs.declared.names.Name.{Name}
 use Rattle.occ_syntax.specs.declared.scope.Program.{Program}
 use Rattle.occ_syntax.specs.declared.scope.Kind.{Kind}
 use Rattle.occ_syntax.specs.Scopes.{environment}
 use Rattle.occ_syntax.specs.Same.{SAME}
 use Rattle.occ_syntax.specs.Tree.{Tree}
-use Rattle.occ_syntax.specs.Types.{scope_kept, types_kept}
 use Rattle.occ_syntax.specs.View.{tree}
-use Rattle.occ_syntax.specs.Usage.{KeepsUsage}
-use Rattle.occ_parse_reading.specs.Reading.{IsRefused as IsRefusedText}
-use Rattle.occ_parse_reading.specs.declared.bound.Bound.TheVariants as bound
-use Rattle.occ_parse_reading.specs.declared.fault.ParseFault.{ParseFault}
-use Rattle.occ_usage.specs.Accepted.{usage_faults}
-use Rattle.occ_usage.specs.Faults.{faults, names_of}
-use Rattle.occ_usage.specs.declared.fault.UsageFault.{UsageFault}
 use Rattle.occ_behaviour.specs.declared.behaviour.Behaviour.{Behaviour}
-use Rattle.occ_behaviour.specs.declared.behaviour.Side.{Side}
 use Rattle.occ_behaviour.specs.declared.behaviour.Side.TheVariants.{First, Second}
 use Rattle.occ_behaviour.specs.declared.behaviour.Verdict.{Verdict}
 use Rattle.occ_behaviour.specs.Members.{IsMember}
@@ -27,23 +17,27 @@ use Rattle.occ_verdict.specs.Verdict.{IsVerdictOf}
 use Rattle.occ_views.specs.declared.refined.Refined.{Refined as Refinement}
 use Rattle.occ_views.specs.Programs.{IsRefinement, IsDeadlockAnswer}
 use Rattle.occ_nform_table.specs.Normal.{Parts, text_read}
-use Rattle.occ_nform_table.specs.declared.table.TableFault.{TableFault}
 use Rattle.occ_behaviour_read.specs.Claims.{claim_read}
 use Rattle.occ_gen.specs.declared.shape.Shape.{Shape}
 use Rattle.occ_gen.specs.Programs.{program_text}
 use Rattle.occ_nform.specs.Written.{IsNormalText}
 use Rattle.occ_nform_program.specs.Counted.{HasCounts, counts_of}
-use Rattle.occ_tool_words.specs.Words.{Job, same, normalise, normal, belongs, stress, refine, deadlock, replay, job_of}
+use Rattle.occ_tool_words.specs.Words.{Job, same, normalise, normal, belongs, stress, refine, deadlock, replay, run, job_of}
 use Rattle.occ_tool_run.specs.declared.answer.Answer.{Answer}
-use Rattle.occ_tool_run.specs.declared.answer.Answer.TheVariants.{Usage, Refused, Unusable, TooLong, RefusedTable, RefusedClaim, InterfacesDiffer, Compared, Written, Counted, Member, Stressed, Allowed, Sought}
+use Rattle.occ_tool_run.specs.declared.answer.Answer.TheVariants.{Usage, Refused, Unusable, TooLong, RefusedTable, RefusedClaim, InterfacesDiffer, Compared, Counted, Member, Stressed, Allowed, Sought, RefusedSchedule, Stepped}
 use Rattle.occ_tool_run.specs.declared.judge.Question.{Question}
 use Rattle.occ_tool_run.specs.declared.judge.Question.TheVariants.{WhetherSame, WhetherRefined}
 use Rattle.occ_tool_run.specs.Files.{Files, order_of}
+use Rattle.occ_run_follow.specs.declared.following.Followed.{Followed}
+use Rattle.occ_run_follow.specs.Following.{IsFollowed}
+use Rattle.occ_run_read.specs.declared.schedule.Schedule.{Schedule}
+use Rattle.occ_run_read.specs.Schedules.{schedule_read}
 use Rattle.occ_tool_run.specs.Derivations.{Replays}
+use Rattle.occ_tool_run.specs.Runs.{IsRun, too_long_schedule, faulty_schedule, followed_schedule}
 use Rattle.occ_tool_run.specs.Texts.{status_of, text_of}
-use Rattle.occ_tool_run.specs.Accepts.{ReadsAs, IsAccepted, IsRefused, IsUnusable, node_of}
+use Rattle.occ_tool_run.specs.Accepts.{IsAccepted}
 use Rattle.occ_tool_run.specs.Answers.{Takes, TakesBoth, Turned, refused_behind, unusable_behind, accepted_behind, Compares, apart, compared, Refines, other, allowed, Replies, Settles, IsSought, Seeks, IsNormalised, Normalises, IsChecked, too_long_table, faulty_table, normal_table, Checks}
-use Rattle.occ_tool_run.specs.Answers.{IsJudged, too_long_claim, faulty_claim, judged_claim, Judges, IsStressed, Stresses, IsAnswer, usage, comparison, normalisation, checking, membership, stressing, refinement, seeking, replaying, Answers}
+use Rattle.occ_tool_run.specs.Answers.{IsJudged, too_long_claim, faulty_claim, judged_claim, Judges, IsStressed, Stresses, IsAnswer, usage, comparison, normalisation, checking, membership, stressing, refinement, seeking, replaying, running, Answers, Steps}
 use Rattle.occ_tool_run.proofs.Once.{AreAlike, IsOnce, IsOneText, alike, same_bytes}
 use Rattle.occ_tool_run.proofs.OneReplay.{IsOneScript, replays_alike}
 use Rattle.occ_tool_run.proofs.Taken.{AreOne, agree, as_refused, as_taken, as_unusable, takes_alike}
@@ -83,6 +77,10 @@ back {A} {B} {C} P x y z u v w e f g h =
 itself : (params : List (Name × Kind)) (p : Tree) → SAME (environment params) p p
 itself params p = record { same_failures = λ s t X i w. (λ h. h, λ h. h); same_ends = λ s t u i. (λ h. h, λ h. h) }
 
+-- a schedule leads to one place
+abbrev pub IsOneFollowing : Type 0
+IsOneFollowing = (p q : Program) (s : Schedule) (f g : Followed) → p.params ≡ q.params → tree p.body ≡ tree q.body → IsFollowed p s f → IsFollowed q s g → f ≡ g
+
 -- what the words ask for has this answer
 abbrev pub Does : Files → Option Job → Answer → Type 0
 Does files None a = a ≡ Usage
@@ -94,6 +92,7 @@ Does files (Some (stress shape stages)) a = Stresses shape stages a
 Does files (Some (refine x y)) a = Settles WhetherRefined (files x) (files y) a
 Does files (Some (deadlock x)) a = Seeks (files x) a
 Does files (Some (replay x)) a = Replays (files x) a
+Does files (Some (run x y)) a = Steps (files x) (files y) a
 
 pub does : (files : Files) (words : List (List ℕ)) (a : Answer) → IsAnswer files words a → Does files (job_of words) a
 does files words a (usage none e) = let P : Option Job → Type 0 = λ j. Does files j a in subst P (sym none) e
@@ -105,10 +104,11 @@ does files words a (stressing x n is s) = let P : Option Job → Type 0 = λ j. 
 does files words a (refinement x y is s) = let P : Option Job → Type 0 = λ j. Does files j a in subst P (sym is) s
 does files words a (seeking x is s) = let P : Option Job → Type 0 = λ j. Does files j a in subst P (sym is) s
 does files words a (replaying x is s) = let P : Option Job → Type 0 = λ j. Does files j a in subst P (sym is) s
+does files words a (running x y is s) = let P : Option Job → Type 0 = λ j. Does files j a in subst P (sym is) s
 
 -- what follows stands on the reading of a text being one, on the verdict being one, on the normal text being one, and on scripts
 -- being read and answered in one way
-module _ (once : IsOnce) (only : IsOneVerdict) (single : IsOneText) (scripts : IsOneScript) where
+module _ (once : IsOnce) (only : IsOneVerdict) (single : IsOneText) (scripts : IsOneScript) (following : IsOneFollowing) where
   -- ---- two programs
 
   decided_alike : (p q r s : Program) (v w : Verdict) → p.params ≡ r.params → tree p.body ≡ tree r.body → tree q.body ≡ tree s.body
@@ -256,6 +256,29 @@ module _ (once : IsOnce) (only : IsOneVerdict) (single : IsOneText) (scripts : I
       takes_alike once First one [] (IsJudged s.bytes) (IsJudged s.bytes) a b (λ m n p q x d. judged_alike s.bytes m n p q a b d) s.judged
       (subst P (same_bytes two t.bytes s.bytes t.there s.there) t.judged)
 
+  -- ---- a text that may be a schedule
+
+  run_alike : (bytes : List ℕ) (m n : List (List ℕ)) (p q : Program) (a b : Answer) → AreOne m n p q → IsRun bytes m p a → IsRun bytes n q b → AreAlike a b
+  run_alike bytes m n p q a b d (too_long_schedule l e) (too_long_schedule k h) = alike a b (TooLong Second) (TooLong Second) e refl h
+  run_alike bytes m n p q a b d (too_long_schedule l e) (faulty_schedule y k s h) = absurd (omega (arith, l, k))
+  run_alike bytes m n p q a b d (too_long_schedule l e) (followed_schedule c g k s w h) = absurd (omega (arith, l, k))
+  run_alike bytes m n p q a b d (faulty_schedule x l r e) (too_long_schedule k h) = absurd (omega (arith, l, k))
+  run_alike bytes m n p q a b d (faulty_schedule x l r e) (faulty_schedule y k s h) =
+      alike a b (RefusedSchedule x) (RefusedSchedule y) e (ap RefusedSchedule (err_is x y (schedule_read p.params bytes) r ((λ i. schedule_read (d.params i) bytes) ∙ s))) h
+  run_alike bytes m n p q a b d (faulty_schedule x l r e) (followed_schedule c g k s w h) = absurd (not_both c x (schedule_read p.params bytes) ((λ i. schedule_read (d.params i) bytes) ∙ s) r)
+  run_alike bytes m n p q a b d (followed_schedule v f l r u e) (too_long_schedule k h) = absurd (omega (arith, l, k))
+  run_alike bytes m n p q a b d (followed_schedule v f l r u e) (faulty_schedule y k s h) = absurd (not_both v y (schedule_read p.params bytes) r ((λ i. schedule_read (d.params i) bytes) ∙ s))
+  run_alike bytes m n p q a b d (followed_schedule v f l r u e) (followed_schedule c g k s w h) =
+      let one : v ≡ c = ok_is v c (schedule_read p.params bytes) r ((λ i. schedule_read (d.params i) bytes) ∙ s) in
+      let P : Schedule → Type 0 = λ x. IsFollowed q x g in
+      alike a b (Stepped m f) (Stepped n g) e (ap₂ Stepped d.names (following p q v f g d.params d.body u (subst P (sym one) w))) h
+
+  steps_alike : (one two : Option (List ℕ)) (a b : Answer) → Steps one two a → Steps one two b → AreAlike a b
+  steps_alike one two a b s t =
+      let P : List ℕ → Type 0 = λ bytes. Takes First one [] (IsRun bytes) b in
+      takes_alike once First one [] (IsRun s.bytes) (IsRun s.bytes) a b (λ m n p q x d. run_alike s.bytes m n p q a b d) s.judged
+      (subst P (same_bytes two t.bytes s.bytes t.there s.there) t.judged)
+
   -- ---- command lines
 
   does_alike : (files : Files) (j : Option Job) (a b : Answer) → Does files j a → Does files j b → AreAlike a b
@@ -266,6 +289,7 @@ module _ (once : IsOnce) (only : IsOneVerdict) (single : IsOneText) (scripts : I
   does_alike files (Some (normalise x)) a b s t = takes_alike once First (files x) [] IsNormalised IsNormalised a b (λ m n p q y d. normalised_alike (files x) m n p q a b y d) s t
   does_alike files (Some (normal x)) a b s t = checks_alike (files x) a b s t
   does_alike files (Some (replay x)) a b s t = replays_alike scripts (files x) a b s t
+  does_alike files (Some (run x y)) a b s t = steps_alike (files x) (files y) a b s t
   does_alike files (Some (belongs x y)) a b s t = judges_alike (files x) (files y) a b s t
   does_alike files (Some (stress shape n)) a b s t =
       takes_alike once First (Some (program_text shape n)) [] (IsStressed shape n) (IsStressed shape n) a b (λ j k p q y d. stressed_alike (Some (program_text shape n)) shape n j k p q a b y d) s t

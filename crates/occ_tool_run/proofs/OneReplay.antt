@@ -1,5 +1,5 @@
 -- A script is replayed with one answer.
-use Rattle.std.proofs.Common.{◌≡◌, ◌≢◌, ◌≤◌, ℕ, List, [], ◌∷◌, length, map, Option, Some, Err, slice_index_or, refl, sym, ◌∙◌, ap, ap₂, subst, arith}
+use Rattle.std.proofs.Common.{◌≡◌, ◌≢◌, ◌≤◌, ℕ, List, [], ◌∷◌, length, map, Option, Err, refl, sym, ◌∙◌, ap, subst, arith}
 use Rattle.std.specs.Option.{option_map}
 use Rattle.std.proofs.lemmas.List.{length-map}
 use Rattle.occ_base.specs.declared.names.Name.{Name}
@@ -7,14 +7,14 @@ use Rattle.occ_behaviour.specs.declared.behaviour.Side.TheVariants.{First}
 use Rattle.occ_replay.specs.declared.result.Rejected.{Rejected}
 use Rattle.occ_replay.specs.declared.result.Rejected.TheVariants as rejected
 use Rattle.occ_replay.specs.Scripts.{IsReplayed, number_of, step_of, steps_of}
-use Rattle.occ_replay_rules.specs.Replays.{IsAstray, IsCutOff, IsDerivation, IsEnd, Replayed, Replays, breaks_usage, joined, lacking, wrong_end}
+use Rattle.occ_replay_rules.specs.Replays.{IsEnd, Replayed, Replays, breaks_usage, joined, lacking, wrong_end}
 use Rattle.occ_replay_rules.specs.Steps.{Derives, Lack, Step, Stops, no_law, no_path, not_accepted, not_instance}
 use Rattle.occ_script.specs.declared.fault.ScriptFault.{ScriptFault}
 use Rattle.occ_script.specs.declared.script.Script.{Script}
 use Rattle.occ_script.specs.declared.script.Step.{Step as Read}
 use Rattle.occ_script.specs.Refusals.{IsScriptFault}
 use Rattle.occ_script.specs.Scripts.{IsScript}
-use Rattle.occ_script.specs.Shown.{ShownProgram, ShownStep, shown, shown_program, shown_step}
+use Rattle.occ_script.specs.Shown.{ShownStep, shown, shown_program, shown_step}
 use Rattle.occ_syntax.specs.declared.scope.Kind.{Kind}
 use Rattle.occ_syntax.specs.declared.scope.Program.{Program}
 use Rattle.occ_syntax.specs.Counts.{bits_of_scope, controls, most_bits}

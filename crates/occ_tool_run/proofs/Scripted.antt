@@ -1,5 +1,5 @@
 -- Scripts that were read and replayed.
-use Rattle.std.proofs.Common.{◌≡◌, ◌≢◌, ◌≤◌, ◌⊎◌, inl, inr, ℕ, List, [], length, Option, Some, Result, Ok, Err, IfOk, Vec, Global, refl, sym, ap, subst, ◌∙◌}
+use Rattle.std.proofs.Common.{◌≡◌, ◌≢◌, ◌≤◌, ◌⊎◌, inl, inr, ℕ, List, [], length, Option, Result, Ok, Err, IfOk, Vec, Global, refl, sym, ap, subst, ◌∙◌}
 use Rattle.occ_base.specs.declared.memory.Memory.{Memory}
 use Rattle.occ_parse.specs.Known.{NamesAreKnown}
 use Rattle.occ_parse_reading.specs.declared.fault.ParseFault.{ParseFault}
@@ -25,7 +25,7 @@ use Rattle.occ_syntax.specs.Same.{SAME}
 use Rattle.occ_syntax.specs.Scopes.{environment}
 use Rattle.occ_syntax.specs.View.{tree}
 use Rattle.occ_tool_run.specs.declared.answer.Answer.{Answer}
-use Rattle.occ_tool_run.specs.declared.answer.Answer.TheVariants.{RefusedScript, Joined, Unjoined}
+use Rattle.occ_tool_run.specs.declared.answer.Answer.TheVariants.{Joined, Unjoined}
 use Rattle.occ_tool_run.specs.declared.load.Loaded.{Loaded}
 use Rattle.occ_tool_run.specs.declared.load.Loaded.TheVariants.{Bytes}
 use Rattle.occ_tool_run.specs.Derivations.{IsRejection, IsReplayAnswer, IsReplayOf, IsScriptRefusal, Replays, faulty_script, joined_script, line_of_cause, rejected_script, replayed_script}

@@ -3,7 +3,7 @@ use Rattle.std.proofs.Common.{◌≡◌, ◌+◌, ◌*◌, ◌≤◌, ◌==◌, 
 use Rattle.std.specs.Str.{bytes_eq}
 use Rattle.std.proofs.lemmas.Bool.{and_parts, leb-true}
 use Rattle.occ_gen.specs.declared.shape.Shape.{Shape}
-use Rattle.occ_tool_words.specs.Words.{Job, same, normalise, normal, belongs, stress, refine, deadlock, replay, digit_of, in_range, is_plain, job_of, shape_of, stages_of, stress_of, two_digits, with_one, with_two}
+use Rattle.occ_tool_words.specs.Words.{Job, same, normalise, normal, belongs, stress, refine, deadlock, replay, run, digit_of, in_range, is_plain, job_of, shape_of, stages_of, stress_of, two_digits, with_one, with_two}
 
 abbrev pub InRange : ℕ → Type 0
 InRange n = (1 ≤ n) × (n ≤ 48)
@@ -22,6 +22,7 @@ IsFit (Some (stress shape n)) = InRange n
 IsFit (Some (refine a b)) = Unit {0}
 IsFit (Some (deadlock a)) = Unit {0}
 IsFit (Some (replay a)) = Unit {0}
+IsFit (Some (run a b)) = Unit {0}
 
 -- either of two
 choice : (b : Bool) (x y : Option Job) → IsFit x → IsFit y → IsFit (if b then x else y)
@@ -72,7 +73,8 @@ of_two command first second =
     choice (bytes_eq command (codes "same")) (Some (same first second)) _ tt
     (choice (bytes_eq command (codes "belongs")) (Some (belongs first second)) _ tt
     (choice (bytes_eq command (codes "stress")) (stress_of first second) _ (shaped (shape_of first) (stages_of second) (staged second))
-    (choice (bytes_eq command (codes "refine")) (Some (refine first second)) None tt tt)))
+    (choice (bytes_eq command (codes "refine")) (Some (refine first second)) _ tt
+    (choice (bytes_eq command (codes "run")) (Some (run first second)) None tt tt))))
 
 fit : (words : List (List ℕ)) → IsFit (job_of words)
 fit [] = tt

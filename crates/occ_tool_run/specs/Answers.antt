@@ -1,5 +1,5 @@
 -- Which answer a command line has over the files.
-use Rattle.std.specs.Prelude.{ℕ, ◌≡◌, ◌≤◌, ◌<◌, ◌↔◌, Bool, true, List, [], length, Option, None, Some, Result, Ok, Err, IsTrue, Vec}
+use Rattle.std.specs.Prelude.{ℕ, ◌≡◌, ◌≤◌, ◌<◌, ◌↔◌, Bool, List, [], length, Option, None, Some, Ok, Err, IsTrue, Vec}
 use Rattle.std.specs.declared.alloc.Global.{Global}
 use Rattle.std.specs.declared.cmp.Ordering.{Ordering}
 use Rattle.std.specs.declared.cmp.Ordering.TheVariants.{Less, Equal, Greater}
@@ -23,13 +23,14 @@ use Rattle.occ_nform.specs.Written.{IsNormalText}
 use Rattle.occ_nform_program.specs.Counted.{HasCounts}
 use Rattle.occ_views.specs.declared.refined.Refined.{Refined as Refinement}
 use Rattle.occ_views.specs.Programs.{IsRefinement, IsDeadlockAnswer}
-use Rattle.occ_tool_words.specs.Words.{same, normalise, normal, belongs, stress, refine, deadlock, replay, job_of}
+use Rattle.occ_tool_words.specs.Words.{same, normalise, normal, belongs, stress, refine, deadlock, replay, run, job_of}
 use Rattle.occ_tool_run.specs.declared.answer.Answer.{Answer}
 use Rattle.occ_tool_run.specs.declared.answer.Answer.TheVariants.{Usage, Refused, Unusable, TooLong, RefusedTable, RefusedClaim, InterfacesDiffer, Compared, Written, Counted, Member, Stressed, Allowed, Sought}
 use Rattle.occ_tool_run.specs.declared.judge.Question.{Question}
 use Rattle.occ_tool_run.specs.declared.judge.Question.TheVariants.{WhetherSame, WhetherRefined}
 use Rattle.occ_tool_run.specs.Accepts.{IsAccepted, IsRefused, IsUnusable, IsThere}
 use Rattle.occ_tool_run.specs.Derivations.{Replays}
+use Rattle.occ_tool_run.specs.Runs.{IsRun}
 use Rattle.occ_tool_run.specs.Files.{Files, most_bytes, most_table_bytes, order_of}
 use Rattle.occ_tool_run.specs.Texts.{status_of, text_of}
 
@@ -141,6 +142,13 @@ pub record Judges (one two : Option (List ℕ)) (answer : Answer) : Type 0 where
   pub there : two ≡ Some bytes
   pub judged : Takes First one [] (IsJudged bytes) answer
 
+-- The answer to two files: of a program, and of a schedule that its steps are to follow. Both are there, and the program is
+-- judged first.
+pub record Steps (one two : Option (List ℕ)) (answer : Answer) : Type 0 where
+  pub bytes : List ℕ
+  pub there : two ≡ Some bytes
+  pub judged : Takes First one [] (IsRun bytes) answer
+
 -- ---- a generated program
 
 -- the answer tells the figures of the normal text of the accepted program
@@ -166,6 +174,7 @@ pub data IsAnswer (files : Files) (words : List (List ℕ)) (answer : Answer) : 
   refinement : (first second : List ℕ) → job_of words ≡ Some (refine first second) → Settles WhetherRefined (files first) (files second) answer → IsAnswer files words answer
   seeking : (program : List ℕ) → job_of words ≡ Some (deadlock program) → Seeks (files program) answer → IsAnswer files words answer
   replaying : (text : List ℕ) → job_of words ≡ Some (replay text) → Replays (files text) answer → IsAnswer files words answer
+  running : (program text : List ℕ) → job_of words ≡ Some (run program text) → Steps (files program) (files text) answer → IsAnswer files words answer
 
 -- The words and the files have an answer with this status and this text.
 pub record Answers (files : Files) (words : List (List ℕ)) (status : ℕ) (text : List ℕ) : Type 0 where

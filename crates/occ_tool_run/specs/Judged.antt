@@ -1,6 +1,5 @@
 -- What is judged of files that were read.
 use Rattle.std.specs.Prelude.{ℕ, ◌≡◌, ◌≢◌, List, [], ◌∷◌, true, slice_index_or}
-use Rattle.occ_base.specs.Names.{IsDistinct}
 use Rattle.occ_syntax.specs.declared.scope.Program.{Program}
 use Rattle.occ_nform_table.specs.Tables.{IsInterface, are_params}
 use Rattle.occ_usage.specs.Accepted.{usage_faults}

@@ -2,6 +2,7 @@ pub mod Files
 pub mod Texts
 pub mod Accepts
 pub mod Derivations
+pub mod Runs
 pub mod Pairs
 pub mod Answers
 pub mod Ran

@@ -26,10 +26,14 @@ use Rattle.occ_gen.specs.declared.shape.Shape.TheVariants.{Buffers, Adders, Muxe
 use Rattle.occ_nform.specs.declared.figures.Counts.{Counts}
 use Rattle.occ_replay.specs.declared.result.Rejected.{Rejected}
 use Rattle.occ_replay.specs.declared.result.Rejected.TheVariants as rejected
+use Rattle.occ_run_follow.specs.declared.following.Followed.{Followed}
+use Rattle.occ_run_follow.specs.declared.following.Followed.TheVariants.{Stood, NoStep}
+use Rattle.occ_run_follow.specs.Following.{FollowedIsNamed}
+use Rattle.occ_run_follow.specs.Texts.{followed_text}
 use Rattle.occ_script.specs.declared.fault.ScriptFault.{ScriptFault}
 use Rattle.occ_script.specs.declared.fault.ScriptFault.TheVariants as script
 use Rattle.occ_tool_run.specs.declared.answer.Answer.{Answer}
-use Rattle.occ_tool_run.specs.declared.answer.Answer.TheVariants.{Usage, Refused, Unusable, TooLong, RefusedTable, RefusedClaim, InterfacesDiffer, Compared, Written, Counted, Member, Stressed, Allowed, Sought, RefusedScript, Joined, Unjoined}
+use Rattle.occ_tool_run.specs.declared.answer.Answer.TheVariants.{Usage, Refused, Unusable, TooLong, RefusedTable, RefusedClaim, InterfacesDiffer, Compared, Written, Counted, Member, Stressed, Allowed, Sought, RefusedScript, Joined, Unjoined, RefusedSchedule, Stepped}
 
 abbrev pub status_of_verdict : Verdict → ℕ
 status_of_verdict Same = 0
@@ -46,6 +50,10 @@ status_of_refined (No behaviour) = 1
 abbrev pub status_of_found : Option Behaviour → ℕ
 status_of_found None = 0
 status_of_found (Some behaviour) = 1
+
+abbrev pub status_of_followed : Followed → ℕ
+status_of_followed (Stood shown) = 0
+status_of_followed (NoStep step) = 3
 
 abbrev pub status_of : Answer → ℕ
 status_of Usage = 2
@@ -65,6 +73,8 @@ status_of (Sought names found) = status_of_found found
 status_of (RefusedScript fault) = 3
 status_of (Joined steps) = 0
 status_of (Unjoined names line cause) = 1
+status_of (RefusedSchedule line) = 3
+status_of (Stepped names followed) = status_of_followed followed
 
 abbrev pub place_text : Side → List ℕ
 place_text First = codes "FIRST"
@@ -248,6 +258,8 @@ text_of (Sought names found) = found_text names found
 text_of (RefusedScript fault) = script_refusal_text fault
 text_of (Joined steps) = figure_text (codes "JOINED") steps
 text_of (Unjoined names line cause) = rejection_text names line cause
+text_of (RefusedSchedule line) = refusal_text Second line (codes "Form")
+text_of (Stepped names followed) = followed_text names followed
 
 abbrev pub RefinementIsNamed : List (List ℕ) → Refinement → Type 0
 RefinementIsNamed names Yes = Unit {0}
@@ -276,3 +288,5 @@ IsPrintable (Sought names found) = FoundIsNamed names found
 IsPrintable (RefusedScript fault) = ScriptFaultIsTold fault
 IsPrintable (Joined steps) = Unit {0}
 IsPrintable (Unjoined names line cause) = CauseIsNamed names cause
+IsPrintable (RefusedSchedule line) = Unit {0}
+IsPrintable (Stepped names followed) = FollowedIsNamed names followed

@@ -13,6 +13,7 @@ use occ_nform::Counts;
 use occ_nform_table::TableFault;
 use occ_parse_reading::ParseFault;
 use occ_replay::Rejected;
+use occ_run_follow::{Followed, followed_text};
 use occ_script::ScriptFault;
 use occ_usage::UsageFault;
 use occ_views::Refined;
@@ -98,6 +99,15 @@ pub enum Answer {
         line: u32,
         cause: Rejected,
     },
+    /// The second text isn't a schedule.
+    RefusedSchedule {
+        line: u32,
+    },
+    /// Where the steps of a schedule lead.
+    Stepped {
+        names: Names,
+        followed: Followed,
+    },
 }
 
 /// The status of an answer.
@@ -126,6 +136,11 @@ pub fn status(answer: &Answer) -> u8
         Answer::RefusedScript { .. } => 3,
         Answer::Joined { .. } => 0,
         Answer::Unjoined { .. } => 1,
+        Answer::RefusedSchedule { .. } => 3,
+        Answer::Stepped { followed, .. } => match followed {
+            Followed::Stood(_) => 0,
+            Followed::NoStep { .. } => 3,
+        },
     }
 }
 
@@ -164,6 +179,8 @@ pub fn text(alloc: Global, answer: Answer) -> Result<Vec<u8>, Memory>
         Answer::RefusedScript { fault } => script_refusal(alloc, fault),
         Answer::Joined { steps } => figure(alloc, b"JOINED", u64::from(steps)),
         Answer::Unjoined { names, line, cause } => rejection(alloc, &names, line, cause),
+        Answer::RefusedSchedule { line } => claim_refusal(alloc, line),
+        Answer::Stepped { names, followed } => followed_text(alloc, &names, followed),
     }
 }
 

@@ -2,7 +2,7 @@ ghost use Rattle.std.specs.Prelude.{◌≡◌, ◌≢◌, ◌<◌, ◌∷◌, []
 ghost use Rattle.occ_tool_run.specs.Files.{AsksFor, CountsStop};
 ghost use Rattle.occ_tool_run.specs.Texts.{IsPrintable};
 ghost use Rattle.occ_tool_run.specs.Derivations.{Replays};
-ghost use Rattle.occ_tool_run.specs.Answers.{Checks, Judges, Normalises, Seeks, Settles};
+ghost use Rattle.occ_tool_run.specs.Answers.{Checks, Judges, Normalises, Seeks, Settles, Steps};
 
 use crate::answer::Answer;
 use crate::judge::{Question, judge};
@@ -10,6 +10,7 @@ use crate::load::{Stop, load_both, load_script, load_table, load_text};
 use crate::member::belongs;
 use crate::normal::{check, normalise};
 use crate::replaying::replay;
+use crate::running::step;
 use crate::stuck::seek;
 use occ_desk::Desk;
 use std::alloc::Global;
@@ -110,6 +111,28 @@ pub fn belongs_file<D: Desk>(
 {
     let (one, two) = load_both(alloc, desk, program, text)?;
     Ok(belongs(alloc, &one, &two)?)
+}
+
+/// The answer to two files: of a program, and of a schedule that its steps are to follow.
+pub fn run_files<D: Desk>(
+    alloc: Global,
+    program: &str,
+    text: &str,
+    desk: &mut D,
+) -> Result<Answer, Stop>
+    requires reads_countable { D.read_faults desk.old < u64.MAX }
+    requires writes_countable { D.write_faults desk.old < u64.MAX }
+    ensures steps { IfOk result (λ answer. IfSome (D.files desk.old) (λ files. Steps (files program.now) (files text.now) answer)) }
+    ensures printable { IfOk result IsPrintable }
+    ensures usage { IfOk result (λ answer. answer ≢ Answer.Usage) }
+    ensures asked { AsksFor (D.asked desk.old) (D.asked desk.new) (program.now ∷ text.now ∷ []) result }
+    ensures read_faults { CountsStop (D.read_faults desk.old) (D.read_faults desk.new) result }
+    ensures files { D.files desk.new ≡ D.files desk.old }
+    ensures written { D.written desk.new ≡ D.written desk.old }
+    ensures write_faults { D.write_faults desk.new ≡ D.write_faults desk.old }
+{
+    let (one, two) = load_both(alloc, desk, program, text)?;
+    Ok(step(alloc, &one, &two)?)
 }
 
 /// The answer to a file that is to be a script.

@@ -6,6 +6,7 @@ use occ_nform::normal_texts_tell_programs_apart;
 use occ_nform_params::parameters_have_names;
 use occ_parse_reading::one_reading;
 use occ_replay_rules::scripts_have_one_answer;
+use occ_run_follow::one_following;
 use occ_script::one_script;
 use occ_verdict::{one_verdict, refined_both_ways};
 use occ_views::{one_deadlock, one_refinement};
@@ -23,6 +24,7 @@ pub fn one_answer()
     one_deadlock();
     one_script();
     scripts_have_one_answer();
+    one_following();
 }
 
 /// Two files are answered with SAME exactly where each of them is answered to refine the other, whichever is given first.

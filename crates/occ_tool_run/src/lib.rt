@@ -13,9 +13,8 @@ mod normal;
 mod refusal;
 mod rejection;
 mod replaying;
+mod running;
 mod stuck;
-#[cfg(test)]
-mod tests;
 mod top;
 
 pub use law::{one_answer, same_where_both_refine};

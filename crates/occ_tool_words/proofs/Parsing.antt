@@ -10,7 +10,7 @@ use Rattle.clap.specs.Kinds.{Kinds, or_else}
 use Rattle.clap.specs.Faults.{turn_fault, walk_fault, entered_fault, fault_of, settle_fault, defaults_fault, check_fault, stray_fault}
 use Rattle.clap.specs.Simple.{App, Shape, built, names_of, rows_at, subcommand_of, entered}
 use Rattle.clap.proofs.OnLiterals.{clap_on_literals}
-use Rattle.occ_tool_words.specs.Words.{Job, same, normalise, normal, belongs, refine, deadlock, replay, is_plain, job_of, stress_of, with_one, with_two}
+use Rattle.occ_tool_words.specs.Words.{Job, same, normalise, normal, belongs, refine, deadlock, replay, run, is_plain, job_of, stress_of, with_one, with_two}
 use Rattle.occ_tool_words.specs.CommandLine.{line, job_found, job_named}
 use Rattle.std.proofs.Common.{String, Global, string_bytes}
 use Rattle.std.specs.Prelude.{Box}
@@ -45,6 +45,7 @@ data Two : Type 0 where
   judges : Two
   stresses : Two
   refines : Two
+  steps : Two
 
 abbrev one_named : One → Text
 one_named normalises = codes "normalise"
@@ -57,6 +58,7 @@ two_named compares = codes "same"
 two_named judges = codes "belongs"
 two_named stresses = codes "stress"
 two_named refines = codes "refine"
+two_named steps = codes "run"
 
 -- a word that names no command
 record IsOther (word : Text) : Type 0 where
@@ -68,6 +70,7 @@ record IsOther (word : Text) : Type 0 where
   not_refine : bytes_eq (codes "refine") word ≡ false
   not_deadlock : bytes_eq (codes "deadlock") word ≡ false
   not_replay : bytes_eq (codes "replay") word ≡ false
+  not_run : bytes_eq (codes "run") word ≡ false
 
 data Naming (word : Text) : Type 0 where
   names_one : (v : One) → one_named v ≡ word → Naming word
@@ -95,16 +98,20 @@ naming word =
                   | inl e ↦ names_one sticks (equal (codes "deadlock") word e)
                   | inr h ↦ elim (cases_Bool (bytes_eq (codes "replay") word)) [
                     | inl e ↦ names_one replays (equal (codes "replay") word e)
-                    | inr i ↦ names_none (record {
-                      not_same = a;
-                      not_normalise = b;
-                      not_normal = c;
-                      not_belongs = d;
-                      not_stress = f;
-                      not_refine = g;
-                      not_deadlock = h;
-                      not_replay = i;
-                    })
+                    | inr i ↦ elim (cases_Bool (bytes_eq (codes "run") word)) [
+                      | inl e ↦ names_two steps (equal (codes "run") word e)
+                      | inr j ↦ names_none (record {
+                        not_same = a;
+                        not_normalise = b;
+                        not_normal = c;
+                        not_belongs = d;
+                        not_stress = f;
+                        not_refine = g;
+                        not_deadlock = h;
+                        not_replay = i;
+                        not_run = j;
+                      })
+                    ]
                   ]
                 ]
               ]
@@ -138,7 +145,8 @@ other_name word other =
     past_name (codes "same") word (drop 1 names) other.not_same ∙ past_name (codes "normalise") word (drop 2 names) other.not_normalise
     ∙ past_name (codes "normal") word (drop 3 names) other.not_normal ∙ past_name (codes "belongs") word (drop 4 names) other.not_belongs
     ∙ past_name (codes "stress") word (drop 5 names) other.not_stress ∙ past_name (codes "refine") word (drop 6 names) other.not_refine
-    ∙ past_name (codes "deadlock") word (drop 7 names) other.not_deadlock ∙ past_name (codes "replay") word [] other.not_replay
+    ∙ past_name (codes "deadlock") word (drop 7 names) other.not_deadlock ∙ past_name (codes "replay") word (drop 8 names) other.not_replay
+    ∙ past_name (codes "run") word [] other.not_run
 
 stray : (name word : Text) (more : List Text) → is_plain word ≡ true → IsOther word → fault_of line (name ∷ word ∷ more) ≡ [] → ⊥
 unfolding walk_fault
@@ -224,6 +232,12 @@ enters_two stresses = record {
 enters_two refines = record {
   walks = λ more. kept top.rules names (codes "refine") [] more;
   passes = λ more. no_more_faults top names (codes "refine") [] more;
+  fails = λ more. refl;
+  found = λ more. refl;
+}
+enters_two steps = record {
+  walks = λ more. kept top.rules names (codes "run") [] more;
+  passes = λ more. no_more_faults top names (codes "run") [] more;
   fails = λ more. refl;
   found = λ more. refl;
 }
@@ -326,7 +340,8 @@ other_two word a b other =
     passed (codes "same") word _ _ other.not_same
     (passed (codes "belongs") word _ _ other.not_belongs
     (passed (codes "stress") word _ _ other.not_stress
-    (passed (codes "refine") word _ _ other.not_refine refl)))
+    (passed (codes "refine") word _ _ other.not_refine
+    (passed (codes "run") word _ _ other.not_run refl))))
 
 not_with_two : (v : One) (a b : Text) → with_two (one_named v) a b ≡ None
 not_with_two normalises a b = refl
@@ -339,6 +354,7 @@ not_with_one compares a = refl
 not_with_one judges a = refl
 not_with_one stresses a = refl
 not_with_one refines a = refl
+not_with_one steps a = refl
 
 not_fitting : (name word : Text) (rest : List Text) → IsOther word → job_of (name ∷ word ∷ rest) ≡ None
 not_fitting name word [] other = refl
@@ -393,6 +409,7 @@ two_is_plain compares = refl
 two_is_plain judges = refl
 two_is_plain stresses = refl
 two_is_plain refines = refl
+two_is_plain steps = refl
 
 not_plain_rest : (name word : Text) (rest : List Text) → is_plain word ≡ true → list_all is_plain (word ∷ rest) ≡ false → job_of (name ∷ word ∷ rest) ≡ None
 not_plain_rest name word [] plain e = refl

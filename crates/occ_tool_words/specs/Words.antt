@@ -4,7 +4,7 @@ use Rattle.std.specs.Str.{bytes_eq}
 use Rattle.occ_gen.specs.declared.shape.Shape.{Shape}
 use Rattle.occ_gen.specs.declared.shape.Shape.TheVariants.{Buffers, Adders, Muxes}
 use Rattle.occ_tool_words.specs.declared.words.Command.{Command}
-use Rattle.occ_tool_words.specs.declared.words.Command.TheVariants.{Usage, Same, Normalise, Normal, Belongs, Stress, Refine, Deadlock, Replay}
+use Rattle.occ_tool_words.specs.declared.words.Command.TheVariants.{Usage, Same, Normalise, Normal, Belongs, Stress, Refine, Deadlock, Replay, Run}
 
 -- a command with its words: those that name files as they stand, the kind of a chain, and how many stages it has
 pub data Job : Type 0 where
@@ -16,6 +16,7 @@ pub data Job : Type 0 where
   refine : List ℕ → List ℕ → Job
   deadlock : List ℕ → Job
   replay : List ℕ → Job
+  run : List ℕ → List ℕ → Job
 
 abbrev pub job : Command → Option Job
 job Usage = None
@@ -27,6 +28,7 @@ job (Stress shape stages) = Some (stress shape stages)
 job (Refine first second) = Some (refine first.now second.now)
 job (Deadlock program) = Some (deadlock program.now)
 job (Replay text) = Some (replay text.now)
+job (Run program text) = Some (run program.now text.now)
 
 -- the word isn't empty and doesn't begin with a hyphen
 abbrev pub is_plain : List ℕ → Bool
@@ -74,7 +76,8 @@ with_two command first second =
     if bytes_eq command (codes "same") then Some (same first second)
     else (if bytes_eq command (codes "belongs") then Some (belongs first second)
     else (if bytes_eq command (codes "stress") then stress_of first second
-    else (if bytes_eq command (codes "refine") then Some (refine first second) else None)))
+    else (if bytes_eq command (codes "refine") then Some (refine first second)
+    else (if bytes_eq command (codes "run") then Some (run first second) else None))))
 
 -- The words fit where the second, after the program's own name, is a command, exactly that command's words follow, and
 -- no word after the first is empty or begins with a hyphen.
@@ -96,6 +99,7 @@ files_of (stress shape stages) = []
 files_of (refine first second) = first ∷ second ∷ []
 files_of (deadlock program) = program ∷ []
 files_of (replay text) = text ∷ []
+files_of (run program text) = program ∷ text ∷ []
 
 abbrev pub file_words_of : Option Job → List (List ℕ)
 file_words_of None = []

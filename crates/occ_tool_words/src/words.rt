@@ -34,6 +34,8 @@ pub enum Command<'a> {
     Deadlock { program: &'a str },
     /// To check the derivation in a file, law by law.
     Replay { text: &'a str },
+    /// To follow the schedule in one file through the program in another, step by step.
+    Run { program: &'a str, text: &'a str },
 }
 
 /// What the words of a command line ask for, the program's own name first.
@@ -100,7 +102,8 @@ fn add_later<'a>(alloc: Global, line: clap::Command<'a>) -> Result<clap::Command
 {
     let line = add_two(alloc, line, "refine")?;
     let line = add_one(alloc, line, "deadlock")?;
-    add_one(alloc, line, "replay")
+    let line = add_one(alloc, line, "replay")?;
+    add_two(alloc, line, "run")
 }
 
 /// The command line with no command yet.
@@ -204,6 +207,11 @@ fn command_of_two<'a>(name: &str, first: &'a str, second: &'a str) -> Command<'a
         stress_with(first, second)
     } else if name == "refine" {
         Command::Refine { first, second }
+    } else if name == "run" {
+        Command::Run {
+            program: first,
+            text: second,
+        }
     } else {
         Command::Usage
     }

@@ -1,4 +1,4 @@
-use Rattle.occ_tool_run.proofs.Pairs.{last_known, refuse_first, refuse_second, settle}
+use Rattle.occ_tool_run.proofs.Pairs.{refuse_first, refuse_second, settle}
 use Rattle.occ_tool_run.proofs.judge.in_order.Goals as goal
 
 pub returns-in-Err-clause-settles : goal.returns-in-Err-clause-settles

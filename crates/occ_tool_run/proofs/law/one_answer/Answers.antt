@@ -20,4 +20,4 @@ returns c = one_answer (record {
   one_fault = λ text old e f g h. c.one_script.ensures.fault text old e f g h;
   not_both = λ text old m s e g h. c.one_script.ensures.apart text old m s e g h;
   one_answer = c.scripts_have_one_answer.ensures;
-})
+}) c.one_following.ensures

@@ -1,7 +1,7 @@
 use Rattle.std.proofs.Common.{◌∙◌, map, string_bytes, sym, ap}
 use Rattle.occ_tool_words.specs.Words.{job}
 use Rattle.occ_tool_run.proofs.Stages.{asked_in_range}
-use Rattle.occ_tool_run.proofs.Leaving.{asked_same, asked_normalise, asked_normal, asked_belongs, asked_stress, asked_refine, asked_deadlock, asked_replay}
+use Rattle.occ_tool_run.proofs.Leaving.{asked_same, asked_normalise, asked_normal, asked_belongs, asked_stress, asked_refine, asked_deadlock, asked_replay, asked_run}
 use Rattle.occ_tool_run.proofs.top.find_answer.Goals as goal
 
 pub returns-in-Same-clause-answer : goal.returns-in-Same-clause-answer
@@ -35,6 +35,10 @@ returns-in-Deadlock-clause-answer g c = asked_deadlock _ _ c.in-Deadlock.program
 pub returns-in-Replay-clause-answer : goal.returns-in-Replay-clause-answer
 returns-in-Replay-clause-answer g c = asked_replay _ _ c.in-Replay.text.now c.replay_file.result
     (sym (ap job c.in-Replay.is) ∙ c.in_ok-command_in.ensures) c.replay_file.ensures.replays
+
+pub returns-in-Run-clause-answer : goal.returns-in-Run-clause-answer
+returns-in-Run-clause-answer g c = asked_run _ _ c.in-Run.program.now c.in-Run.text.now c.run_files.result
+    (sym (ap job c.in-Run.is) ∙ c.in_ok-command_in.ensures) c.run_files.ensures.steps
 
 pub stress-requires-clause-some : goal.stress-requires-clause-some
 stress-requires-clause-some g c = (asked_in_range (map string_bytes c.args.words.now) c.in-Stress.shape c.in-Stress.stages (sym (ap job c.in-Stress.is) ∙ c.in_ok-command_in.ensures)).0

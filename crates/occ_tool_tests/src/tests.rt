@@ -1,8 +1,8 @@
 ghost use Rattle.std.specs.Prelude.{◌≡◌, ◌≤◌, IfOk};
 
-use crate::run;
 use occ_base::Memory;
 use occ_desk::MemoryDesk;
+use occ_tool_run::run;
 use std::alloc::Global;
 use std::test::Fail;
 
@@ -504,6 +504,63 @@ fn scripts_are_replayed(rt: HostRuntime) -> Result<(), Fail> {
         ("occam-script 1\n", 3, "REFUSED FIRST 1 Version\n"),
     ] {
         let (answer, desk) = command(rt.alloc(), &["occam", "replay", "A"], script, SKIP)?;
+        assert_eq!(rt; answer, status);
+        assert_eq!(rt; desk.written(), text.as_bytes());
+    }
+    Ok(())
+}
+
+const MEETING: &str = "PROC p (WORD2 x, y)\n  CHAN OF WORD2 c:\n  PAR\n    c ! x\n    c ? y\n:\n";
+
+#[test]
+fn schedules_are_followed(rt: HostRuntime) -> Result<(), Fail> {
+    for (program, schedule, status, text) in [
+        (
+            MEETING,
+            "occam-schedule 1\nSTATE [2 0]\n",
+            0,
+            "MOVING 1\nSTATE [2 0]\nTRACE\n",
+        ),
+        (
+            MEETING,
+            "occam-schedule 1\nSTATE [2 0]\nSTEP 0\n",
+            0,
+            "ENDED\nSTATE [2 0]\nTRACE\nENDS [2 2]\n",
+        ),
+        (
+            MEETING,
+            "occam-schedule 1\nSTATE [2 0]\nSTEP 1\n",
+            3,
+            "REFUSED STEP 1 NoStep\n",
+        ),
+        (
+            MEETING,
+            "occam-schedule 1\nSTATE [2 4]\nSTEP 0\n",
+            3,
+            "REFUSED SECOND 2 Form\n",
+        ),
+        (
+            MEETING,
+            "occam-schedule 1\nSTATE [2 0]\nSTEP 00\n",
+            3,
+            "REFUSED SECOND 3 Form\n",
+        ),
+        (
+            BOTH_WAYS,
+            "occam-schedule 1\nSTATE []\n",
+            0,
+            "STABLE 2\nSTATE []\nTRACE\nREFUSES {a!0 b!0}\n",
+        ),
+        (
+            THEN_STOP,
+            "occam-schedule 1\nSTATE []\nSTEP 0\n",
+            0,
+            "STUCK\nSTATE []\nTRACE a!1\nREFUSES {a!0 a!1 b!0 b!1}\n",
+        ),
+        ("x", "", 3, "REFUSED FIRST 1 Form\n"),
+    ] {
+        let words = ["occam", "run", "A", "B"].as_slice();
+        let (answer, desk) = command(rt.alloc(), words, program, schedule)?;
         assert_eq!(rt; answer, status);
         assert_eq!(rt; desk.written(), text.as_bytes());
     }
