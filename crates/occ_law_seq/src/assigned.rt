@@ -166,7 +166,7 @@ fn alt_assigned(
 }
 
 /// Whether all branches spare what they input: no right side that is kept behind a guard names it.
-fn spare_all(pairs: &Pairs<'_>, alternatives: &[(Guard, Proc)]) -> bool
+pub fn spare_all(pairs: &Pairs<'_>, alternatives: &[(Guard, Proc)]) -> bool
     ensures { result ≡ spare_inputs (numbers pairs.now.vars.now) (exps pairs.now.values.now) (branches alternatives.now) }
 {
     for (guard, _) in alternatives {

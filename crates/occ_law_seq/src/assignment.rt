@@ -20,7 +20,7 @@ pub(crate) fn assign_id(left: &Proc, right: &Proc) -> Result<bool, Memory>
 }
 
 /// Whether the expressions are these variables, one by one.
-fn are_variables(vars: &[Name], values: &[Expr]) -> bool
+pub fn are_variables(vars: &[Name], values: &[Expr]) -> bool
     ensures { IsTrue result ↔ (exps values.now ≡ variables (numbers vars.now)) }
 {
     let mut names = vars;

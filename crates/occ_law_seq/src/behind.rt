@@ -65,7 +65,7 @@ impl BranchPiece for Followed<'_> {
 }
 
 /// The first part of a list and the rest; None exactly where the list is empty.
-fn divided(parts: &[Proc]) -> Option<(&Proc, &[Proc])>
+pub fn divided(parts: &[Proc]) -> Option<(&Proc, &[Proc])>
     ensures { IsDivided (trees parts.now) result }
 {
     let [first, rest @ ..] = parts else {

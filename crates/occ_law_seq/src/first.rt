@@ -17,7 +17,7 @@ pub(crate) fn in_turn(part: &Proc) -> Option<(&Proc, &Proc)>
 }
 
 /// The pairs of an assignment and the process behind it, of a SEQ of these two; None exactly where the part is no such SEQ.
-pub(crate) fn assigned_first(part: &Proc) -> Option<(Pairs<'_>, &Proc)>
+pub fn assigned_first(part: &Proc) -> Option<(Pairs<'_>, &Proc)>
     ensures { IsAssignedFirst (tree part.now) result }
 {
     let (first, second) = in_turn(part)?;

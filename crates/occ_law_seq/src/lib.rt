@@ -13,4 +13,9 @@ mod pairs;
 mod places;
 mod sequence;
 
+pub use assigned::spare_all;
+pub use assignment::are_variables;
+pub use behind::divided;
 pub use decide::holds;
+pub use first::assigned_first;
+pub use pairs::Pairs;

@@ -11,14 +11,16 @@ use occ_syntax::{Expr, Op, Proc, same_expr};
 
 /// The pairs of an assignment: its variables, and the right side of each.
 #[derive(Clone, Copy)]
-pub(crate) struct Pairs<'a> {
-    pub(crate) vars: &'a [Name],
-    pub(crate) values: &'a [Expr],
+pub struct Pairs<'a> {
+    /// The variables.
+    pub vars: &'a [Name],
+    /// The right sides, one for each variable.
+    pub values: &'a [Expr],
 }
 
 impl<'a> Pairs<'a> {
     /// The pairs of a part that is an assignment; None exactly where it is none.
-    pub(crate) fn of(part: &'a Proc) -> Option<Pairs<'a>>
+    pub fn of(part: &'a Proc) -> Option<Pairs<'a>>
         ensures { IsAssignment (tree part.now) result }
     {
         match opened(part) {
@@ -40,7 +42,7 @@ impl<'a> Pairs<'a> {
     }
 
     /// The right side of a variable; None where the variable has none.
-    pub(crate) fn value(&self, var: Name) -> Option<&'a Expr>
+    pub fn value(&self, var: Name) -> Option<&'a Expr>
         ensures { standing_for var.0 result ≡ value_for (numbers self.now.vars.now) (exps self.now.values.now) var.0 }
     {
         let mut vars = self.vars;
