@@ -1,0 +1,4 @@
+pub mod Parting
+pub mod Putting
+pub mod Rights
+pub mod Tabled
