@@ -8,7 +8,7 @@ use occ_law_shape::{Form, opened};
 use occ_syntax::{Guard, Proc, same_proc};
 
 /// Whether two branches are the same.
-pub(crate) fn same_branch(left: &(Guard, Proc), right: &(Guard, Proc)) -> bool
+pub fn same_branch(left: &(Guard, Proc), right: &(Guard, Proc)) -> bool
     ensures { IsTrue result ↔ IsSameBranch left.now right.now }
 {
     same_guard(&left.0, &right.0) && same_proc(&left.1, &right.1)
@@ -32,10 +32,7 @@ pub(crate) fn after<'a>(
 }
 
 /// What stands in a list behind the branches of another, where it begins with these; None exactly where it doesn't.
-pub(crate) fn behind<'a>(
-    first: &[(Guard, Proc)],
-    all: &'a [(Guard, Proc)],
-) -> Option<&'a [(Guard, Proc)]>
+pub fn behind<'a>(first: &[(Guard, Proc)], all: &'a [(Guard, Proc)]) -> Option<&'a [(Guard, Proc)]>
     ensures { IsBehind (branches first.now) (branches all.now) result }
 {
     let mut front = first;
@@ -78,7 +75,7 @@ pub(crate) fn is_joined(
 
 /// The process of a list's first branch and the rest, where that branch has the guard TRUE & SKIP; None exactly where
 /// it hasn't.
-pub(crate) fn skip_first(all: &[(Guard, Proc)]) -> Option<(&Proc, &[(Guard, Proc)])>
+pub fn skip_first(all: &[(Guard, Proc)]) -> Option<(&Proc, &[(Guard, Proc)])>
     ensures { BeginsWithSkip (branches all.now) result }
 {
     let [first, rest @ ..] = all else {
@@ -93,7 +90,7 @@ pub(crate) fn skip_first(all: &[(Guard, Proc)]) -> Option<(&Proc, &[(Guard, Proc
 
 /// The branches of the ALT under a list's first guard and the rest, where that guard is TRUE & SKIP and an ALT stands
 /// under it; None exactly where it isn't so.
-pub(crate) fn alt_first(all: &[(Guard, Proc)]) -> Option<(&[(Guard, Proc)], &[(Guard, Proc)])>
+pub fn alt_first(all: &[(Guard, Proc)]) -> Option<(&[(Guard, Proc)], &[(Guard, Proc)])>
     ensures { BeginsWithAlt (branches all.now) result }
 {
     match skip_first(all) {

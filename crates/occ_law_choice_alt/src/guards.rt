@@ -7,7 +7,7 @@ use occ_law_shape::same_waits;
 use occ_syntax::{Expr, Guard, Proc, Wait, same_expr};
 
 /// Whether two guards are the same.
-pub(crate) fn same_guard(left: &Guard, right: &Guard) -> bool
+pub fn same_guard(left: &Guard, right: &Guard) -> bool
     ensures { IsTrue result ↔ ((exp left.now.condition ≡ exp right.now.condition) × (waiting left.now.wait ≡ waiting right.now.wait)) }
 {
     same_expr(&left.condition, &right.condition) && same_waits(&left.wait, &right.wait)
@@ -24,7 +24,7 @@ pub(crate) fn is_truth(expr: &Expr) -> bool
 }
 
 /// Whether a guard waits for an input or an output.
-pub(crate) fn is_event(wait: &Wait) -> bool
+pub fn is_event(wait: &Wait) -> bool
     ensures { result ≡ waits (waiting wait.now) }
 {
     match wait {
@@ -41,7 +41,7 @@ pub(crate) fn is_skip(guard: &Guard) -> bool
 }
 
 /// Whether some branch has the guard TRUE & SKIP.
-pub(crate) fn has_skip(alternatives: &[(Guard, Proc)]) -> bool
+pub fn has_skip(alternatives: &[(Guard, Proc)]) -> bool
     ensures { IsTrue result ↔ (some_skips (branches alternatives.now) ≡ true) }
 {
     let mut rest = alternatives;
@@ -55,7 +55,7 @@ pub(crate) fn has_skip(alternatives: &[(Guard, Proc)]) -> bool
 }
 
 /// Whether every branch waits for an input or an output.
-pub(crate) fn are_events(alternatives: &[(Guard, Proc)]) -> bool
+pub fn are_events(alternatives: &[(Guard, Proc)]) -> bool
     ensures { IsTrue result ↔ (all_wait (branches alternatives.now) ≡ true) }
 {
     let mut rest = alternatives;
@@ -69,7 +69,7 @@ pub(crate) fn are_events(alternatives: &[(Guard, Proc)]) -> bool
 }
 
 /// Whether every branch waits for an input or an output, with the condition TRUE.
-pub(crate) fn are_plain_events(alternatives: &[(Guard, Proc)]) -> bool
+pub fn are_plain_events(alternatives: &[(Guard, Proc)]) -> bool
     ensures { IsTrue result ↔ (all_wait_plainly (branches alternatives.now) ≡ true) }
 {
     let mut rest = alternatives;

@@ -55,7 +55,7 @@ pub(crate) fn alt_least(left: &Proc, right: &Proc) -> Result<bool, Memory>
 }
 
 /// The branches of two ALTs, each under a guard TRUE & SKIP, that are a whole list; None exactly where it isn't so.
-fn alt_pair(all: &[(Guard, Proc)]) -> Option<(&[(Guard, Proc)], &[(Guard, Proc)])>
+pub fn alt_pair(all: &[(Guard, Proc)]) -> Option<(&[(Guard, Proc)], &[(Guard, Proc)])>
     ensures { IsAltPair (branches all.now) result }
 {
     match alt_first(all) {

@@ -64,7 +64,7 @@ fn is_split(branch: &(Guard, Proc), inner: &[(Guard, Proc)], whole: &[(Guard, Pr
 }
 
 /// Whether a guard waits for an input or an output, with the condition TRUE.
-fn is_plain_event(guard: &Guard) -> bool
+pub fn is_plain_event(guard: &Guard) -> bool
     ensures { IsTrue result ↔ ((exp guard.now.condition ≡ truth true) × (waits (waiting guard.now.wait) ≡ true)) }
 {
     is_truth(&guard.condition) && is_event(&guard.wait)

@@ -1,0 +1,5 @@
+pub mod Making
+pub mod Onlys
+pub mod Parting
+pub mod Pieces
+pub mod Tabled
