@@ -11,7 +11,7 @@ use occ_syntax::{Expr, Guard, Proc, Wait};
 use std::alloc::Global;
 
 /// Whether a name doesn't stand free in a process.
-pub(crate) fn is_unused(alloc: Global, name: Name, part: &Proc) -> Result<bool, Memory>
+pub fn is_unused(alloc: Global, name: Name, part: &Proc) -> Result<bool, Memory>
     ensures { IfOk result (λ answer. IsTrue answer ↔ (is_free (tree part.now) name.0 ≡ false)) }
 {
     let names = free(alloc, part)?;
@@ -19,7 +19,7 @@ pub(crate) fn is_unused(alloc: Global, name: Name, part: &Proc) -> Result<bool, 
 }
 
 /// Whether a name stands free in none of the processes.
-pub(crate) fn is_unused_in_all(alloc: Global, name: Name, parts: &[Proc]) -> Result<bool, Memory>
+pub fn is_unused_in_all(alloc: Global, name: Name, parts: &[Proc]) -> Result<bool, Memory>
     ensures { IfOk result (λ answer. IsTrue answer ↔ (free_in_some (trees parts.now) name.0 ≡ false)) }
 {
     for part in parts {
@@ -50,7 +50,7 @@ pub(crate) fn some_names(exprs: &[Expr], name: Name) -> bool
 }
 
 /// Whether one of the conditions names a variable.
-pub(crate) fn some_condition_names(choices: &[(Expr, Proc)], name: Name) -> bool
+pub fn some_condition_names(choices: &[(Expr, Proc)], name: Name) -> bool
     ensures { result ≡ is_some_named (conditions (cases choices.now)) name.0 }
 {
     for (condition, _) in choices {
@@ -62,7 +62,7 @@ pub(crate) fn some_condition_names(choices: &[(Expr, Proc)], name: Name) -> bool
 }
 
 /// Whether one of the guards names a variable, in its condition or in what it waits for.
-pub(crate) fn some_guard_names(alternatives: &[(Guard, Proc)], name: Name) -> bool
+pub fn some_guard_names(alternatives: &[(Guard, Proc)], name: Name) -> bool
     ensures { result ≡ is_some_guard_named (branches alternatives.now) name.0 }
 {
     for (guard, _) in alternatives {
@@ -74,7 +74,7 @@ pub(crate) fn some_guard_names(alternatives: &[(Guard, Proc)], name: Name) -> bo
 }
 
 /// Whether a guard waits for a communication on a channel.
-pub(crate) fn is_on(wait: &Wait, channel: Name) -> bool
+pub fn is_on(wait: &Wait, channel: Name) -> bool
     ensures { result ≡ waits_on (waiting wait.now) channel.0 }
 {
     match wait {

@@ -115,7 +115,7 @@ fn are_values_without(name: Name, vars: &[Name], values: &[Expr], others: &[Expr
 }
 
 /// Whether the right side of a pair for another variable names a variable.
-fn other_values_name(name: Name, vars: &[Name], values: &[Expr]) -> bool
+pub fn other_values_name(name: Name, vars: &[Name], values: &[Expr]) -> bool
     ensures { result ≡ is_some_named (values_without name.0 (numbers vars.now) (exps values.now)) name.0 }
 {
     for (var, value) in vars.iter().zip(values) {

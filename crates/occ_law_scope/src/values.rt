@@ -89,7 +89,7 @@ impl Variable<'_> {
 }
 
 /// How many values a width has.
-fn count_of(width: Width) -> u16
+pub fn count_of(width: Width) -> u16
     requires { is_width width ≡ true }
     ensures { result ≡ 2 ^ bits_of width }
 {
