@@ -1,0 +1,3 @@
+pub mod Counting
+pub mod Directing
+pub mod Placing
