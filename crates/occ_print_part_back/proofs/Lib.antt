@@ -1,0 +1,7 @@
+pub mod Growing
+mod Agreeing
+mod LaidWell
+mod Elements
+mod Bases
+mod Reading
+mod Parts

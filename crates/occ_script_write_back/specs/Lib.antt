@@ -1,0 +1,5 @@
+pub mod Said
+pub mod Chunks
+pub mod Steps
+pub mod Staying
+pub mod Reads

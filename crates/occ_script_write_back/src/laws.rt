@@ -1,0 +1,98 @@
+ghost use Rattle.std.specs.Prelude.{◌≡◌, ℕ, List, [], ◌∷◌, ◌++◌, Some, codes, map, true};
+ghost use Rattle.std.specs.List.{AllByRecursion};
+ghost use Rattle.occ_base.specs.declared.names.Name.{Name};
+ghost use Rattle.occ_parse_rules.specs.Places.{Place};
+ghost use Rattle.occ_print_part_back.specs.Part.{IsPrintablePart, PartIsNarrow};
+ghost use Rattle.occ_script_lines.specs.declared.section.Format.TheVariants as format;
+ghost use Rattle.occ_script_lines.specs.Lines.{head_of, is_line};
+ghost use Rattle.occ_script_lines.specs.Sections.{Section, sections_of};
+ghost use Rattle.occ_script_write.specs.Text.{law_text, line, script_text, step_words};
+ghost use Rattle.occ_script_write.specs.declared.writing.Done.{Done};
+ghost use Rattle.occ_script_write_back.specs.Reads.{AreRead, IsFaultOfLast, IsStepWell};
+ghost use Rattle.occ_script_write_back.specs.Staying.{PartStays, ProgramStays};
+ghost use Rattle.occ_script_write_back.specs.Steps.{StepReadsBack};
+ghost use Rattle.occ_script.specs.Refusals.{IsBadEnd};
+ghost use Rattle.occ_script.specs.Steps.{AreSteps};
+ghost use Rattle.occ_script.specs.declared.fault.ScriptFault.{ScriptFault};
+ghost use Rattle.occ_script.specs.declared.script.Step.{Step};
+ghost use Rattle.occ_print_part_back.specs.Tables.{IsGrown};
+ghost use Rattle.occ_print_back.specs.Program.{IsPrintable};
+ghost use Rattle.occ_syntax.specs.Tree.{Tree};
+ghost use Rattle.occ_syntax.specs.View.{tree};
+ghost use Rattle.occ_syntax.specs.declared.scope.Kind.{Kind};
+ghost use Rattle.occ_syntax.specs.declared.scope.Program.{Program};
+ghost use Rattle.occ_script_write_back.specs.Said.{AreWritten, IsSaid};
+ghost use Rattle.occ_script_write_back.specs.Chunks.{Chunk, IsBegun, IsCut, chunk_sections, chunks_text, script_chunks, step_chunk};
+
+use occ_law::names_are_distinct;
+use occ_parse_forms::one_form;
+use occ_parse_part::one_reading_of_a_part;
+use occ_print_part_back::printed_parts_read_back;
+
+/// The line of a step says its law, by its name, its direction and its path.
+pub fn written_lines_say_their_steps()
+    ensures { (done : Done) → IsSaid done
+        → head_of (codes "STEP") (line (step_words done)) ≡ Some (record { law = law_text done.law; dir = done.dir; path = done.path }) }
+{}
+
+/// A text of keyword lines, each with a text behind it that has none, is cut into these.
+pub fn written_texts_have_their_sections()
+    ensures { (first : Chunk) (others : List Chunk) → IsBegun first → AllByRecursion IsCut others
+        → sections_of format.Script (chunks_text (first ∷ others)) ≡ chunk_sections 1 [] (first ∷ others) }
+{}
+
+/// A written script is cut into its first line, the program behind FROM, its steps, and the program behind TO.
+pub fn written_scripts_have_their_sections()
+    ensures { (names : List (List ℕ)) (P : ℕ → Place) (from to : Program) (steps : List Done) → AreWritten names P from steps to
+        → sections_of format.Script (script_text names from steps to) ≡ chunk_sections 1 [] (script_chunks names from steps to) }
+{}
+
+/// The section of a written step is read as that step and as no other, and isn't refused: where its part keeps types in the scope and
+/// no line of it has more than 4,096 tokens.
+pub fn written_steps_read_back()
+    ensures { (names : List (List ℕ)) (P : ℕ → Place) (scope : List (Name × Kind)) (n : ℕ) (front : List ℕ) (done : Done) → IsSaid done
+        → IsPrintablePart names P scope (tree done.part) → PartIsNarrow (tree done.part) → StepReadsBack names P scope n front done }
+{
+    one_form();
+    one_reading_of_a_part();
+    names_are_distinct();
+    printed_parts_read_back();
+}
+
+/// What is printed from a table of names is printed so from each longer one, and can be printed from it.
+pub fn printed_texts_stay()
+    ensures parts { (names t : List (List ℕ)) (P Q : ℕ → Place) (scope : List (Name × Kind)) (part : Tree)
+        → IsGrown names P t Q → IsPrintablePart names P scope part
+        → PartStays names t Q scope part }
+    ensures programs { (names t : List (List ℕ)) (P Q : ℕ → Place) (program : Program) → IsGrown names P t Q
+        → IsPrintable names P program.name.0 program.params (tree program.body)
+        → ProgramStays names t Q program.name.0 program.params (tree program.body) }
+{}
+
+/// The sections of written steps, in front of one with `TO`, are read as those steps, one by one, with a table of names that has grown
+/// from the one that they were printed from.
+pub fn written_steps_are_read()
+    ensures { (names t new : List (List ℕ)) (P Q : ℕ → Place) (n : ℕ) (front : List ℕ) (dones : List Done) (steps : List Step)
+        (c : Chunk) (target : Section)
+        → AreSteps t new (chunk_sections n front (map (step_chunk names) dones ++ c ∷ [])) (target ∷ []) steps
+        → is_line (codes "TO") target.row ≡ true → is_line (codes "TO") c.row ≡ true → IsGrown names P t Q
+        → AllByRecursion (IsStepWell names P) dones → AreRead names P new dones steps c target }
+{
+    one_form();
+    one_reading_of_a_part();
+    names_are_distinct();
+    printed_parts_read_back();
+}
+
+/// Sections of written steps aren't refused: a fault of theirs and of a last one with `TO` is one of the last alone.
+pub fn written_steps_are_kept()
+    ensures { (names t : List (List ℕ)) (P Q : ℕ → Place) (n last : ℕ) (front : List ℕ) (dones : List Done) (c : Chunk) (e : ScriptFault)
+        → IsBadEnd last t (chunk_sections n front (map (step_chunk names) dones ++ c ∷ [])) e
+        → is_line (codes "TO") c.row ≡ true → IsGrown names P t Q
+        → AllByRecursion (IsStepWell names P) dones → IsFaultOfLast names P c last e }
+{
+    one_form();
+    one_reading_of_a_part();
+    names_are_distinct();
+    printed_parts_read_back();
+}
