@@ -1,0 +1,14 @@
+use Rattle.std.proofs.Common.{◌↔◌, IfOk, IsTrue, sym, subst}
+use Rattle.occ_replay_rules.specs.Steps.{Joins}
+use Rattle.occ_syntax.specs.View.{tree}
+use Rattle.occ_engine.proofs.applying.joins.Goals as goal
+
+pub returns-in-Forward : goal.returns-in-Forward
+returns-in-Forward c =
+    subst (λ d. IfOk c.holds.result (λ answer. IsTrue answer ↔ Joins d c.args.used.0.0 c.args.scope.now (tree c.args.parts.0.now) (tree c.args.parts.1.now)))
+    (sym c.in-Forward.is) c.holds.ensures
+
+pub returns-in-Backward : goal.returns-in-Backward
+returns-in-Backward c =
+    subst (λ d. IfOk c.holds-in-Backward.result (λ answer. IsTrue answer ↔ Joins d c.args.used.0.0 c.args.scope.now (tree c.args.parts.0.now) (tree c.args.parts.1.now)))
+    (sym c.in-Backward.is) c.holds-in-Backward.ensures

@@ -1,0 +1,13 @@
+use occ_base::List;
+use occ_script_write::Done;
+use occ_syntax::Program;
+
+/// Steps that were taken, in order.
+pub type Dones = List<Done>;
+
+/// What an engine made of a program: the steps that were taken, and the program to which they lead.
+#[derive(Drop)]
+pub struct Outcome {
+    pub steps: Dones,
+    pub to: Program,
+}
