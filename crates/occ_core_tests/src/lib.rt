@@ -1,6 +1,5 @@
-//! The tests of names, trees, the rules of usage, the desk, printing, behaviours and normal texts, by their public calls: that
-//! each call that allocates succeeds where memory is there, and what no contract says. They stand here since a crate with
-//! tests is proved twice.
+//! The tests of names, the desk, printing, behaviours and normal texts, by their public calls: that each call that allocates
+//! succeeds where memory is there, and what no contract says. They stand here since a crate with tests is proved twice.
 #![tactic(auto)]
 
 #[cfg(test)]

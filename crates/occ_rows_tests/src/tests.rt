@@ -1,6 +1,4 @@
 mod accept;
-mod bits;
-mod choice;
 mod dd;
 mod diagram;
 mod events;
@@ -8,6 +6,3 @@ mod follow;
 mod mdd;
 mod node;
 mod norm_flatten;
-mod norm_maps;
-mod scope;
-mod weave;
