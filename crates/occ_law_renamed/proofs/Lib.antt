@@ -1,0 +1,10 @@
+mod Names
+mod Usage
+mod Composed
+mod Lists
+mod States
+mod Sequence
+mod Choice
+mod Parallel
+mod Scope
+pub mod Laws
