@@ -1,5 +1,5 @@
 -- The rows of a printed text are within the limits of a script, and have the forms of what they say.
-use Rattle.std.proofs.Common.{◌≡◌, ℕ, ◌≤◌, ◌+◌, Bool, true, false, List, [], ◌∷◌, ◌++◌, length, Option, None, Some, refl, ap, sym, ◌∙◌, arith}
+use Rattle.std.proofs.Common.{◌≡◌, ℕ, ◌≤◌, ◌+◌, Bool, true, false, ◌&&◌, List, [], ◌∷◌, ◌++◌, length, Option, None, Some, refl, ap, sym, ◌∙◌, arith}
 use Rattle.std.specs.Prelude.{if◌then◌else◌, nat_lt}
 use Rattle.std.proofs.lemmas.Bool.{le-ltb}
 use Rattle.occ_lex_symbols.specs.declared.symbol.Row.{Row}
@@ -9,14 +9,16 @@ use Rattle.occ_parse_forms.specs.Written.{item_words}
 use Rattle.occ_parse_rules.specs.Forest.{Laid}
 use Rattle.occ_parse_rules.specs.Places.{Place}
 use Rattle.occ_print.specs.Lines.{TextLine, most_symbols}
+use Rattle.occ_parse_reading.specs.declared.bound.Bound.{Bound}
 use Rattle.occ_parse_reading.specs.declared.bound.Bound.TheVariants as bound
 use Rattle.occ_parse_reading.specs.declared.fault.ParseFault.{ParseFault}
 use Rattle.occ_parse_reading.specs.declared.fault.Which.TheVariants as which
-use Rattle.occ_parse_reading.specs.Limits.{counts_nothing, weight, opens, counted_from, counted, stop_at, stopped}
+use Rattle.occ_parse_reading.specs.Limits.{counts_nothing, weight, opens, counted_from, counted, is_limited, stop_at, stopped}
 use Rattle.occ_parse_reading.specs.Reading.{AreForms}
 use Rattle.occ_print_back.specs.Said.{item_of}
 use Rattle.occ_print_back.specs.Read.{symbols_read, line_rows}
 use Rattle.occ_print_back.specs.Formed.{AreFormed}
+use Rattle.occ_print_back.specs.Back.{deepest}
 
 zero_or_one : (b : Bool) → (if b then 0 else 1) ≤ 1
 zero_or_one true = omega arith
@@ -47,14 +49,26 @@ count_read P (symbol.Sign s ∷ ss) = omega (arith, zero_or_one (counts_nothing 
 abbrev line_row : (ℕ → Place) → ℕ → TextLine → Row
 line_row P n l = record { number = n; level = l.level; symbols = symbols_read P l.symbols }
 
-pub none_stopped : (P : ℕ → Place) (n : ℕ) (ls : List TextLine) → most_symbols ls ≤ 4096 → stopped bound.Script (line_rows P n ls) None ≡ (line_rows P n ls, None)
-none_stopped P n [] h = refl
-none_stopped P n (l ∷ ls) h =
+-- a line within the limits
+shallow : (t : Bool) (m : ℕ) → (t ≡ true → m ≤ 64) → (t && nat_lt 64 m) ≡ false
+shallow true m h = le-ltb 64 m (h refl)
+shallow false m h = refl
+
+pub none_stopped_within : (b : Bound) (P : ℕ → Place) (n : ℕ) (ls : List TextLine) → most_symbols ls ≤ 4096 → (is_limited b ≡ true → deepest ls ≤ 64)
+    → stopped b (line_rows P n ls) None ≡ (line_rows P n ls, None)
+none_stopped_within b P n [] h k = refl
+none_stopped_within b P n (l ∷ ls) h k =
     let row = line_row P n l in
+    let others = stopped b (line_rows P (n + 1) ls) None in
     let small : counted (symbols_read P l.symbols) ≤ 4096 = omega (arith, h, count_read P l.symbols) in
     let within : nat_lt 4096 (counted (symbols_read P l.symbols)) ≡ false = le-ltb _ _ small in
-    ap (λ b. stop_at row (if b then Some which.Tokens else None) (stopped bound.Script (line_rows P (n + 1) ls) None)) within
-    ∙ ap (λ (others : List Row × Option ParseFault). (row ∷ others.0, others.1)) (none_stopped P (n + 1) ls (omega (arith, h)))
+    ap (λ t. stop_at row (if t then Some which.Levels else (if nat_lt 4096 (counted (symbols_read P l.symbols)) then Some which.Tokens else None)) others)
+    (shallow (is_limited b) l.level (λ e. let d = k e in omega (arith, d)))
+    ∙ ap (λ t. stop_at row (if t then Some which.Tokens else None) others) within
+    ∙ ap (λ (rest : List Row × Option ParseFault). (row ∷ rest.0, rest.1)) (none_stopped_within b P (n + 1) ls (omega (arith, h)) (λ e. let d = k e in omega (arith, d)))
+
+pub none_stopped : (P : ℕ → Place) (n : ℕ) (ls : List TextLine) → most_symbols ls ≤ 4096 → stopped bound.Script (line_rows P n ls) None ≡ (line_rows P n ls, None)
+none_stopped P n ls h = none_stopped_within bound.Script P n ls h (λ e. absurd (cc))
 
 pub all_said : (P : ℕ → Place) (n : ℕ) (ts : List TextLine) (ls : List Laid) → AreFormed P n ts ls → AreForms (line_rows P n ts) ls
 all_said P n [] [] h = tt

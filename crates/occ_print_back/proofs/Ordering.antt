@@ -485,13 +485,14 @@ module _ (count : ℕ) (P : ℕ → Place) (N : Numbers) (numbered : IsNumbered 
     directed = λ ρ. refl;
   }
 
-  pub program_order : {F : Type 0} (J : Sorts → Shape → Option F) → ((Γ : Sorts) (s : Shape) → Facts Γ s → J Γ s ≡ None) → (name : ℕ) (ps : List (Name × Kind)) (body : Tree)
+  pub program_order : {F : Type 0} (J : Sorts → Shape → Option F) → ((Γ : Sorts) (s : Shape) → Facts Γ s → J Γ s ≡ None) → (n name : ℕ) (ps : List (Name × Kind)) (body : Tree)
       → AllByRecursion (λ (p : Name × Kind). p.0.0 < count) ps → PartIsKnown count body → scope_kept ps ≡ true → types_kept body (environment ps) ≡ true
-      → first_fault J [] [] (program_forest P name ps body) ≡ None
-  program_order J ok name ps body h k s t =
+      → first_fault J [] [] (program_forest P n name ps body) ≡ None
+  program_order J ok n name ps body h k s t =
       let header = line.header (record { 0 = (P name).name }) (params_said P ps) in
       let scope = header_scoped count P N numbered ps s h in
-      three 1 (J [] header) (first_fault J (header_scope P ps) (header_scope P ps) (body_forest P body)) (first_fault J [] [] (and_line (2 + height body) line.close no_line no_line))
+      three n (J [] header) (first_fault J (header_scope P ps) (header_scope P ps) (body_forest P n body))
+      (first_fault J [] [] (and_line (n + 1 + height body) line.close no_line no_line))
       (ok [] header (header_facts (record { 0 = (P name).name }) ps h s))
-      (part_order J ok count P N numbered (environment ps) (header_scope P ps) scope 2 body no_line (header_scope P ps) k t refl)
-      (three (2 + height body) (J [] line.close) None None (ok [] line.close (close_facts [])) refl refl)
+      (part_order J ok count P N numbered (environment ps) (header_scope P ps) scope (n + 1) body no_line (header_scope P ps) k t refl)
+      (three (n + 1 + height body) (J [] line.close) None None (ok [] line.close (close_facts [])) refl refl)

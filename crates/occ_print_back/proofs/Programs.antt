@@ -145,15 +145,15 @@ program_sayable names P name ps body h =
           (part_sayable count (environment ps) 1 body h.known.body_is h.types) ((tt, (tt, tt)), tt),
     )
 
-pub program_formed : (names : List (List ℕ)) (P : ℕ → Place) (N : Numbers) (name : ℕ) (ps : List (Name × Kind)) (body : Tree) → IsNumbered (length names) P N
-    → IsPrintable names P name ps body → AreFormed P 1 (program_lines name ps body) (lines_at 0 (program_forest P name ps body))
-program_formed names P N name ps body numbered h = (
+pub program_formed : (names : List (List ℕ)) (P : ℕ → Place) (N : Numbers) (n name : ℕ) (ps : List (Name × Kind)) (body : Tree) → IsNumbered (length names) P N
+    → IsPrintable names P name ps body → AreFormed P n (program_lines name ps body) (lines_at 0 (program_forest P n name ps body))
+program_formed names P N n name ps body numbered h = (
   refl,
   refl,
   header_form P name ps h.plain h.marked,
-  formed-append P 2 (2 + height body) (part_lines 1 body) (record { level = 0; symbols = symbol.Sign sign.Colon ∷ [] } ∷ []) (lines_at 1 (body_forest P body))
-      (record { number = 2 + height body; level = 0; shape = line.close } ∷ [])
-      (omega (arith, part_height 1 body)) (alone (length names) P N numbered (environment ps) 1 2 body h.known.body_is h.types) (refl, refl, refl, tt),
+  formed-append P (n + 1) (n + 1 + height body) (part_lines 1 body) (record { level = 0; symbols = symbol.Sign sign.Colon ∷ [] } ∷ []) (lines_at 1 (body_forest P n body))
+      (record { number = n + 1 + height body; level = 0; shape = line.close } ∷ [])
+      (omega (arith, part_height 1 body)) (alone (length names) P N numbered (environment ps) 1 (n + 1) body h.known.body_is h.types) (refl, refl, refl, tt),
 )
 
 -- ---- the layout of the whole
@@ -191,24 +191,24 @@ close_good_at before after n first others e h =
     ap (λ b. is_good frame.Plain false b (record { number = n; level = 0; shape = line.close }) after) e
     ∙ ap (λ b. not b && true) (sym (ap (list_any closes) e) ∙ h)
 
-pub program_good : (P : ℕ → Place) (name : ℕ) (ps : List (Name × Kind)) (body : Tree) → least_bad frame.Plain false (lines_at 0 (program_forest P name ps body)) ≡ None
-program_good P name ps body =
-    let head : Laid = record { number = 1; level = 0; shape = line.header (record { 0 = (P name).name }) (params_said P ps) } in
-    let last : Laid = record { number = 2 + height body; level = 0; shape = line.close } in
-    let rows = lines_at 1 (body_forest P body) in
-    let levels = levels_from rows (lines_above 1 1 (body_forest P body) (omega arith)) in
+pub program_good : (P : ℕ → Place) (n name : ℕ) (ps : List (Name × Kind)) (body : Tree) → least_bad frame.Plain false (lines_at 0 (program_forest P n name ps body)) ≡ None
+program_good P n name ps body =
+    let head : Laid = record { number = n; level = 0; shape = line.header (record { 0 = (P name).name }) (params_said P ps) } in
+    let last : Laid = record { number = n + 1 + height body; level = 0; shape = line.close } in
+    let rows = lines_at 1 (body_forest P n body) in
+    let levels = levels_from rows (lines_above 1 1 (body_forest P n body) (omega arith)) in
     let some = some_left rows head [] in
-    let closed : is_good frame.Plain false (pushed rows (head ∷ [])) last [] ≡ true = close_good_at (pushed rows (head ∷ [])) [] (2 + height body) some.0 some.1 some.2 (pushed_none rows (head ∷ []) levels refl) in
-    let served : (has_child false 0 (rows ++ last ∷ []) && has_close false (rows ++ last ∷ [])) ≡ true = and_from (has_child false 0 (rows ++ last ∷ [])) _ (has_child_part P 0 2 body (last ∷ [])) (any-last rows last refl) in
+    let closed : is_good frame.Plain false (pushed rows (head ∷ [])) last [] ≡ true = close_good_at (pushed rows (head ∷ [])) [] (n + 1 + height body) some.0 some.1 some.2 (pushed_none rows (head ∷ []) levels refl) in
+    let served : (has_child false 0 (rows ++ last ∷ []) && has_close false (rows ++ last ∷ [])) ≡ true = and_from (has_child false 0 (rows ++ last ∷ [])) _ (has_child_part P 0 (n + 1) body (last ∷ [])) (any-last rows last refl) in
     let opened : is_good frame.Plain false [] head ((rows ++ last ∷ []) ++ []) ≡ true = ap (λ t. is_good frame.Plain false [] head t) (append-nil (rows ++ last ∷ [])) ∙ served in
-    none_bad [] (head ∷ (rows ++ last ∷ [])) (opened, good-append (head ∷ []) rows (last ∷ []) [] (part_good P (head ∷ []) 1 2 body (last ∷ []) refl (one_slot refl refl)) (closed, tt))
+    none_bad [] (head ∷ (rows ++ last ∷ [])) (opened, good-append (head ∷ []) rows (last ∷ []) [] (part_good P (head ∷ []) 1 (n + 1) body (last ∷ []) refl (one_slot refl refl)) (closed, tt))
 
 pub program_read : (names : List (List ℕ)) (P : ℕ → Place) (name : ℕ) (ps : List (Name × Kind)) (body : Tree) → IsPrintable names P name ps body
-    → ReadsAs (program_text names name ps body) names P (program_lines name ps body)
+    → ReadsAs (program_text names name ps body) names P 1 (program_lines name ps body)
 program_read names P name ps body h = lines_read names P h.table (program_lines name ps body) (program_sayable names P name ps body h)
 
-pub program_back : (names : List (List ℕ)) (P : ℕ → Place) (N : Numbers) (name : ℕ) (ps : List (Name × Kind)) (body : Tree) → IsNumbered (length names) P N
-    → IsPrintable names P name ps body → slot_process N (header_scope P ps) (body_forest P body) ≡ body
-program_back names P N name ps body numbered h =
+pub program_back : (names : List (List ℕ)) (P : ℕ → Place) (N : Numbers) (n name : ℕ) (ps : List (Name × Kind)) (body : Tree) → IsNumbered (length names) P N
+    → IsPrintable names P name ps body → slot_process N (header_scope P ps) (body_forest P n body) ≡ body
+program_back names P N n name ps body numbered h =
     let scope = header_scoped (length names) P N numbered ps h.scope h.known.params_are in
-    ap first_tree (part_back (length names) P N numbered (environment ps) (header_scope P ps) scope (λ i. 0) 2 body no_line (header_scope P ps) [] h.known.body_is h.types)
+    ap first_tree (part_back (length names) P N numbered (environment ps) (header_scope P ps) scope (λ i. 0) (n + 1) body no_line (header_scope P ps) [] h.known.body_is h.types)

@@ -85,7 +85,7 @@ module _ (names : List (List ℕ)) (P : ℕ → Place) (table : IsTable names P)
       ∙ table_at (n + 1) next ls (ap later e) h.1
 
 module _ (names : List (List ℕ)) (P : ℕ → Place) (table : IsTable names P) where
-  pub lines_read : (ls : List TextLine) → LinesAreSayable (length names) ls → ReadsAs (lines_text names ls) names P ls
+  pub lines_read : (ls : List TextLine) → LinesAreSayable (length names) ls → ReadsAs (lines_text names ls) names P 1 ls
   unfolding reading_of
   lines_read ls h =
       let printed_all = map (printed names) ls in

@@ -207,8 +207,9 @@ module _ (names : List (List ℕ)) (P : ℕ → Place) (table : IsTable names P)
   params_stable (p ∷ ps) h =
       both (places (declared_of (P p.0.0))) (params_places (params_said P ps)) (places_stable (P p.0.0).name (P p.0.0).element (stable p.0.0 h.0)) (params_stable ps h.1)
 
-  pub table_stays : (ps : List (Name × Kind)) (body : Tree) → AllByRecursion (λ (p : Name × Kind). p.0.0 < length names) ps → PartIsKnown (length names) body
-      → with_elements names (params_said P ps) (body_forest P body) ≡ names
-  table_stays ps body h k =
-      stable_places (program_places (params_said P ps) (body_forest P body))
-      (both (params_places (params_said P ps)) ((elements (body_forest P body)).first (header_scope P ps) (λ i. 0)) (params_stable ps h) (first_stable (header_scope P ps) (λ i. 0) 2 body k))
+  pub table_stays : (number : ℕ) (ps : List (Name × Kind)) (body : Tree) → AllByRecursion (λ (p : Name × Kind). p.0.0 < length names) ps → PartIsKnown (length names) body
+      → with_elements names (params_said P ps) (body_forest P number body) ≡ names
+  table_stays number ps body h k =
+      stable_places (program_places (params_said P ps) (body_forest P number body))
+      (both (params_places (params_said P ps)) ((elements (body_forest P number body)).first (header_scope P ps) (λ i. 0)) (params_stable ps h)
+      (first_stable (header_scope P ps) (λ i. 0) (number + 1) body k))

@@ -26,14 +26,15 @@ params_said P params = map (param_said P) params
 abbrev pub header_scope : (ℕ → Place) → List (Name × Kind) → Sorts
 header_scope P params = declared_in [] (param_entries (params_said P params))
 
--- the lines below the header
-abbrev pub body_forest : (ℕ → Place) → Tree → Forest
-body_forest P body = part_forest P 2 body no_line
+-- the lines below the header, which stands on the line of that number
+abbrev pub body_forest : (ℕ → Place) → (number : ℕ) → Tree → Forest
+body_forest P number body = part_forest P (number + 1) body no_line
 
--- the header on line 1, the body below it, and the closing line
-abbrev pub program_forest : (ℕ → Place) → ℕ → List (Name × Kind) → Tree → Forest
-program_forest P name params body =
-    and_line 1 (line.header (record { 0 = (P name).name }) (params_said P params)) (body_forest P body) (and_line (2 + height body) line.close no_line no_line)
+-- the header on that line, the body below it, and the closing line
+abbrev pub program_forest : (ℕ → Place) → (number : ℕ) → ℕ → List (Name × Kind) → Tree → Forest
+program_forest P number name params body =
+    and_line number (line.header (record { 0 = (P name).name }) (params_said P params)) (body_forest P number body)
+    (and_line (number + 1 + height body) line.close no_line no_line)
 
 -- A program that keeps names, types and directions, whose channel parameters are marked, and whose names are those of the
 -- table. Its own name has no index.

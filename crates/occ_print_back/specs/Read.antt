@@ -25,8 +25,8 @@ abbrev pub line_rows : (ℕ → Place) → ℕ → List TextLine → List Row
 line_rows P n [] = []
 line_rows P n (l ∷ ls) = record { number = n; level = l.level; symbols = symbols_read P l.symbols } ∷ line_rows P (n + 1) ls
 
--- The text reads as these lines, without a fault of tokens, and leaves the table of names as it is.
-pub record ReadsAs (text : List ℕ) (names : List (List ℕ)) (P : ℕ → Place) (lines : List TextLine) : Type 0 where
+-- The text reads as these lines, the first of which has that number, without a fault of tokens, and leaves the table of names as it is.
+pub record ReadsAs (text : List ℕ) (names : List (List ℕ)) (P : ℕ → Place) (number : ℕ) (lines : List TextLine) : Type 0 where
   pub faultless : (reading_of text).1 ≡ None
-  pub rows : rows_of text names (reading_of text).0 ≡ line_rows P 1 lines
+  pub rows : rows_of text names (reading_of text).0 ≡ line_rows P number lines
   pub table : with_names_of_all text names (reading_of text).0 ≡ names

@@ -3,5 +3,5 @@ mod Agreeing
 mod LaidWell
 mod Elements
 mod Bases
-mod Reading
+pub mod Reading
 mod Parts

@@ -1,0 +1,5 @@
+pub mod Blank
+pub mod Framed
+pub mod Small
+pub mod Within
+pub mod Behind
