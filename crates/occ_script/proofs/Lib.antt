@@ -8,3 +8,4 @@ pub mod Listed
 pub mod Once
 pub mod OnceAll
 pub mod OnceTexts
+pub mod OnceOrders

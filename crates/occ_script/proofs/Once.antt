@@ -9,7 +9,8 @@ use Rattle.occ_parse_layout.specs.Layout.{least_bad}
 use Rattle.occ_parse_part.specs.Arrays.{array_names}
 use Rattle.occ_parse_part.specs.Elements.{elements_in, with_arrays}
 use Rattle.occ_parse_part.specs.Parts.{IsPart}
-use Rattle.occ_parse_part.specs.Shown.{elements_of, lines_of}
+use Rattle.occ_parse_part.specs.declared.raw.Raw.{Raw}
+use Rattle.occ_parse_part.specs.Shown.{elements_of, lines_of, part_of}
 use Rattle.occ_parse_reading.specs.declared.fault.ParseFault.{ParseFault}
 use Rattle.occ_parse_reading.specs.declared.fault.ParseFault.TheVariants as parse
 use Rattle.occ_parse_reading.specs.Limits.{stopped}
@@ -25,7 +26,7 @@ use Rattle.occ_script.specs.Lines.{AreJudged, IsIll, IsIllLaid, IsWell, IsWellLa
 use Rattle.occ_script.specs.Refusals.{IsBadPart, IsBadProgram, IsBadStep, bad_lines, bad_part, in_part, no_lines, no_part, no_step_line}
 use Rattle.occ_script.specs.Scripts.{IsInOrder}
 use Rattle.occ_script.specs.Shown.{shown_step}
-use Rattle.occ_script.specs.Steps.{HasPart, IsLaw, IsStep}
+use Rattle.occ_script.specs.Steps.{HasPart, IsLaw, IsPartIn, IsStep}
 use Rattle.occ_script_lines.specs.Lines.{Head, head_of}
 use Rattle.occ_script_lines.specs.Sections.{Section, is_blank_in, reading_in, upto}
 
@@ -42,7 +43,7 @@ pub record IsOnce : Type 0 where
 pub one_answer : {A : Type 0} (b : Bool) → b ≡ true → b ≡ false → A
 one_answer b h k = let e : true ≡ false = sym h ∙ k in absurd cc
 
-no_head : {A : Type 0} (h : Head) (o : Option Head) → o ≡ None → o ≡ Some h → A
+pub no_head : {A : Type 0} (h : Head) (o : Option Head) → o ≡ None → o ≡ Some h → A
 no_head h o e g = let same : None ≡ Some h = sym e ∙ g in absurd cc
 
 -- lines that are judged twice
@@ -83,11 +84,11 @@ module _ (once : IsOnce) where
     stop = sym x.stop_is ∙ y.stop_is;
   }
 
-  ill_once : (k : Content) (old : Table) (s : Section) (d e : ParseFault) → IsIll k old s d → IsIll k old s e → d ≡ e
+  pub ill_once : (k : Content) (old : Table) (s : Section) (d e : ParseFault) → IsIll k old s d → IsIll k old s e → d ≡ e
   ill_once k old s d e x y =
       ill_laid_once (frame_of k) x.laid y.laid x.stop y.stop (judged_once k old s x.laid y.laid x.stop y.stop x.judged y.judged) x.ill y.ill
 
-  not_ill : (k : Content) (old : Table) (s : Section) (e : ParseFault) → IsWell k old s → IsIll k old s e → ⊥
+  pub not_ill : (k : Content) (old : Table) (s : Section) (e : ParseFault) → IsWell k old s → IsIll k old s e → ⊥
   not_ill k old s e x y =
       ill_or_well (frame_of k) x.laid y.laid x.stop y.stop (judged_once k old s x.laid y.laid x.stop y.stop x.judged y.judged) x.well y.ill
 
@@ -140,17 +141,29 @@ module _ (once : IsOnce) where
       no_head (record { law = x.name; dir = step.dir; path = step.path }) (head_of (codes "STEP") s.row) g x.head
   step_or_fault old new s step x (in_part k e g y) = part_or_fault old new s step x y
 
-  lines_once : (old t u : Table) (s : Section) (a b : Step) → IsStep old t s a → IsStep old u s b → lines_of a.part ≡ lines_of b.part
-  lines_once old t u s a b x y =
-      once.part (upto s) (named_in s old) (reading_in s).0 (lines_of a.part) (lines_of b.part) x.part.lines y.part.lines
+  -- lines are one part
+  lines_once : (old t u : Table) (s : Section) (a b : Raw) → IsPartIn old t s a → IsPartIn old u s b → lines_of a ≡ lines_of b
+  lines_once old t u s a b x y = once.part (upto s) (named_in s old) (reading_in s).0 (lines_of a) (lines_of b) x.lines y.lines
+
+  -- which leaves one table
+  pub part_table : (old t u : Table) (s : Section) (a b : Raw) → IsPartIn old t s a → IsPartIn old u s b → t ≡ u
+  part_table old t u s a b x y =
+      x.table ∙ ap (λ f. with_arrays (named_in s (named_in s old)) (array_names (lines_at 1 f))) (lines_once old t u s a b x y) ∙ sym y.table
+
+  -- and is one as far as it is seen
+  pub part_once : (old t u : Table) (s : Section) (a b : Raw) → IsPartIn old t s a → IsPartIn old u s b → part_of a ≡ part_of b
+  part_once old t u s a b x y =
+      let lines : lines_of a ≡ lines_of b = lines_once old t u s a b x y in
+      let elements : elements_of a ≡ elements_of b =
+      x.elements ∙ ap (λ v. elements_in v (array_names (lines_at 1 (lines_of a)))) (part_table old t u s a b x y)
+      ∙ ap (λ f. elements_in u (array_names (lines_at 1 f))) lines ∙ sym y.elements in
+      λ i. record { lines = lines i; elements = elements i }
 
   -- a step leaves one table
   pub step_table : (old t u : Table) (s : Section) (a b : Step) → IsStep old t s a → IsStep old u s b → t ≡ u
-  step_table old t u s a b x y =
-      x.part.table ∙ ap (λ f. with_arrays (named_in s (named_in s old)) (array_names (lines_at 1 f))) (lines_once old t u s a b x y)
-      ∙ sym y.part.table
+  step_table old t u s a b x y = part_table old t u s a.part b.part x.part y.part
 
-  law_once : (name : List ℕ) (l m : Option LawId) → IsLaw name l → IsLaw name m → l ≡ m
+  pub law_once : (name : List ℕ) (l m : Option LawId) → IsLaw name l → IsLaw name m → l ≡ m
   law_once name None None x y = refl
   law_once name None (Some m) x y = absurd (x m y)
   law_once name (Some l) None x y = absurd (y l x)
@@ -165,9 +178,5 @@ module _ (once : IsOnce) where
       let laws : a.law ≡ b.law = law_once y.name a.law b.law (subst (λ n. IsLaw n a.law) (ap (λ (w : Head). w.law) heads) x.law) y.law in
       let dirs : a.dir ≡ b.dir = ap (λ (w : Head). w.dir) heads in
       let paths : a.path ≡ b.path = ap (λ (w : Head). w.path) heads in
-      let tables : t ≡ u = step_table old t u s a b x y in
-      let lines : lines_of a.part ≡ lines_of b.part = lines_once old t u s a b x y in
-      let elements : elements_of a.part ≡ elements_of b.part =
-      x.part.elements ∙ ap (λ v. elements_in v (array_names (lines_at 1 (lines_of a.part)))) tables
-      ∙ ap (λ f. elements_in u (array_names (lines_at 1 f))) lines ∙ sym y.part.elements in
-      λ i. record { law = laws i; dir = dirs i; path = paths i; part = record { lines = lines i; elements = elements i } }
+      let parts : part_of a.part ≡ part_of b.part = part_once old t u s a.part b.part x.part y.part in
+      λ i. record { law = laws i; dir = dirs i; path = paths i; part = parts i }

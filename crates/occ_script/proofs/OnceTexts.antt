@@ -43,7 +43,7 @@ same_fault d e h = cc
 no_fault : {A : Type 0} (e : ParseFault) → None ≡ Some e → A
 no_fault e h = absurd cc
 
-some_section : {A : Type 0} (s : Section) (ss all : List Section) → all ≡ [] → all ≡ s ∷ ss → A
+pub some_section : {A : Type 0} (s : Section) (ss all : List Section) → all ≡ [] → all ≡ s ∷ ss → A
 some_section s ss all e f = let h : [] ≡ s ∷ ss = sym e ∙ f in absurd cc
 
 words_differ : (f : Format) → bytes_eq (old_line f) (first_line f) ≡ false
@@ -64,7 +64,7 @@ two_words v w row long differ h g =
     one_answer (bytes_eq v w) ((bytes_eq-Decides v w).1 same) differ
 
 module _ (once : IsOnce) where
-  head_fault_once : (f : Format) (old : Table) (s : Section) {d e : ScriptFault} → IsBadHead f old s d → IsBadHead f old s e → d ≡ e
+  pub head_fault_once : (f : Format) (old : Table) (s : Section) {d e : ScriptFault} → IsBadHead f old s d → IsBadHead f old s e → d ≡ e
   head_fault_once f old s (earlier h) (earlier g) = refl
   head_fault_once f old s (earlier h) (another g k) = one_answer (is_line (old_line f) s.row) h g
   head_fault_once f old s (earlier h) (further l ls a g k y) = one_answer (is_line (old_line f) s.row) h g
@@ -86,7 +86,7 @@ module _ (once : IsOnce) where
   head_fault_once f old s (unread d h k x) (unread e g m y) =
       ap text_fault (same_fault d e (judged_once once content.Part old s [] [] (Some d) (Some e) x y).stop)
 
-  head_or_fault : (f : Format) (old : Table) (s : Section) {e : ScriptFault} → IsHead f old s → IsBadHead f old s e → ⊥
+  pub head_or_fault : (f : Format) (old : Table) (s : Section) {e : ScriptFault} → IsHead f old s → IsBadHead f old s e → ⊥
   head_or_fault f old s x (earlier g) = two_words (old_line f) (first_line f) s.row (words_as_long f) (words_differ f) g x.line
   head_or_fault f old s x (another g m) = one_answer (is_line (first_line f) s.row) x.line m
   head_or_fault f old s x (further n ns b g m y) =

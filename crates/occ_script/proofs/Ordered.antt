@@ -1,7 +1,7 @@
 -- The sections of a script one after the other.
 use Rattle.std.proofs.Common.{◌≡◌, ◌⊎◌, inl, inr, ℕ, ◌<◌, ◌≤◌, Bool, true, false, List, [], ◌∷◌, ◌++◌, length, drop, get_or, Option, Some, None, refl, sym, ap, subst, ◌∙◌, arith, append_assoc}
 use Rattle.std.proofs.Common.{Result, Ok, Err}
-use Rattle.std.specs.Prelude.{IfErr, codes}
+use Rattle.std.specs.Prelude.{IfErr, IfOk, codes}
 use Rattle.std.proofs.lemmas.List.{append-nil}
 use Rattle.occ_parse_layout.specs.declared.placed.Placed.{Placed}
 use Rattle.occ_parse_layout.specs.Layout.{laid, laid_rows}
@@ -154,6 +154,10 @@ bad_part_of old s k e h (inr x) = inr x
 pub err_weaker : {T E : Type 0} (r : Result T E) (P Q : E → Type 0) → ((e : E) → P e → Q e) → IfErr r P → IfErr r Q
 err_weaker (Ok x) P Q f h = h
 err_weaker (Err e) P Q f h = f e h
+
+pub ok_weaker : {T E : Type 0} (r : Result T E) (P Q : T → Type 0) → ((x : T) → P x → Q x) → IfOk r P → IfOk r Q
+ok_weaker (Ok x) P Q f h = f x h
+ok_weaker (Err e) P Q f h = h
 
 pub bad_head_of : (text : List ℕ) (old : Table) (head : Section) (rest : List Section) (e : ScriptFault) → sections_of format.Script text ≡ head ∷ rest → IsBadHead format.Script old head e ⊎ (e ≡ fault.Memory) → IsUnformed text old e ⊎ (e ≡ fault.Memory)
 bad_head_of text old head rest e is (inl h) = inl (bad_head head rest e is h)

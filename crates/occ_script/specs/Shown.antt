@@ -1,5 +1,6 @@
--- What is seen of a script: its programs with trees as bodies, the lines of the one behind FROM, and of each step what it says.
-use Rattle.std.specs.Prelude.{ℕ, List, map, Option}
+-- What is seen of a script: its programs with trees as bodies, the lines of the one behind FROM, and of each step what it says; and
+-- what is seen of an order.
+use Rattle.std.specs.Prelude.{ℕ, List, map, Option, option_map}
 use Rattle.occ_base.specs.declared.names.Name.{Name}
 use Rattle.occ_law.specs.declared.table.LawId.{LawId}
 use Rattle.occ_parse_part.specs.Parts.{Part}
@@ -9,6 +10,7 @@ use Rattle.occ_syntax.specs.declared.scope.Kind.{Kind}
 use Rattle.occ_syntax.specs.declared.scope.Program.{Program}
 use Rattle.occ_syntax.specs.Tree.{Tree}
 use Rattle.occ_syntax.specs.View.{tree}
+use Rattle.occ_script.specs.declared.script.Order.{Order}
 use Rattle.occ_script.specs.declared.script.Script.{Script}
 use Rattle.occ_script.specs.declared.script.Step.{Step}
 
@@ -37,3 +39,14 @@ shown_step s = record { law = s.law; dir = s.dir; path = s.path; part = part_of 
 
 abbrev pub shown : Script → ShownScript
 shown s = record { from = shown_program s.from.program; lines = s.from.lines; steps = map shown_step s.steps; to = shown_program s.to }
+
+-- ---- orders
+
+pub record ShownOrder : Type 0 where
+  pub law : Option LawId
+  pub dir : Direction
+  pub path : List ℕ
+  pub part : Option Part
+
+abbrev pub shown_order : Order → ShownOrder
+shown_order o = record { law = o.law; dir = o.dir; path = o.path; part = option_map part_of o.part }

@@ -17,7 +17,7 @@ mod script;
 
 pub use content::Content;
 pub use fault::ScriptFault;
-pub use law::one_script;
+pub use law::{one_orders, one_script};
 pub use listing::orders;
 pub use reading::read;
 pub use script::{Order, Orders, Script, Step, Steps};

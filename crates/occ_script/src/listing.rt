@@ -1,6 +1,6 @@
 //! Orders as they are read.
 
-ghost use Rattle.std.specs.Prelude.{◌≡◌, ◌⊎◌, IfErr, IfOk};
+ghost use Rattle.std.specs.Prelude.{◌≡◌, ◌<◌, ◌⊎◌, IfErr, IfOk, length};
 ghost use Rattle.occ_lex_symbols.specs.Symbols.{Extends};
 ghost use Rattle.occ_script.specs.declared.fault.ScriptFault.TheVariants as fault;
 ghost use Rattle.occ_script.specs.Orders.{AreOrders, IsBadLines, IsBadOrder, IsBadRest, IsOrder, IsOrders, IsOrdersFault, IsPartThere};
@@ -79,9 +79,10 @@ fn rest(alloc: Global, names: &mut Names, sections: Sections) -> Result<Orders, 
 
 /// Reads a text as orders. Its names are kept in the table, also where it is refused. `Memory` comes only where memory is short, and
 /// each other fault is the first one that the text has: its length; version 1; and the least line with a fault of tokens or of form,
-/// or over the limit on tokens.
+/// or over the limit on tokens. Orders are fewer than 4,294,967,295.
 pub fn orders(alloc: Global, names: &mut Names, text: &[u8]) -> Result<Orders, ScriptFault>
     ensures found { IfOk result (λ orders. IsOrders text.now names.old names.new orders) }
+    ensures few { IfOk result (λ orders. length orders < 4294967295) }
     ensures refused { IfErr result (λ e. IsOrdersFault text.now names.old e ⊎ (e ≡ fault.Memory)) }
     ensures extends { Extends names.old names.new }
 {

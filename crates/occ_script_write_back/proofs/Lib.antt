@@ -6,3 +6,6 @@ mod Scripts
 mod Staying
 mod Steps
 mod OneByOne
+mod Programs
+mod Formed
+mod Whole

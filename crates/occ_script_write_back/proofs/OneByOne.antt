@@ -30,7 +30,7 @@ use Rattle.occ_syntax.specs.declared.scope.Kind.{Kind}
 use Rattle.occ_syntax.specs.Tree.{Tree}
 use Rattle.occ_syntax.specs.View.{tree}
 
-abbrev PartsReadBack : Type 0
+abbrev pub PartsReadBack : Type 0
 PartsReadBack = (names : List (List ℕ)) (P : ℕ → Place) (scope : List (Name × Kind)) (part : Tree) (front : List ℕ) (number : ℕ)
     → IsPrintablePart names P scope part → PartIsNarrow part → PartReadsBack names P scope front number part
 
@@ -87,7 +87,12 @@ module _ (once : IsOnce) (back : PartsReadBack) (names : List (List ℕ)) (P : �
       record {
         table = old;
         target = s;
-        is_last = record { row = ap (λ (k : Section). k.row) same.first; body = ap (λ (k : Section). k.body) same.first };
+        is_last = record {
+          row = ap (λ (k : Section). k.row) same.first;
+          body = ap (λ (k : Section). k.body) same.first;
+          before = front;
+          front = ap (λ (k : Section). k.front) same.first;
+        };
         grows = (Q, g);
         bad = subst (λ (os : List Section). IsBadTarget last old s os e) same.rest x;
       }
@@ -119,7 +124,16 @@ module _ (once : IsOnce) (back : PartsReadBack) (names : List (List ℕ)) (P : �
   steps_read Q n front [] c target (no_step old rest) e f to also g h =
       let s : Section = record { number = n; row = c.row; front = front ++ c.row; body = c.body } in
       let same : target ≡ s = (same_sections target s [] [] rest f e).first in
-      record { steps_are = tt; last = record { row = ap (λ (k : Section). k.row) same; body = ap (λ (k : Section). k.body) same }; grows = (Q, g) }
+      record {
+        steps_are = tt;
+        last = record {
+          row = ap (λ (k : Section). k.row) same;
+          body = ap (λ (k : Section). k.body) same;
+          before = front;
+          front = ap (λ (k : Section). k.front) same;
+        };
+        grows = (Q, g);
+      }
   steps_read Q n front (d ∷ dones) c target (no_step old rest) e f to also g h =
       let s : Section = step_section names n (front ++ line (step_words d)) d in
       let later = chunk_sections (n + 1 + length (rows (part_text names 1 (tree d.part)))) ((front ++ line (step_words d)) ++ part_text names 1 (tree d.part)) (map (step_chunk names) dones ++ c ∷ []) in

@@ -51,7 +51,7 @@ goes b w h =
     let more = and_parts (not (eqb 13 b)) _ parts.1 in
     or_from _ _ (no_dashes b w (not-true _ more.1)) (or_from _ _ (and_left (eqb 10 b) _ (not-true _ parts.0)) (and_left (eqb 13 b) _ (not-true _ more.0)))
 
-code_calm : (w : List ℕ) → is_calm w ≡ true → code_of (w ++ 10 ∷ []) ≡ w
+pub code_calm : (w : List ℕ) → is_calm w ≡ true → code_of (w ++ 10 ∷ []) ≡ w
 code_calm [] h = code_stop (10 ∷ []) refl
 code_calm (b ∷ w) h =
     let parts = and_parts (is_still b w) (is_calm w) h in

@@ -3,3 +3,5 @@ pub mod Chunks
 pub mod Steps
 pub mod Staying
 pub mod Reads
+pub mod Programs
+pub mod Whole

@@ -1,5 +1,5 @@
 -- The steps that are read from the sections of a written script.
-use Rattle.std.specs.Prelude.{ℕ, ◌≡◌, List, [], ◌∷◌, Some, None}
+use Rattle.std.specs.Prelude.{ℕ, ◌≡◌, List, [], ◌∷◌, ◌++◌, Some, None}
 use Rattle.occ_base.specs.declared.names.Name.{Name}
 use Rattle.occ_parse_part.specs.Resolving.{part_fault, part_process}
 use Rattle.occ_parse_part.specs.Shown.{part_of}
@@ -41,10 +41,12 @@ pub record IsStepWell (names : List (List ℕ)) (P : ℕ → Place) (done : Done
   pub written : IsStepWritten names P done
   pub narrow : PartIsNarrow (tree done.part)
 
--- a section has this line and this text
+-- a section has this line and this text, and its line stands at the end of all in front of the text
 pub record IsSectionOf (c : Chunk) (s : Section) : Type 0 where
   pub row : s.row ≡ c.row
   pub body : s.body ≡ c.body
+  pub before : List ℕ
+  pub front : s.front ≡ before ++ c.row
 
 -- Steps are read as those that were written, up to a last section. The table that is left is one of places again, with the names that
 -- were there.

@@ -1,4 +1,4 @@
-ghost use Rattle.std.specs.Prelude.{◌≡◌, ℕ, List, [], ◌∷◌, ◌++◌, Some, codes, map, true};
+ghost use Rattle.std.specs.Prelude.{◌≡◌, ◌≤◌, ℕ, List, [], ◌∷◌, ◌++◌, Some, codes, length, map, true};
 ghost use Rattle.std.specs.List.{AllByRecursion};
 ghost use Rattle.occ_base.specs.declared.names.Name.{Name};
 ghost use Rattle.occ_parse_rules.specs.Places.{Place};
@@ -11,7 +11,15 @@ ghost use Rattle.occ_script_write.specs.declared.writing.Done.{Done};
 ghost use Rattle.occ_script_write_back.specs.Reads.{AreRead, IsFaultOfLast, IsStepWell};
 ghost use Rattle.occ_script_write_back.specs.Staying.{PartStays, ProgramStays};
 ghost use Rattle.occ_script_write_back.specs.Steps.{StepReadsBack};
-ghost use Rattle.occ_script.specs.Refusals.{IsBadEnd};
+ghost use Rattle.occ_parse_reading.specs.declared.bound.Bound.TheVariants as bound;
+ghost use Rattle.occ_print_program_back.specs.Blank.{ends_line};
+ghost use Rattle.occ_print_program_back.specs.Limits.{IsWithin};
+ghost use Rattle.occ_script.specs.Refusals.{IsBadEnd, IsScriptFault};
+ghost use Rattle.occ_script.specs.Scripts.{IsScript};
+ghost use Rattle.occ_script.specs.declared.content.Content.TheVariants as content;
+ghost use Rattle.occ_script.specs.declared.script.Script.{Script};
+ghost use Rattle.occ_script_write_back.specs.Programs.{ProgramReadsBack, program_section};
+ghost use Rattle.occ_script_write_back.specs.Whole.{AreWrittenWell, IsScriptOf};
 ghost use Rattle.occ_script.specs.Steps.{AreSteps};
 ghost use Rattle.occ_script.specs.declared.fault.ScriptFault.{ScriptFault};
 ghost use Rattle.occ_script.specs.declared.script.Step.{Step};
@@ -90,6 +98,39 @@ pub fn written_steps_are_kept()
         → IsBadEnd last t (chunk_sections n front (map (step_chunk names) dones ++ c ∷ [])) e
         → is_line (codes "TO") c.row ≡ true → IsGrown names P t Q
         → AllByRecursion (IsStepWell names P) dones → IsFaultOfLast names P c last e }
+{
+    one_form();
+    one_reading_of_a_part();
+    names_are_distinct();
+    printed_parts_read_back();
+}
+
+/// The section of a written program, behind FROM or behind TO, isn't refused, and the text that is read from it reads as that program
+/// and as no other, where it stands; the table of names stays as it is.
+pub fn written_programs_read_back()
+    ensures from { (names : List (List ℕ)) (P : ℕ → Place) (n : ℕ) (row front : List ℕ) (program : Program)
+        → IsPrintable names P program.name.0 program.params (tree program.body) → ends_line front ≡ true
+        → IsWithin bound.First program.name.0 program.params (tree program.body)
+        → ProgramReadsBack content.First names (program_section names n row front program) program }
+    ensures to { (names : List (List ℕ)) (P : ℕ → Place) (n : ℕ) (row front : List ℕ) (program : Program)
+        → IsPrintable names P program.name.0 program.params (tree program.body) → ends_line front ≡ true
+        → IsWithin bound.Script program.name.0 program.params (tree program.body)
+        → ProgramReadsBack content.Last names (program_section names n row front program) program }
+{
+    one_form();
+    one_reading_of_a_part();
+    names_are_distinct();
+}
+
+/// A script that is written from a table of names isn't refused where it is read with that table, and whatever it is read as has the
+/// programs and the steps that were written: where the text has at most 4,194,304 bytes and all keeps the limits that bind it there.
+pub fn written_scripts_read_back()
+    ensures kept { (names : List (List ℕ)) (P : ℕ → Place) (from to : Program) (steps : List Done) → AreWrittenWell names P from steps to
+        → length (script_text names from steps to) ≤ 4194304 → (e : ScriptFault)
+        → IsScriptFault (script_text names from steps to) names e → ⊥ }
+    ensures read { (names : List (List ℕ)) (P : ℕ → Place) (from to : Program) (steps : List Done) → AreWrittenWell names P from steps to
+        → (new : List (List ℕ)) (script : Script) → IsScript (script_text names from steps to) names new script
+        → IsScriptOf names P from steps to new script }
 {
     one_form();
     one_reading_of_a_part();

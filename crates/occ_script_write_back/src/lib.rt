@@ -5,7 +5,7 @@
 mod laws;
 
 pub use laws::{
-    printed_texts_stay, written_lines_say_their_steps, written_scripts_have_their_sections,
-    written_steps_are_kept, written_steps_are_read, written_steps_read_back,
-    written_texts_have_their_sections,
+    printed_texts_stay, written_lines_say_their_steps, written_programs_read_back,
+    written_scripts_have_their_sections, written_scripts_read_back, written_steps_are_kept,
+    written_steps_are_read, written_steps_read_back, written_texts_have_their_sections,
 };
