@@ -1,0 +1,6 @@
+mod Direct
+mod Keeping
+mod Putting
+mod Moving
+mod Standing
+mod Given

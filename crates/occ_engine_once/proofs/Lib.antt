@@ -1,0 +1,4 @@
+mod Applying
+mod Chains
+mod Expanding
+mod Following
