@@ -1,0 +1,4 @@
+mod Known
+mod Narrow
+mod Joining
+mod Written

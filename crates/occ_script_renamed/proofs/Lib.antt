@@ -1,0 +1,5 @@
+mod Places
+mod Symbols
+mod Lines
+mod Texts
+mod Moving
