@@ -1,5 +1,5 @@
 -- The operators of the language on maps, in every environment of the variables in scope.
-use Rattle.std.proofs.Common.{◌≡◌, ◌<◌, ◌≤◌, ◌^◌, ◌==◌, ◌&&◌, ℕ, Bool, true, List, [], ◌∷◌, Result, Ok, Err, IfOk, bit_or, cond, refl, sym, ap, ◌∙◌, subst, arith}
+use Rattle.std.proofs.Common.{◌≡◌, ◌<◌, ◌≤◌, ◌^◌, ◌==◌, ◌&&◌, ℕ, Bool, true, List, Result, Ok, Err, IfOk, bit_or, cond, refl, sym, ap, subst, arith}
 use Rattle.std.proofs.lemmas.Bool.{and_parts}
 use Rattle.std.proofs.lemmas.Nat.{or_lt}
 use Rattle.occ_base.specs.declared.names.Name.{Name}
@@ -14,7 +14,7 @@ use Rattle.occ_mdd.specs.Maps.{value}
 use Rattle.occ_mdd.specs.declared.map.MapId.{MapId}
 use Rattle.occ_node.specs.declared.world.World.{World}
 use Rattle.occ_follow.specs.Sequence.{HasNodes}
-use Rattle.occ_norm_maps.specs.Maps.{Extends, IsSkip, IsStop}
+use Rattle.occ_norm_maps.specs.Maps.{Extends, IsStop}
 use Rattle.occ_norm_frame.specs.After.{IsOver}
 use Rattle.occ_norm_frame.specs.Placed.{Fits, IsAround, IsFrame}
 use Rattle.occ_norm_frame.proofs.After.{after-extends, after-over, state_back, states_reached}
@@ -45,22 +45,6 @@ truth_here vars layout n frame Γ around e s =
 pub in-extends : (v w : World) (k : Extends v w) (vars : List (Name × Kind)) (layout : List (Name × Width × ℕ)) (keep : ℕ) (closed : List Name) (p : Tree) (rest r : MapId)
     → HasNodes v rest → HasNodes v r → IsAfterIn v vars layout keep closed p rest r → IsAfterIn w vars layout keep closed p rest r
 in-extends v w k vars layout keep closed p rest r has hr is Γ around types = after-extends v w k layout keep closed Γ p rest r has hr (is Γ around types)
-
-pub skip-extends : (v w : World) → Extends v w → (keep : ℕ) (r : MapId) → IsSkip v keep r → IsSkip w keep r
-skip-extends v w k keep r is = record {
-  node = is.node;
-  everywhere = record { known = more is.everywhere.known k.maps.more; values = λ x. k.maps.same r x is.everywhere.known ∙ is.everywhere.values x };
-  known = more is.known k.grows.more;
-  never_fails = λ t X. k.grows.same_fails is.node t X is.known ∙ is.never_fails t X;
-  ends_now = λ x. k.grows.same_ends is.node [] x is.known ∙ is.ends_now x;
-  ends_once = λ e t x. k.grows.same_ends is.node (e ∷ t) x is.known ∙ is.ends_once e t x;
-}
-  where
-    more : {a b c : ℕ} → a < b → b ≤ c → a < c
-    more {a} {b} {c} h l = omega (arith, h, l)
-
-pub over_skip : (w : World) (n keep : ℕ) (r : MapId) → HasNodes w r → IsSkip w keep r → IsOver w n r
-over_skip w n keep r has is = record { has = has; same = λ x y h l agree. is.everywhere.values x ∙ sym (is.everywhere.values y) }
 
 pub keep_below : (keep needed both n : ℕ) → keep < 2 ^ n → needed < 2 ^ n → both ≡ bit_or keep needed → both < 2 ^ n
 keep_below keep needed both n h k e = subst (λ b. b < 2 ^ n) (sym e) (or_lt n keep needed h k)

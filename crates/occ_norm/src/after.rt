@@ -14,6 +14,7 @@ use occ_mdd::MapId;
 use occ_node::World;
 use occ_norm_alt::{Alternation, input, output};
 use occ_norm_assign::assigned;
+use occ_norm_ending::ending;
 use occ_norm_frame::{Frame, freed, holds};
 use occ_norm_maps::{choose, stop};
 use occ_norm_par::{Sides, joined, sequel, side_frame};
@@ -192,7 +193,8 @@ fn at_once(
     let mut maps = Vec::new(alloc);
     for place in 0..parts.len() {
         let inner = side_frame(alloc, frame, &sides, place)?;
-        let map = after(alloc, world, &inner, &parts[place], sides.ended)?;
+        let ended = ending(alloc, world, sides.all, inner.keep)?;
+        let map = after(alloc, world, &inner, &parts[place], ended)?;
         maps.push(map)?;
     }
     let map = joined(alloc, world, frame, &sides, parts, maps.as_slice())?;

@@ -230,6 +230,44 @@ module _ (w : World) (n all keep : ℕ) (r : MapId) (has : HasNodes w r) (is : I
         a.1 ∙ ap (λ (m : NodeId). Some m) (one_node x y a.0 b.0 agree h l a.1 b.1) ∙ sym b.1;
   }
 
+-- ---- the bits that matter to a part alone
+module _ (w : World) (vars : List (Name × Kind)) (layout : List (Name × Width × ℕ)) (n : ℕ) (frame : IsFrame vars layout n) (all keep : ℕ) (inside : all < 2 ^ n) (closed : List Name) (Γ : Environment) (p : Tree) (r : MapId)
+    (is : IsPart w layout all keep closed Γ p r) (has : HasNodes w r) where
+  part_fails_into : (x y : ℕ) (a b : NodeId) → AgreeBelow n x y → x < 2 ^ 64 → y < 2 ^ 64 → value w.maps r x ≡ Some a → value w.maps r y ≡ Some b → (t : List Event) (X : Event → Bool) → fails w a t X ≡ true → fails w b t X ≡ true
+  part_fails_into x y a b agree h l e f t X c =
+      let q = (is.alone_fails x a h e t X).0 c in
+      (is.alone_fails y b l f t X).1 (q.0, subst (λ s. part_fails Γ p s t (off_channels closed X)) (state_below vars layout n frame x y agree) q.1)
+
+  part_ends_into : (x y : ℕ) (a b : NodeId) → AgreeBelow n x y → x < 2 ^ 64 → y < 2 ^ 64 → value w.maps r x ≡ Some a → value w.maps r y ≡ Some b → (t : List Event) (z : ℕ) → z < 2 ^ 64 → ends w a t z ≡ true → ends w b t z ≡ true
+  part_ends_into x y a b agree h l e f t z hz c =
+      let s = (is.alone_ends x a h e t z hz).0 c in
+      (is.alone_ends y b l f t z hz).1 (record {
+        y = s.y;
+        below = s.below;
+        silent = s.silent;
+        ended = subst (λ u. part_ends Γ p u t (state_of layout s.y)) (state_below vars layout n frame x y agree) s.ended;
+        changed = λ k m one. s.changed k m one ∙ ap (λ b. (b + bit_at s.y k) % 2) (⊎_elim
+            (λ (low : k < n). bit_at_and x keep k ∙ ap (λ b. min b (bit_at keep k)) (agree k low) ∙ sym (bit_at_and y keep k))
+            (λ (high : n ≤ k). let none : bit_at all k ≡ 0 = bit_at_above all n k inside high in absurd (omega (arith, one, none)))
+            (cases_lt k n));
+      })
+
+  part_node : (x y : ℕ) (a b : NodeId) → AgreeBelow n x y → x < 2 ^ 64 → y < 2 ^ 64 → value w.maps r x ≡ Some a → value w.maps r y ≡ Some b → a ≡ b
+  part_node x y a b agree h l e f =
+      let back : AgreeBelow n y x = λ k m. sym (agree k m) in
+      (canonical w).one a b (map_node w r has x h a e) (map_node w r has y l b f)
+      (λ t X. same_truth (fails w a t X) (fails w b t X) (part_fails_into x y a b agree h l e f t X) (part_fails_into y x b a back l h f e t X))
+      (λ t z below. same_truth (ends w a t z) (ends w b t z) (part_ends_into x y a b agree h l e f t z below) (part_ends_into y x b a back l h f e t z below))
+
+  pub part_over : IsOver w n r
+  part_over = record {
+    has = has;
+    same = λ x y h l agree.
+        let a = has.nodes x h in
+        let b = has.nodes y l in
+        a.1 ∙ ap (λ (m : NodeId). Some m) (part_node x y a.0 b.0 agree h l a.1 b.1) ∙ sym b.1;
+  }
+
 -- ---- made of SKIP, whose bits that have values are turned
 module _ (w : World) (all keep : ℕ) (ended r : MapId) (skip : IsSkip w all ended) (turned : IsChanged w (λ x. bit_and x (except all keep)) ended r) where
   abbrev flipped : ℕ → ℕ

@@ -12,7 +12,6 @@ use Rattle.occ_meaning.proofs.Refusals.{part_more}
 use Rattle.occ_meaning.specs.Foundation.{AreOnEnds}
 use Rattle.occ_mdd.specs.declared.map.MapId.{MapId}
 use Rattle.occ_node.specs.declared.world.World.{World}
-use Rattle.occ_norm_maps.specs.Maps.{IsSkip}
 use Rattle.occ_syntax.specs.Meaning.{Outcome, ended, fails as part_fails, meaning, refusing}
 use Rattle.occ_syntax.specs.Names.{is_in, uses_end}
 use Rattle.occ_syntax.specs.Scopes.{Environment, EventSet, Trace, Values}
@@ -21,10 +20,10 @@ use Rattle.occ_syntax.specs.Types.{all_types_kept, types_kept}
 use Rattle.occ_syntax.specs.View.{numbers, trees}
 use Rattle.occ_syntax.specs.declared.proc.Proc.{Proc}
 use Rattle.occ_weave.specs.Weave.{is_open, is_silent_on, off_channels}
-use Rattle.occ_norm_frame.specs.After.{IsAfter, QuietlyFails}
+use Rattle.occ_norm_frame.specs.After.{QuietlyFails}
+use Rattle.occ_norm_ending.specs.Alone.{IsPart, Stops}
 use Rattle.occ_norm_par.specs.Sides.{AreUsers, IsUser, chans_of, closed_in}
 use Rattle.occ_norm_par.specs.declared.users.Users.{Users}
-use Rattle.occ_norm_par.proofs.Alone.{IsPart, Stops, alone_from, alone_to}
 use Rattle.occ_norm_par.proofs.Spanning.{uses_beyond}
 use Rattle.occ_norm_par.proofs.Using.{some_end}
 
@@ -55,28 +54,28 @@ module _ (Γ : Environment) (p : Tree) (typed : types_kept p Γ ≡ true) (few m
       (λ e h. let a = and_parts (is_open few e) (X e) h in
       ⊎_elim (λ (o : is_open more e ≡ true). inl (and_from (is_open more e) (X e) o a.1)) (λ (n : is_open more e ≡ false). inr (unused e a.0 n e.dir)) (cases_Bool (is_open more e))) d
 
-  module _ (layout : List (Name × Width × ℕ)) (keep x : ℕ) where
+  module _ (layout : List (Name × Width × ℕ)) (whole keep x : ℕ) where
     quiet_more : (t : Trace) (X : EventSet) → QuietlyFails layout few Γ p x t X → QuietlyFails layout more Γ p x t X
     quiet_more t X q = (silent_more t (on_used (state_of layout x) t (refusing (off_channels few X)) q.1) q.0, fails_more (state_of layout x) t X q.1)
 
     quiet_fewer : (t : Trace) (X : EventSet) → QuietlyFails layout more Γ p x t X → QuietlyFails layout few Γ p x t X
     quiet_fewer t X q = (silent_fewer t q.0, fails_fewer (state_of layout x) t X q.1)
 
-    stops_more : (t : Trace) (z : ℕ) → Stops layout keep few Γ p x t z → Stops layout keep more Γ p x t z
+    stops_more : (t : Trace) (z : ℕ) → Stops layout whole keep few Γ p x t z → Stops layout whole keep more Γ p x t z
     stops_more t z s = record { y = s.y; below = s.below; silent = silent_more t (on_used (state_of layout x) t (ended (state_of layout s.y)) s.ended) s.silent; ended = s.ended; changed = s.changed }
 
-    stops_fewer : (t : Trace) (z : ℕ) → Stops layout keep more Γ p x t z → Stops layout keep few Γ p x t z
+    stops_fewer : (t : Trace) (z : ℕ) → Stops layout whole keep more Γ p x t z → Stops layout whole keep few Γ p x t z
     stops_fewer t z s = record { y = s.y; below = s.below; silent = silent_fewer t s.silent; ended = s.ended; changed = s.changed }
 
-  pub closed_more : (w : World) (layout : List (Name × Width × ℕ)) (keep : ℕ) (m : MapId) → IsPart w layout keep few Γ p m → IsPart w layout keep more Γ p m
-  closed_more w layout keep m h = record {
+  pub closed_more : (w : World) (layout : List (Name × Width × ℕ)) (whole keep : ℕ) (m : MapId) → IsPart w layout whole keep few Γ p m → IsPart w layout whole keep more Γ p m
+  closed_more w layout whole keep m h = record {
     alone_fails = λ x a l v t X. (
-      λ f. quiet_more layout keep x t X ((h.alone_fails x a l v t X).0 f),
-      λ q. (h.alone_fails x a l v t X).1 (quiet_fewer layout keep x t X q),
+      λ f. quiet_more layout whole keep x t X ((h.alone_fails x a l v t X).0 f),
+      λ q. (h.alone_fails x a l v t X).1 (quiet_fewer layout whole keep x t X q),
     );
     alone_ends = λ x a l v t z b. (
-      λ f. stops_more layout keep x t z ((h.alone_ends x a l v t z b).0 f),
-      λ s. (h.alone_ends x a l v t z b).1 (stops_fewer layout keep x t z s),
+      λ f. stops_more layout whole keep x t z ((h.alone_ends x a l v t z b).0 f),
+      λ s. (h.alone_ends x a l v t z b).1 (stops_fewer layout whole keep x t z s),
     );
   }
 
@@ -102,12 +101,10 @@ users_open (u ∷ us) n e low =
     both_not false b = refl
 
 -- Closed channels that no part uses have no events, and may be refused.
-pub closed_all : (w : World) (layout : List (Name × Width × ℕ)) (keep : ℕ) (over m : MapId) (Γ : Environment) (ps : List Proc) (closed : List Name) (users : List Users)
-    → AreUsers (trees ps) closed users → all_types_kept (trees ps) Γ ≡ true → IsSkip w keep over
-    → IsAfter w layout keep (closed_in 0 (length ps) users) Γ (par (trees ps)) over m → IsAfter w layout keep closed Γ (par (trees ps)) over m
-closed_all w layout keep over m Γ ps closed users are typed skip h =
-    alone_to w layout keep closed Γ (par (trees ps)) over m skip
-    (closed_more Γ (par (trees ps)) typed (closed_in 0 (length ps) users) closed within unused w layout keep m (alone_from w layout keep (closed_in 0 (length ps) users) Γ (par (trees ps)) over m skip h))
+pub closed_all : (w : World) (layout : List (Name × Width × ℕ)) (whole keep : ℕ) (m : MapId) (Γ : Environment) (ps : List Proc) (closed : List Name) (users : List Users)
+    → AreUsers (trees ps) closed users → all_types_kept (trees ps) Γ ≡ true
+    → IsPart w layout whole keep (closed_in 0 (length ps) users) Γ (par (trees ps)) m → IsPart w layout whole keep closed Γ (par (trees ps)) m
+closed_all w layout whole keep m Γ ps closed users are typed h = closed_more Γ (par (trees ps)) typed (closed_in 0 (length ps) users) closed within unused w layout whole keep m h
   where
     last_there : (u : Users) (k : ℕ) → k < length users → get_or users k u ≡ u → u.last < length ps
     last_there u k l is =

@@ -1,7 +1,6 @@
 pub mod Silent
 pub mod Using
 pub mod Assignments
-pub mod Alone
 pub mod Pair
 pub mod Spanning
 pub mod Writing

@@ -57,8 +57,8 @@ module _ (w0 w1 w2 w3 w4 w5 w6 w7 w8 : World) (k1 : Extends w0 w1) (k2 : Extends
       (joint_more w8 j bit few map next zero_part one_part zero_next one_next low high made
       (moved_values w0 w1 w8 k1 from1 map zero_part (λ x. with_bit x bit 0) nodes is_zero)
       (moved_values w1 w2 w8 k2 from2 map one_part (λ x. with_bit x bit 1) (has_nodes-extends w0 w1 k1 map nodes) is_one)
-      (stepped_grow w3 w8 from3 j bit 0 next zero_next few to_zero)
-      (stepped_grow w4 w8 from4 j bit 1 next one_next few to_one)
+      (stepped_grow w3 w8 from3 j bit 0 next zero_next to_zero)
+      (stepped_grow w4 w8 from4 j bit 1 next one_next to_one)
       (joint_grow w5 w8 from5 j bit zero_part zero_next low is_low)
       (joint_grow w6 w8 from6 j bit one_part one_next high is_high)
       (has_nodes-extends w0 w8 from0 map nodes)

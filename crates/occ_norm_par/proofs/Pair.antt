@@ -1,12 +1,12 @@
 -- Two parts side by side, by the nodes of both.
-use Rattle.std.proofs.Common.{◌≡◌, ℕ, ◌+◌, ◌%◌, ◌^◌, ◌<◌, ◌==◌, ◌&&◌, ◌||◌, ◌⊎◌, inl, inr, not, Bool, true, false, cond, List, [], ◌∷◌, Option, Some, ⊎_elim, refl, sym, ap, ◌∙◌, subst, arith, lit<}
+use Rattle.std.proofs.Common.{◌≡◌, ℕ, ◌+◌, ◌%◌, ◌^◌, ◌<◌, ◌==◌, ◌&&◌, ◌||◌, ◌⊎◌, inl, inr, min, not, Bool, true, false, cond, List, [], ◌∷◌, Option, Some, ⊎_elim, refl, sym, ap, ◌∙◌, subst, arith}
 use Rattle.std.specs.Prelude.{◌↔◌}
 use Rattle.std.specs.Int.{bit_at}
 use Rattle.std.specs.List.{list_all}
 use Rattle.std.proofs.lemmas.Bool.{and_from, and_parts, cases_Bool, cond_both, eqb-true, eq-eqb, not-true, or_cases, or_left, or_right, false≢true}
 use Rattle.std.proofs.lemmas.Nat.{xor_lt}
-use Rattle.std.proofs.lemmas.Nat.Bits.{bit_at-lt, bit_at-zero, bit_at_xor}
-use Rattle.std.specs.Int.Bits.{bit_xor}
+use Rattle.std.proofs.lemmas.Nat.Bits.{bit_at_and, bit_at_xor}
+use Rattle.std.specs.Int.Bits.{bit_and, bit_xor}
 use mathlib.Core.Path.{fun_ext}
 use Rattle.occ_base.specs.Event.{counterpart}
 use Rattle.occ_base.specs.Width.{bits_of}
@@ -40,9 +40,10 @@ use Rattle.occ_syntax.specs.declared.scope.Kind.{Kind}
 use Rattle.occ_weave.specs.Weave.{BothFail, IsEventSet, IsJoined, WovenEnds, WovenFails, first_ended as first_has_ended, second_ended as second_has_ended, neither_ended as neither_has_ended, is_open, is_silent_on, off_channels}
 use Rattle.occ_weave.proofs.Freeing.{joining, joining_is, joining_lt}
 use Rattle.occ_norm_frame.proofs.Placing.{frame_layout}
+use Rattle.occ_norm_ending.specs.Alone.{AreChanged, IsPart}
 use Rattle.occ_norm_frame.specs.Placed.{IsAround, IsFrame}
+use Rattle.occ_norm_ending.proofs.Alone.{and_below}
 use Rattle.occ_norm_par.specs.Sides.{AreWritten}
-use Rattle.occ_norm_par.proofs.Alone.{AreChanged, IsPart, twice_even}
 use Rattle.occ_norm_par.proofs.Assignments.{end_state, layout_state, value_by_bits, value_kept}
 use Rattle.occ_norm_par.proofs.Silent.{silent_all, silent_each, silent_first, silent_second, silent_unused, silent_woven}
 
@@ -61,13 +62,13 @@ at_first s a b e = cond_both (a == s) b a (λ n. n ≡ a) (λ t. e ∙ sym (eqb-
 at_second : (s a b : ℕ) → a ≡ s → cond (a == s) b a ≡ b
 at_second s a b e = ap (λ c. cond c b a) (eq-eqb a s e)
 
--- both have ended with a change of the kept bits
-record BothStop (layout : List (Name × Width × ℕ)) (keep : ℕ) (all : List Name) (behaves : Values → Type 0) (x : ℕ) (t : Trace) (z : ℕ) : Type 0 where
+-- both have ended, with the changes of the kept bits and the values of others
+record BothStop (layout : List (Name × Width × ℕ)) (whole keep : ℕ) (all : List Name) (behaves : Values → Type 0) (x : ℕ) (t : Trace) (z : ℕ) : Type 0 where
   y : ℕ
   low : y < 2 ^ 64
   quiet : is_silent_on all t ≡ true
   does : behaves (state_of layout y)
-  changed : AreChanged keep x y z
+  changed : AreChanged whole (bit_and x keep) y z
 
 -- ---- what the parts are
 module _ (vars : List (Name × Kind)) (layout : List (Name × Width × ℕ)) (bits : ℕ) (frame : IsFrame vars layout bits) (Γ : Environment) (around : IsAround Γ vars)
@@ -189,8 +190,8 @@ module _ (vars : List (Name × Kind)) (layout : List (Name × Width × ℕ)) (bi
       (silent_woven sole t1 t2 t w h (quiet_second s t2 o2 d2)) l (silent_woven behind t1 t2 t w (quiet_first s t1 o1 d1) k)
 
   -- ---- the nodes of both
-  module _ (w : World) (keep written_bits : ℕ) (small : written_bits < 2 ^ 64) (writes : AreWritten layout p written_bits) (apart : IsSeparate p q)
-      (m1 m2 : MapId) (is1 : IsPart w layout keep sole Γ p m1) (is2 : IsPart w layout keep behind Γ q m2) where
+  module _ (w : World) (whole keep1 keep2 keep written_bits : ℕ) (small : written_bits < 2 ^ 64) (splits : IsJoined written_bits keep1 keep2 keep) (writes : AreWritten layout p written_bits) (apart : IsSeparate p q)
+      (m1 m2 : MapId) (is1 : IsPart w layout whole keep1 sole Γ p m1) (is2 : IsPart w layout whole keep2 behind Γ q m2) where
     -- ---- the values of a variable in a state that is joined by bits
     within_word : (v : ℕ) (width : Width) (f k : ℕ) → entry_of layout v ≡ Some (width, f) → k < f + bits_of width → k < 64
     within_word v width f k found u = omega (arith, found_within layout (frame_layout vars layout bits frame) v width f found, u)
@@ -242,34 +243,44 @@ module _ (vars : List (Name × Kind)) (layout : List (Name × Width × ℕ)) (bi
             (cases_Bool (written p v)))
 
     -- ---- their changes
-    change_joined : (x x1 x2 y1 y2 z : ℕ) → IsJoined written_bits x1 x2 z → AreChanged keep x y1 x1 → AreChanged keep x y2 x2 → AreChanged keep x (joining written_bits y1 y2) z
+    kept_one_bit : (x i : ℕ) → i < 64 → bit_at written_bits i ≡ 1 → bit_at (bit_and x keep) i ≡ bit_at (bit_and x keep1) i
+    kept_one_bit x i l o = bit_at_and x keep i ∙ ap (min (bit_at x i)) (splits i l ∙ ap (λ c. cond c (bit_at keep1 i) (bit_at keep2 i)) (is_one written_bits i o)) ∙ sym (bit_at_and x keep1 i)
+
+    kept_two_bit : (x i : ℕ) → i < 64 → bit_at written_bits i ≡ 0 → bit_at (bit_and x keep) i ≡ bit_at (bit_and x keep2) i
+    kept_two_bit x i l n = bit_at_and x keep i ∙ ap (min (bit_at x i)) (splits i l ∙ ap (λ c. cond c (bit_at keep1 i) (bit_at keep2 i)) (is_zero written_bits i n)) ∙ sym (bit_at_and x keep2 i)
+
+    change_joined : (x x1 x2 y1 y2 z : ℕ) → IsJoined written_bits x1 x2 z → AreChanged whole (bit_and x keep1) y1 x1 → AreChanged whole (bit_and x keep2) y2 x2
+        → AreChanged whole (bit_and x keep) (joining written_bits y1 y2) z
     change_joined x x1 x2 y1 y2 z j h k i l one = ⊎_elim
-        (λ (o : bit_at written_bits i ≡ 1). j i l ∙ ap (λ c. cond c (bit_at x1 i) (bit_at x2 i)) (is_one written_bits i o) ∙ h i l one ∙ ap (λ n. (bit_at x i + n) % 2) (sym (bit_one y1 y2 i l o)))
-        (λ (n : bit_at written_bits i ≡ 0). j i l ∙ ap (λ c. cond c (bit_at x1 i) (bit_at x2 i)) (is_zero written_bits i n) ∙ k i l one ∙ ap (λ n. (bit_at x i + n) % 2) (sym (bit_two y1 y2 i l n)))
-        (one_or_zero i)
-      where
-        one_or_zero : (i : ℕ) → (bit_at written_bits i ≡ 1) ⊎ (bit_at written_bits i ≡ 0)
-        one_or_zero i = ⊎_elim (λ (n : bit_at written_bits i ≡ 0). inr n) (λ (o : bit_at written_bits i ≡ 1). inl o) (bit_cases written_bits i)
+        (λ (n : bit_at written_bits i ≡ 0). j i l ∙ ap (λ c. cond c (bit_at x1 i) (bit_at x2 i)) (is_zero written_bits i n) ∙ k i l one
+        ∙ (λ d. (sym (kept_two_bit x i l n) d + sym (bit_two y1 y2 i l n) d) % 2))
+        (λ (o : bit_at written_bits i ≡ 1). j i l ∙ ap (λ c. cond c (bit_at x1 i) (bit_at x2 i)) (is_one written_bits i o) ∙ h i l one
+        ∙ (λ d. (sym (kept_one_bit x i l o) d + sym (bit_one y1 y2 i l o) d) % 2))
+        (bit_cases written_bits i)
 
-    still : (x i : ℕ) → bit_at 0 i ≡ (bit_at x i + bit_at x i) % 2
-    still x i = bit_at-zero i ∙ sym (twice_even (bit_at x i) (bit_at-lt x i))
+    -- what an end without changes says
+    abbrev unchanged : ℕ → ℕ → ℕ
+    unchanged kept x = bit_xor (bit_and x kept) x
 
-    change_one : (x y z : ℕ) → AreChanged keep x y z → AreChanged keep x (joining written_bits y x) (joining written_bits z 0)
+    unchanged_lt : (kept x : ℕ) → x < 2 ^ 64 → unchanged kept x < 2 ^ 64
+    unchanged_lt kept x h = xor_lt 64 (bit_and x kept) x (and_below x kept h) h
+
+    change_one : (x y z : ℕ) → AreChanged whole (bit_and x keep) y z → AreChanged whole (bit_and x keep1) (joining written_bits y x) (joining written_bits z (unchanged keep1 x))
     change_one x y z h i l one = ⊎_elim
-        (λ (n : bit_at written_bits i ≡ 0). bit_two z 0 i l n ∙ still x i ∙ ap (λ m. (bit_at x i + m) % 2) (sym (bit_two y x i l n)))
-        (λ (o : bit_at written_bits i ≡ 1). bit_one z 0 i l o ∙ h i l one ∙ ap (λ m. (bit_at x i + m) % 2) (sym (bit_one y x i l o)))
+        (λ (n : bit_at written_bits i ≡ 0). bit_two z (unchanged keep1 x) i l n ∙ bit_at_xor (bit_and x keep1) x i ∙ ap (λ m. (bit_at (bit_and x keep1) i + m) % 2) (sym (bit_two y x i l n)))
+        (λ (o : bit_at written_bits i ≡ 1). bit_one z (unchanged keep1 x) i l o ∙ h i l one ∙ (λ d. (kept_one_bit x i l o d + sym (bit_one y x i l o) d) % 2))
         (bit_cases written_bits i)
 
-    change_two : (x y z : ℕ) → AreChanged keep x y z → AreChanged keep x (joining written_bits x y) (joining written_bits 0 z)
+    change_two : (x y z : ℕ) → AreChanged whole (bit_and x keep) y z → AreChanged whole (bit_and x keep2) (joining written_bits x y) (joining written_bits (unchanged keep2 x) z)
     change_two x y z h i l one = ⊎_elim
-        (λ (n : bit_at written_bits i ≡ 0). bit_two 0 z i l n ∙ h i l one ∙ ap (λ m. (bit_at x i + m) % 2) (sym (bit_two x y i l n)))
-        (λ (o : bit_at written_bits i ≡ 1). bit_one 0 z i l o ∙ still x i ∙ ap (λ m. (bit_at x i + m) % 2) (sym (bit_one x y i l o)))
+        (λ (n : bit_at written_bits i ≡ 0). bit_two (unchanged keep2 x) z i l n ∙ h i l one ∙ (λ d. (kept_two_bit x i l n d + sym (bit_two x y i l n) d) % 2))
+        (λ (o : bit_at written_bits i ≡ 1). bit_one (unchanged keep2 x) z i l o ∙ bit_at_xor (bit_and x keep2) x i ∙ ap (λ m. (bit_at (bit_and x keep2) i + m) % 2) (sym (bit_one x y i l o)))
         (bit_cases written_bits i)
 
-    joined_again : (z : ℕ) → IsJoined written_bits (joining written_bits z 0) (joining written_bits 0 z) z
-    joined_again z i l = ⊎_elim
-        (λ (n : bit_at written_bits i ≡ 0). sym (ap (λ c. cond c (bit_at (joining written_bits z 0) i) (bit_at (joining written_bits 0 z) i)) (is_zero written_bits i n) ∙ bit_two 0 z i l n))
-        (λ (o : bit_at written_bits i ≡ 1). sym (ap (λ c. cond c (bit_at (joining written_bits z 0) i) (bit_at (joining written_bits 0 z) i)) (is_one written_bits i o) ∙ bit_one z 0 i l o))
+    joined_again : (z c1 c2 : ℕ) → IsJoined written_bits (joining written_bits z c1) (joining written_bits c2 z) z
+    joined_again z c1 c2 i l = ⊎_elim
+        (λ (n : bit_at written_bits i ≡ 0). sym (ap (λ c. cond c (bit_at (joining written_bits z c1) i) (bit_at (joining written_bits c2 z) i)) (is_zero written_bits i n) ∙ bit_two c2 z i l n))
+        (λ (o : bit_at written_bits i ≡ 1). sym (ap (λ c. cond c (bit_at (joining written_bits z c1) i) (bit_at (joining written_bits c2 z) i)) (is_one written_bits i o) ∙ bit_one z c1 i l o))
         (bit_cases written_bits i)
 
     module _ (x : ℕ) (below : x < 2 ^ 64) (a b r : NodeId) (at1 : value w.maps m1 x ≡ Some a) (at2 : value w.maps m2 x ≡ Some b) (of : IsWovenOf w written_bits shared a b r) where
@@ -318,15 +329,15 @@ module _ (vars : List (Name × Kind)) (layout : List (Name × Width × ℕ)) (bi
       -- a change that an end has
       some_change : (z1 : ℕ) → z1 < 2 ^ 64 → (t : Trace) → is_silent_on sole t ≡ true → part_ends Γ p s0 t (state_of layout z1) → (z : ℕ) × (z < 2 ^ 64) × (ends w a t z ≡ true)
       some_change z1 low t quiet d =
-          let z : ℕ = bit_xor x z1 in
-          let lz : z < 2 ^ 64 = xor_lt 64 x z1 below low in
-          (z, lz, (is1.alone_ends x a below at1 t z lz).1 (record { y = z1; below = low; silent = quiet; ended = d; changed = λ k l one. bit_at_xor x z1 k }))
+          let z : ℕ = bit_xor (bit_and x keep1) z1 in
+          let lz : z < 2 ^ 64 = xor_lt 64 (bit_and x keep1) z1 (and_below x keep1 below) low in
+          (z, lz, (is1.alone_ends x a below at1 t z lz).1 (record { y = z1; below = low; silent = quiet; ended = d; changed = λ k l one. bit_at_xor (bit_and x keep1) z1 k }))
 
       other_change : (z1 : ℕ) → z1 < 2 ^ 64 → (t : Trace) → is_silent_on behind t ≡ true → part_ends Γ q s0 t (state_of layout z1) → (z : ℕ) × (z < 2 ^ 64) × (ends w b t z ≡ true)
       other_change z1 low t quiet d =
-          let z : ℕ = bit_xor x z1 in
-          let lz : z < 2 ^ 64 = xor_lt 64 x z1 below low in
-          (z, lz, (is2.alone_ends x b below at2 t z lz).1 (record { y = z1; below = low; silent = quiet; ended = d; changed = λ k l one. bit_at_xor x z1 k }))
+          let z : ℕ = bit_xor (bit_and x keep2) z1 in
+          let lz : z < 2 ^ 64 = xor_lt 64 (bit_and x keep2) z1 (and_below x keep2 below) low in
+          (z, lz, (is2.alone_ends x b below at2 t z lz).1 (record { y = z1; below = low; silent = quiet; ended = d; changed = λ k l one. bit_at_xor (bit_and x keep2) z1 k }))
 
       module _ (t1 t2 t : Trace) (weave : Weave t1 t2 t) (quiet : is_silent_on all t ≡ true) where
         silent1 : (o : Outcome) → (meaning q).does Γ s0 t2 o → is_silent_on sole t1 ≡ true
@@ -371,7 +382,7 @@ module _ (vars : List (Name × Kind)) (layout : List (Name × Width × ℕ)) (bi
 
       -- ---- ends
       abbrev Stop : Trace → ℕ → Type 0
-      Stop t z = BothStop layout keep all (λ v. Together (meaning p) (meaning q) Γ s0 t (ended v)) x t z
+      Stop t z = BothStop layout whole keep all (λ v. Together (meaning p) (meaning q) Γ s0 t (ended v)) x t z
 
       stop_from : (t : Trace) (z : ℕ) → is_silent_on shared t ≡ true → WovenEnds w written_bits a b t z → Stop t z
       stop_from t z l s =
@@ -386,16 +397,15 @@ module _ (vars : List (Name × Kind)) (layout : List (Name × Width × ℕ)) (bi
             changed = change_joined x s.x1 s.x2 d1.y d2.y z s.joined d1.changed d2.changed;
           }
 
-      stop_by : (t : Trace) (z y : ℕ) → z < 2 ^ 64 → y < 2 ^ 64 → AreChanged keep x y z → is_silent_on all t ≡ true → (t1 t2 : Trace) (s1 s2 : Values) → Weave t1 t2 t → state_of layout y ≡ join s0 s1 s2
+      stop_by : (t : Trace) (z y : ℕ) → z < 2 ^ 64 → y < 2 ^ 64 → AreChanged whole (bit_and x keep) y z → is_silent_on all t ≡ true → (t1 t2 : Trace) (s1 s2 : Values) → Weave t1 t2 t → state_of layout y ≡ join s0 s1 s2
           → part_ends Γ p s0 t1 s1 → part_ends Γ q s0 t2 s2 → WovenEnds w written_bits a b t z
       stop_by t z y lz ly change quiet t1 t2 s1 s2 weave e d1 d2 =
-          let zero_low : 0 < 2 ^ 64 = lit< tt in
           let y1 : ℕ = joining written_bits y x in
           let y2 : ℕ = joining written_bits x y in
-          let x1 : ℕ = joining written_bits z 0 in
-          let x2 : ℕ = joining written_bits 0 z in
-          let l1 : x1 < 2 ^ 64 = joining_lt written_bits z 0 small lz zero_low in
-          let l2 : x2 < 2 ^ 64 = joining_lt written_bits 0 z small zero_low lz in
+          let x1 : ℕ = joining written_bits z (unchanged keep1 x) in
+          let x2 : ℕ = joining written_bits (unchanged keep2 x) z in
+          let l1 : x1 < 2 ^ 64 = joining_lt written_bits z (unchanged keep1 x) small lz (unchanged_lt keep1 x below) in
+          let l2 : x2 < 2 ^ 64 = joining_lt written_bits (unchanged keep2 x) z small (unchanged_lt keep2 x below) lz in
           let e1 : s1 ≡ state_of layout y1 = end_one x t1 t2 s1 s2 d1 d2 y e in
           let e2 : s2 ≡ state_of layout y2 = end_two x t1 t2 s1 s2 d1 d2 y e in
           record {
@@ -408,14 +418,14 @@ module _ (vars : List (Name × Kind)) (layout : List (Name × Width × ℕ)) (bi
             below2 = l2;
             first = (is1.alone_ends x a below at1 t1 x1 l1).1 (record { y = y1; below = joining_lt written_bits y x small ly below; silent = silent1 t1 t2 t weave quiet (ended s2) d2; ended = subst (λ v. part_ends Γ p s0 t1 v) e1 d1; changed = change_one x y z change });
             second = (is2.alone_ends x b below at2 t2 x2 l2).1 (record { y = y2; below = joining_lt written_bits x y small below ly; silent = silent2 t1 t2 t weave quiet (ended s1) d1; ended = subst (λ v. part_ends Γ q s0 t2 v) e2 d2; changed = change_two x y z change });
-            joined = joined_again z;
+            joined = joined_again z (unchanged keep1 x) (unchanged keep2 x);
           }
 
-      stop_combined : (t : Trace) (z y : ℕ) → z < 2 ^ 64 → y < 2 ^ 64 → AreChanged keep x y z → is_silent_on all t ≡ true → (v : Values) → v ≡ state_of layout y → (t1 t2 : Trace) (o1 o2 : Outcome) → Weave t1 t2 t
+      stop_combined : (t : Trace) (z y : ℕ) → z < 2 ^ 64 → y < 2 ^ 64 → AreChanged whole (bit_and x keep) y z → is_silent_on all t ≡ true → (v : Values) → v ≡ state_of layout y → (t1 t2 : Trace) (o1 o2 : Outcome) → Weave t1 t2 t
           → Combines Γ s0 o1 o2 (ended v) → (meaning p).does Γ s0 t1 o1 → (meaning q).does Γ s0 t2 o2 → WovenEnds w written_bits a b t z
       stop_combined t z y lz ly change quiet v is t1 t2 o1 o2 weave (both_ended {s1 = s1} {s2 = s2} e) d1 d2 = stop_by t z y lz ly change quiet t1 t2 s1 s2 weave (sym is ∙ e) d1 d2
 
-      stop_back : (t : Trace) (z y : ℕ) → z < 2 ^ 64 → y < 2 ^ 64 → AreChanged keep x y z → is_silent_on all t ≡ true → (v : Values) → v ≡ state_of layout y → Together (meaning p) (meaning q) Γ s0 t (ended v) → WovenEnds w written_bits a b t z
+      stop_back : (t : Trace) (z y : ℕ) → z < 2 ^ 64 → y < 2 ^ 64 → AreChanged whole (bit_and x keep) y z → is_silent_on all t ≡ true → (v : Values) → v ≡ state_of layout y → Together (meaning p) (meaning q) Γ s0 t (ended v) → WovenEnds w written_bits a b t z
       stop_back t z y lz ly change quiet v is (together t1 t2 o1 o2 weave c d1 d2) = stop_combined t z y lz ly change quiet v is t1 t2 o1 o2 weave c d1 d2
 
       both_end : (t : Trace) (z : ℕ) → z < 2 ^ 64 → (ends w r t z ≡ true) ↔ Stop t z
@@ -433,7 +443,7 @@ module _ (vars : List (Name × Kind)) (layout : List (Name × Width × ℕ)) (bi
           let R : Option NodeId → Option NodeId → Option NodeId → Type 0 = OnTwo (IsWovenOf w written_bits shared) in
           subst (λ o. R (Some a) (Some b) o) e (subst (λ o. R (Some a) o (value w.maps m x)) at2 (subst (λ o. R o (value w.maps m2 x) (value w.maps m x)) at1 (lifts.related x l)))
 
-      pub beside_alone : IsPart w layout keep all Γ pq m
+      pub beside_alone : IsPart w layout whole keep all Γ pq m
       beside_alone = record {
         alone_fails = λ x r l e t X.
             let n1 = has1.nodes x l in

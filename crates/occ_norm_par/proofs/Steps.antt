@@ -2,13 +2,11 @@
 use Rattle.std.proofs.Common.{◌≡◌, ◌⊎◌, ◌<◌, ◌≤◌, ◌^◌, ◌==◌, ℕ, suc, Bool, true, false, cond, List, Some, None, Result, Ok, Err, ⊎_elim, inl, inr, refl, sym, ap, ◌∙◌, subst, arith, lit<, ◌≢◌}
 use Rattle.std.specs.Prelude.{◌↔◌}
 use Rattle.std.proofs.lemmas.Bool.{cond-true, cond-false, cases_lt}
-use Rattle.std.proofs.lemmas.Nat.{xor_lt}
 use Rattle.std.proofs.lemmas.Option.{same_Some}
 use Rattle.std.specs.Int.{bit_at}
 use Rattle.std.specs.Result.{IfOk}
-use Rattle.std.specs.Int.Bits.{bit_xor, xor_assoc, xor_zero_r}
 use Rattle.occ_base.specs.declared.event.Event.{Event}
-use Rattle.occ_diagram.specs.Assignment.{turned, with_bit}
+use Rattle.occ_diagram.specs.Assignment.{with_bit}
 use Rattle.occ_diagram.specs.Memo.{Learns, recalled}
 use Rattle.occ_diagram.specs.declared.memo.Call.{Call}
 use Rattle.occ_diagram.specs.declared.memo.Memo.{Memo}
@@ -20,18 +18,14 @@ use Rattle.occ_node.specs.declared.node.NodeId.{NodeId}
 use Rattle.occ_node.specs.declared.world.World.{World}
 use Rattle.occ_follow.specs.Sequence.{Continues, HasNodes}
 use Rattle.occ_weave.proofs.Growth.{trans_iff, iff_of_same}
-use Rattle.occ_norm_maps.specs.Growth.{turned_grow}
-use Rattle.occ_norm_maps.specs.Lifted.{IsTurned}
 use Rattle.occ_norm_maps.specs.Maps.{Extends, IsSequel, digit}
 use Rattle.occ_norm_maps.proofs.Worlds.{has_nodes-extends}
 use Rattle.occ_norm_frame.specs.After.{AgreeBelow, IsOver}
-use Rattle.occ_norm_frame.specs.Changes.{IsChanged}
 use Rattle.occ_norm_frame.specs.Kept.{map_id}
 use Rattle.occ_norm_frame.proofs.After.{map_node, value_is, value_was}
-use Rattle.occ_norm_frame.proofs.Changing.{turned_none}
-use Rattle.occ_norm_par.specs.Joints.{image, IsJoint, IsStepped, Joins, KeepJoints, kept_change, step_change, stepped, turn}
+use Rattle.occ_norm_par.specs.Joints.{image, IsJoint, IsStepped, Joins, KeepJoints, stepped}
 use Rattle.occ_norm_par.specs.declared.joint.Joint.{Joint}
-use Rattle.occ_norm_par.proofs.Words.{change_free, change_same, change_written, image_lt, stepped_free, stepped_lt, stepped_same, stepped_written, turn_lt}
+use Rattle.occ_norm_par.proofs.Words.{image_lt, stepped_free, stepped_lt, stepped_same, stepped_written}
 
 pub or_iff : {P Q A B : Type 0} → P ↔ Q → A ↔ B → (P ⊎ A) ↔ (Q ⊎ B)
 or_iff f g = (λ s. ⊎_elim (λ p. inl (f.0 p)) (λ a. inr (g.0 a)) s, λ s. ⊎_elim (λ q. inl (f.1 q)) (λ b. inr (g.1 b)) s)
@@ -48,16 +42,15 @@ moved_values u v w k l map r f has is x =
 
 -- ---- growth
 module _ (v w : World) (k : Extends v w) (j : Joint) where
-  pub stepped_grow : (bit d : ℕ) (next r : MapId) → bit < 64 → IsStepped v j bit d next r → IsStepped w j bit d next r
-  stepped_grow bit d next r few is = record {
+  pub stepped_grow : (bit d : ℕ) (next r : MapId) → IsStepped v j bit d next r → IsStepped w j bit d next r
+  stepped_grow bit d next r is = record {
     before = has_nodes-extends v w k next is.before;
     after = has_nodes-extends v w k r is.after;
-    changed = λ z m n h e f. turned_grow v w k.grows (step_change j bit z) m n
-        (is.changed z m n h (value_was v w k next is.before (stepped j bit d z) _ e) (value_was v w k r is.after z _ f));
+    same = λ z. k.maps.same r z is.after.known ∙ is.same z ∙ sym (k.maps.same next (stepped j bit d z) is.before.known);
   }
 
-  joins_grow : (left x : ℕ) (a : NodeId) (next : MapId) (A B : ℕ → NodeId → List Event → Bool) → left ≤ 64 → HasNodes v next → IsNode v a
-      → ((z : ℕ) (m : NodeId) (u : List Event) → IsNode v m → B z m u ≡ A z m u)
+  joins_grow : (left x : ℕ) (a : NodeId) (next : MapId) (A B : NodeId → List Event → Bool) → left ≤ 64 → HasNodes v next → IsNode v a
+      → ((m : NodeId) (u : List Event) → IsNode v m → B m u ≡ A m u)
       → (t : List Event) → Joins v j left x a next A t ↔ Joins w j left x a next B t
   joins_grow left x a next A B few has known same t = (
     λ s. record {
@@ -69,7 +62,7 @@ module _ (v w : World) (k : Extends v w) (j : Joint) where
       below = s.below;
       ended = k.grows.same_ends a s.t1 s.z known ∙ s.ended;
       leads = value_is v w k next has (image j left x s.z) _ s.leads;
-      behaved = same s.z s.m s.t2 (map_node v next has (image j left x s.z) (image_lt j left x s.z few s.below) s.m s.leads) ∙ s.behaved;
+      behaved = same s.m s.t2 (map_node v next has (image j left x s.z) (image_lt j left x s.z few s.below) s.m s.leads) ∙ s.behaved;
     },
     λ s. let before : value v.maps next (image j left x s.z) ≡ Some s.m = value_was v w k next has (image j left x s.z) _ s.leads in record {
       t1 = s.t1;
@@ -80,7 +73,7 @@ module _ (v w : World) (k : Extends v w) (j : Joint) where
       below = s.below;
       ended = sym (k.grows.same_ends a s.t1 s.z known) ∙ s.ended;
       leads = before;
-      behaved = sym (same s.z s.m s.t2 (map_node v next has (image j left x s.z) (image_lt j left x s.z few s.below) s.m before)) ∙ s.behaved;
+      behaved = sym (same s.m s.t2 (map_node v next has (image j left x s.z) (image_lt j left x s.z few s.below) s.m before)) ∙ s.behaved;
     },
   )
 
@@ -98,7 +91,7 @@ module _ (v w : World) (k : Extends v w) (j : Joint) where
         trans_iff (iff_of_same _ _ (k.grows.same_fails b t X nb))
         (trans_iff (is.joint_fails x a b h ea eb t X)
         (or_iff (iff_of_same _ _ (sym (k.grows.same_fails a t X na)))
-        (joins_grow left x a next (λ z m u. fails v m u X) (λ z m u. fails w m u X) is.few is.second na (λ z m u n. k.grows.same_fails m u X n) t)));
+        (joins_grow left x a next (λ m u. fails v m u X) (λ m u. fails w m u X) is.few is.second na (λ m u n. k.grows.same_fails m u X n) t)));
     joint_ends = λ x a b h e f t y l.
         let ea : value v.maps map x ≡ Some a = value_was v w k map is.first x _ e in
         let eb : value v.maps r x ≡ Some b = value_was v w k r is.known x _ f in
@@ -106,8 +99,7 @@ module _ (v w : World) (k : Extends v w) (j : Joint) where
         let nb : IsNode v b = map_node v r is.known x h b eb in
         trans_iff (iff_of_same _ _ (k.grows.same_ends b t y nb))
         (trans_iff (is.joint_ends x a b h ea eb t y l)
-        (joins_grow left x a next (λ z m u. ends v m u (bit_xor y (turn j left x z))) (λ z m u. ends w m u (bit_xor y (turn j left x z))) is.few is.second na
-        (λ z m u n. k.grows.same_ends m u (bit_xor y (turn j left x z)) n) t));
+        (joins_grow left x a next (λ m u. ends v m u y) (λ m u. ends w m u y) is.few is.second na (λ m u n. k.grows.same_ends m u y n) t));
   }
 
   pub joints_grow : (memo : Memo) → KeepJoints v j memo → KeepJoints w j memo
@@ -129,7 +121,7 @@ joints_none w j memo none = record { each = λ k r e. absurd (let f : None ≡ S
 -- ---- all bits are split on
 pub joint_ended : (v w : World) → Extends v w → (j : Joint) (map next r : MapId) (node : NodeId) → HasNodes v map → HasNodes v next
     → ((x : ℕ) → x < 2 ^ 64 → value v.maps map x ≡ Some node) → IsSequel v w node next r → HasNodes w r → IsJoint w j 0 map next r
-unfolding image turn
+unfolding image
 joint_ended v w k j map next r node has also all is known = record {
   few = omega arith;
   first = has_nodes-extends v w k map has;
@@ -140,13 +132,12 @@ joint_ended v w k j map next r node has also all is known = record {
       trans_iff (iff_of_same _ _ (ap (λ n. fails w n t X) (sym (next_is x b f))))
       (trans_iff (is.followed.follow_fails t X)
       (or_iff (iff_of_same _ _ (ap (λ n. fails v n t X) (node_is x a h e) ∙ sym (k.grows.same_fails a t X na)))
-      (continued x a na (node_is x a h e) (λ m u. fails v m u X) (λ z m u. fails w m u X) (λ z m u n. k.grows.same_fails m u X n) t)));
+      (continued x a na (node_is x a h e) (λ m u. fails v m u X) (λ m u. fails w m u X) (λ m u n. k.grows.same_fails m u X n) t)));
   joint_ends = λ x a b h e f t y l.
       let na : IsNode v a = map_node v map has x h a (value_was v w k map has x _ e) in
       trans_iff (iff_of_same _ _ (ap (λ n. ends w n t y) (sym (next_is x b f))))
       (trans_iff (is.followed.follow_ends t y l)
-      (continued x a na (node_is x a h e) (λ m u. ends v m u y) (λ z m u. ends w m u (bit_xor y 0))
-      (λ z m u n. ap (ends w m u) (xor_zero_r y) ∙ k.grows.same_ends m u y n) t));
+      (continued x a na (node_is x a h e) (λ m u. ends v m u y) (λ m u. ends w m u y) (λ m u n. k.grows.same_ends m u y n) t));
 }
   where
     next_is : (x : ℕ) (b : NodeId) → value w.maps r x ≡ Some b → is.next ≡ b
@@ -155,8 +146,8 @@ joint_ended v w k j map next r node has also all is known = record {
     node_is : (x : ℕ) (a : NodeId) → x < 2 ^ 64 → value w.maps map x ≡ Some a → node ≡ a
     node_is x a h e = same_Some node a (sym (all x h) ∙ value_was v w k map has x _ e)
 
-    continued : (x : ℕ) (a : NodeId) → IsNode v a → node ≡ a → (A : NodeId → List Event → Bool) (B : ℕ → NodeId → List Event → Bool)
-        → ((z : ℕ) (m : NodeId) (u : List Event) → IsNode v m → B z m u ≡ A m u)
+    continued : (x : ℕ) (a : NodeId) → IsNode v a → node ≡ a → (A B : NodeId → List Event → Bool)
+        → ((m : NodeId) (u : List Event) → IsNode v m → B m u ≡ A m u)
         → (t : List Event) → Continues v node next A t ↔ Joins w j 0 x a next B t
     continued x a na e A B same t = (
       λ s. record {
@@ -168,7 +159,7 @@ joint_ended v w k j map next r node has also all is known = record {
         below = s.below;
         ended = k.grows.same_ends a s.t1 s.x na ∙ ap (λ n. ends v n s.t1 s.x) (sym e) ∙ s.ended;
         leads = value_is v w k next also s.x _ s.leads;
-        behaved = same s.x s.m s.t2 (map_node v next also s.x s.below s.m s.leads) ∙ s.behaved;
+        behaved = same s.m s.t2 (map_node v next also s.x s.below s.m s.leads) ∙ s.behaved;
       },
       λ s. let before : value v.maps next s.z ≡ Some s.m = value_was v w k next also s.z _ s.leads in record {
         t1 = s.t1;
@@ -179,7 +170,7 @@ joint_ended v w k j map next r node has also all is known = record {
         below = s.below;
         ended = ap (λ n. ends v n s.t1 s.z) e ∙ sym (k.grows.same_ends a s.t1 s.z na) ∙ s.ended;
         leads = before;
-        behaved = sym (same s.z s.m s.t2 (map_node v next also s.z s.below s.m before)) ∙ s.behaved;
+        behaved = sym (same s.m s.t2 (map_node v next also s.z s.below s.m before)) ∙ s.behaved;
       },
     )
 
@@ -189,58 +180,44 @@ one_node w map over node e x h = over.same x 0 h (lit< tt) (λ k l. absurd (omeg
 
 -- ---- one bit more
 module _ (w : World) (j : Joint) (bit : ℕ) (few : bit < 64) where
-  joins_more : (x d : ℕ) → bit_at x bit ≡ d → (a : NodeId) (next made : MapId) → IsStepped w j bit d next made
-      → (A B : ℕ → NodeId → List Event → Bool)
-      → ((z : ℕ) (m n : NodeId) (u : List Event) → IsTurned w (step_change j bit (image j bit x z)) m n → A z n u ≡ B z m u)
-      → (t : List Event) → Joins w j bit x a made A t ↔ Joins w j (suc bit) x a next B t
+  joins_more : (x d : ℕ) → bit_at x bit ≡ d → (a : NodeId) (next made : MapId) → IsStepped w j bit d next made → (A : NodeId → List Event → Bool)
+      → (t : List Event) → Joins w j bit x a made A t ↔ Joins w j (suc bit) x a next A t
   unfolding image
-  joins_more x d is_d a next made is A B same t = (
-    λ s.
-        let inside : image j bit x s.z < 2 ^ 64 = image_lt j bit x s.z (omega arith) s.below in
-        let found = is.before.nodes (stepped j bit d (image j bit x s.z)) (stepped_lt j bit d (image j bit x s.z) few inside) in
-        record {
-          t1 = s.t1;
-          t2 = s.t2;
-          z = s.z;
-          m = found.0;
-          whole = s.whole;
-          below = s.below;
-          ended = s.ended;
-          leads = ap (λ b. value w.maps next (stepped j bit b (image j bit x s.z))) is_d ∙ found.1;
-          behaved = sym (same s.z found.0 s.m s.t2 (is.changed (image j bit x s.z) found.0 s.m inside found.1 s.leads)) ∙ s.behaved;
-        },
-    λ s.
-        let inside : image j bit x s.z < 2 ^ 64 = image_lt j bit x s.z (omega arith) s.below in
-        let found = is.after.nodes (image j bit x s.z) inside in
-        record {
-          t1 = s.t1;
-          t2 = s.t2;
-          z = s.z;
-          m = found.0;
-          whole = s.whole;
-          below = s.below;
-          ended = s.ended;
-          leads = found.1;
-          behaved = same s.z s.m found.0 s.t2
-              (is.changed (image j bit x s.z) s.m found.0 inside (ap (λ b. value w.maps next (stepped j bit b (image j bit x s.z))) (sym is_d) ∙ s.leads) found.1) ∙ s.behaved;
-        },
+  joins_more x d is_d a next made is A t = (
+    λ s. record {
+      t1 = s.t1;
+      t2 = s.t2;
+      z = s.z;
+      m = s.m;
+      whole = s.whole;
+      below = s.below;
+      ended = s.ended;
+      leads = ap (λ b. value w.maps next (stepped j bit b (image j bit x s.z))) is_d ∙ sym (is.same (image j bit x s.z)) ∙ s.leads;
+      behaved = s.behaved;
+    },
+    λ s. record {
+      t1 = s.t1;
+      t2 = s.t2;
+      z = s.z;
+      m = s.m;
+      whole = s.whole;
+      below = s.below;
+      ended = s.ended;
+      leads = is.same (image j bit x s.z) ∙ ap (λ b. value w.maps next (stepped j bit b (image j bit x s.z))) (sym is_d) ∙ s.leads;
+      behaved = s.behaved;
+    },
   )
 
   -- one side of the bit
   module _ (d x : ℕ) (h : x < 2 ^ 64) (is_d : bit_at x bit ≡ d) (map next part next_part side : MapId) (a b : NodeId)
       (is : IsStepped w j bit d next next_part) (joint : IsJoint w j bit part next_part side)
       (ea : value w.maps part x ≡ Some a) (eb : value w.maps side x ≡ Some b) where
-    side_fails : (t : List Event) (X : Event → Bool) → (fails w b t X ≡ true) ↔ ((fails w a t X ≡ true) ⊎ Joins w j (suc bit) x a next (λ z m u. fails w m u X) t)
+    side_fails : (t : List Event) (X : Event → Bool) → (fails w b t X ≡ true) ↔ ((fails w a t X ≡ true) ⊎ Joins w j (suc bit) x a next (λ m u. fails w m u X) t)
     side_fails t X = trans_iff (joint.joint_fails x a b h ea eb t X)
-        (or_iff (iff_of_same _ _ refl) (joins_more x d is_d a next next_part is (λ z m u. fails w m u X) (λ z m u. fails w m u X) (λ z m n u turned. turned.turned.same_fail u X) t))
+        (or_iff (iff_of_same _ _ refl) (joins_more x d is_d a next next_part is (λ m u. fails w m u X) t))
 
-    side_ends : (t : List Event) (y : ℕ) → y < 2 ^ 64 → (ends w b t y ≡ true) ↔ Joins w j (suc bit) x a next (λ z m u. ends w m u (bit_xor y (turn j (suc bit) x z))) t
-    unfolding turn
-    side_ends t y l = trans_iff (joint.joint_ends x a b h ea eb t y l)
-        (joins_more x d is_d a next next_part is (λ z m u. ends w m u (bit_xor y (turn j bit x z)))
-        (λ z m u. ends w m u (bit_xor y (bit_xor (turn j bit x z) (step_change j bit (image j bit x z)))))
-        (λ z m n u turned. turned.turned.turned_end u (bit_xor y (turn j bit x z)) (xor_lt 64 y (turn j bit x z) l (turn_lt j bit x z (omega arith)))
-        ∙ ap (ends w m u) (xor_assoc y (turn j bit x z) (step_change j bit (image j bit x z)))) t)
+    side_ends : (t : List Event) (y : ℕ) → y < 2 ^ 64 → (ends w b t y ≡ true) ↔ Joins w j (suc bit) x a next (λ m u. ends w m u y) t
+    side_ends t y l = trans_iff (joint.joint_ends x a b h ea eb t y l) (joins_more x d is_d a next next_part is (λ m u. ends w m u y) t)
 
   -- both sides
   module _ (map next zero_part one_part zero_next one_next low high made : MapId)
@@ -298,43 +275,21 @@ module _ (w : World) (j : Joint) (bit d : ℕ) (next r : MapId) (has : HasNodes 
   step_free e same = record {
     before = has;
     after = known;
-    changed = λ z m n h f g.
-        let at : value w.maps next z ≡ Some m = ap (value w.maps next) (sym (stepped_free j bit d z e)) ∙ f in
-        let also : value w.maps next z ≡ Some n = ap (λ i. value w.maps i z) (sym same) ∙ g in
-        subst (λ (c : ℕ). IsTurned w c m n) (sym (change_free j bit z e))
-        (subst (IsTurned w 0 m) (same_Some m n (sym at ∙ also)) (turned_none w m (map_node w next has z h m at)));
-  }
-
-  -- one that isn't written
-  pub step_same : bit_at j.needed bit ≡ 1 → bit_at j.written bit ≡ 0 → bit < 64 → ((z : ℕ) → value w.maps r z ≡ value w.maps next (with_bit z bit d)) → IsStepped w j bit d next r
-  step_same e k few is = record {
-    before = has;
-    after = known;
-    changed = λ z m n h f g.
-        let at : value w.maps next (with_bit z bit d) ≡ Some m = ap (value w.maps next) (sym (stepped_same j bit d z e k)) ∙ f in
-        let also : value w.maps next (with_bit z bit d) ≡ Some n = sym (is z) ∙ g in
-        subst (λ (c : ℕ). IsTurned w c m n) (sym (change_same j bit z e k))
-        (subst (IsTurned w 0 m) (same_Some m n (sym at ∙ also)) (turned_none w m (map_node w next has (with_bit z bit d) (with_bit_lt z bit d 64 few h) m at)));
+    same = λ z. ap (λ i. value w.maps i z) same ∙ ap (value w.maps next) (sym (stepped_free j bit d z e));
   }
 
   -- one that is written
-  pub step_written : (there : MapId) → bit_at j.needed bit ≡ 1 → bit_at j.written bit ≡ 1 → ((z : ℕ) → value w.maps there z ≡ value w.maps next (cond (d == 1) (turned z bit) z))
-      → IsChanged w (kept_change j.keep bit) there r → IsStepped w j bit d next r
-  step_written there e k is change = record {
+  pub step_written : bit_at j.needed bit ≡ 1 → bit_at j.written bit ≡ 1 → r ≡ next → IsStepped w j bit d next r
+  step_written e k same = record {
     before = has;
     after = known;
-    changed = λ z m n h f g.
-        subst (λ (c : ℕ). IsTurned w c m n) (sym (change_written j bit z e k))
-        (change.changed z m n h (is z ∙ ap (value w.maps next) (sym (stepped_written j bit d z e k)) ∙ f) g);
+    same = λ z. ap (λ i. value w.maps i z) same ∙ ap (value w.maps next) (sym (stepped_written j bit d z e k));
   }
 
--- the value that is chosen where the bit before is known
-pub step_from_zero : (w : World) (j : Joint) (bit : ℕ) (one : Bool) (next r : MapId) → one ≡ false → bit_at j.needed bit ≡ 1 → bit_at j.written bit ≡ 1 → HasNodes w next → HasNodes w r
-    → IsChanged w (kept_change j.keep bit) next r → IsStepped w j bit (digit one) next r
-step_from_zero w j bit one next r is e k has known change =
-    subst (λ (b : Bool). IsStepped w j bit (digit b) next r) (sym is) (step_written w j bit 0 next r has known next e k (λ z. refl) change)
-
-pub step_from_one : (w : World) (j : Joint) (bit : ℕ) (one : Bool) (next there r : MapId) → one ≡ true → bit_at j.needed bit ≡ 1 → bit_at j.written bit ≡ 1 → HasNodes w next → HasNodes w r
-    → ((z : ℕ) → value w.maps there z ≡ value w.maps next (turned z bit)) → IsChanged w (kept_change j.keep bit) there r → IsStepped w j bit (digit one) next r
-step_from_one w j bit one next there r is e k has known flips change =
-    subst (λ (b : Bool). IsStepped w j bit (digit b) next r) (sym is) (step_written w j bit 1 next r has known there e k flips change)
+  -- one that isn't written
+  pub step_same : bit_at j.needed bit ≡ 1 → bit_at j.written bit ≡ 0 → ((z : ℕ) → value w.maps r z ≡ value w.maps next (with_bit z bit d)) → IsStepped w j bit d next r
+  step_same e k is = record {
+    before = has;
+    after = known;
+    same = λ z. is z ∙ ap (value w.maps next) (sym (stepped_same j bit d z e k));
+  }

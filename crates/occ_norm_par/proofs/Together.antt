@@ -1,6 +1,10 @@
 -- Parts of a PAR side by side, half by half.
-use Rattle.std.proofs.Common.{◌≡◌, ℕ, zero, suc, ◌+◌, ◌-◌, ◌<◌, ◌≤◌, ◌||◌, Bool, true, false, List, [], ◌∷◌, length, get_or, take, drop, ⊎_elim, refl, sym, ap, ◌∙◌, subst, arith}
+use Rattle.std.proofs.Common.{◌≡◌, ℕ, zero, suc, ◌+◌, ◌-◌, ◌<◌, ◌≤◌, ◌||◌, ◌==◌, ◌%◌, ◌^◌, ◌⊎◌, max, min, cond, Bool, true, false, List, [], ◌∷◌, length, get_or, take, drop, ⊎_elim, refl, sym, ap, ◌∙◌, subst, arith}
 use Rattle.std.specs.List.{All}
+use Rattle.std.specs.Int.{bit_at}
+use Rattle.std.specs.Int.Bits.{bit_or}
+use Rattle.std.proofs.lemmas.Nat.Bits.{bit_at-lt, bit_at-zero, bit_at_or, same_from_bits}
+use Rattle.occ_diagram.proofs.Bits.{bit_cases}
 use Rattle.std.proofs.lemmas.Bool.{and_from, and_parts, or_cases, or_left, or_right, or_parts, false≢true}
 use Rattle.std.proofs.Math.Seq.{take-length}
 use Rattle.std.proofs.lemmas.List.{get_or-drop, get_or-take, length-drop, length-take-le}
@@ -11,8 +15,8 @@ use Rattle.occ_base.specs.declared.width.Width.{Width}
 use Rattle.occ_mdd.specs.declared.map.MapId.{MapId}
 use Rattle.occ_node.specs.declared.world.World.{World}
 use Rattle.occ_follow.specs.Sequence.{HasNodes}
-use Rattle.occ_norm_maps.specs.Maps.{Extends, IsSkip}
-use Rattle.occ_norm_maps.proofs.Worlds.{extends_trans, has_nodes-extends, map-keeps}
+use Rattle.occ_norm_maps.specs.Maps.{Extends}
+use Rattle.occ_norm_maps.proofs.Worlds.{extends_trans, has_nodes-extends}
 use Rattle.occ_syntax.specs.Meaning.{Outcome, Together, meaning}
 use Rattle.occ_syntax.specs.Names.{end_in_some, free, free_in_some, uses_end, written, written_in_some}
 use Rattle.occ_syntax.specs.Scopes.{Environment, Trace, Values}
@@ -22,18 +26,16 @@ use Rattle.occ_syntax.specs.Usage.{AreSeparate, IsSeparate}
 use Rattle.occ_syntax.specs.View.{tree, trees}
 use Rattle.occ_syntax.specs.declared.proc.Proc.{Proc, Skip}
 use Rattle.occ_syntax.specs.declared.scope.Kind.{Kind}
-use Rattle.occ_weave.specs.Weave.{is_open}
-use Rattle.occ_norm_frame.specs.After.{IsAfter}
-use Rattle.occ_norm_frame.specs.Changes.{IsSupport}
-use Rattle.occ_diagram.specs.Assignment.{turned}
-use Rattle.occ_mdd.specs.Maps.{IsKnown}
+use Rattle.occ_weave.specs.Weave.{IsJoined as IsOfBoth, is_open}
+use Rattle.occ_norm_ending.specs.Alone.{IsPart, except}
 use Rattle.occ_norm_frame.specs.Placed.{IsAround, IsFrame}
 use Rattle.occ_meaning.proofs.Parts.{all_of_beside, beside_all_of}
 use Rattle.occ_meaning.specs.Parallel.{all_of}
-use Rattle.occ_norm_par.specs.Sides.{closed_in, crossing}
-use Rattle.occ_norm_par.specs.Joined.{AreBoth, AreOfParts, HaveNodes, IsJoined, IsSpread, no_map}
+use Rattle.occ_norm_par.specs.Sides.{AreWritten, bits_in, closed_in, crossing}
+use Rattle.occ_norm_par.specs.Joined.{AreBoth, AreOfParts, HaveNodes, IsJoined, IsSpread, WriteEach, no_map}
 use Rattle.occ_norm_par.specs.declared.users.Users.{Users}
-use Rattle.occ_norm_par.proofs.Alone.{IsPart, alone_from, alone_later, alone_to, skip_later}
+use Rattle.occ_norm_ending.proofs.Alone.{alone_later, except_bit}
+use Rattle.occ_norm_par.proofs.Writing.{bits_both, written_in}
 use Rattle.occ_norm_par.proofs.Pair.{beside_alone}
 use Rattle.occ_norm_par.proofs.Spanning.{uses_beyond}
 use Rattle.occ_norm_par.proofs.Using.{first_off, open_halves, others_off, some_end, spread_dropped, spread_each, spread_taken}
@@ -122,29 +124,40 @@ nodes_dropped w k maps h i l = subst (HasNodes w) (sym (get_or-drop k maps i no_
 pub nodes_later : (u v : World) → Extends u v → (maps : List MapId) → HaveNodes u maps → HaveNodes v maps
 nodes_later u v grow maps h i l = has_nodes-extends u v grow (get_or maps i no_map) (h i l)
 
-module _ (layout : List (Name × Width × ℕ)) (keep : ℕ) (users : List Users) (Γ : Environment) (ended : MapId) where
-  parts_taken : (w : World) (place k : ℕ) (ps : List Proc) (maps : List MapId) → k ≤ length ps → AreOfParts w layout keep users Γ ended place ps maps → AreOfParts w layout keep users Γ ended place (take k ps) (take k maps)
+each_taken : (layout : List (Name × Width × ℕ)) (writes : List ℕ) (place k : ℕ) (ps : List Proc) → k ≤ length ps → WriteEach layout writes place ps → WriteEach layout writes place (take k ps)
+each_taken layout writes place k ps low h i l =
+    let less : i < k = let n : length (take k ps) ≡ k = length-take-le k ps low in omega (arith, n, l) in
+    subst (λ (p : Proc). AreWritten layout (tree p) (get_or writes (place + i) 0)) (sym (get_or-take k ps i Skip less)) (h i (omega (arith, less, low)))
+
+each_dropped : (layout : List (Name × Width × ℕ)) (writes : List ℕ) (place k : ℕ) (ps : List Proc) → k ≤ length ps → WriteEach layout writes place ps → WriteEach layout writes (place + k) (drop k ps)
+each_dropped layout writes place k ps low h i l =
+    let less : k + i < length ps = let n : length (drop k ps) ≡ length ps - k = length-drop k ps in omega (arith, n, l, low) in
+    let at : place + (k + i) ≡ place + k + i = omega arith in
+    subst (λ (p : Proc). AreWritten layout (tree p) (get_or writes (place + k + i) 0)) (sym (get_or-drop k ps i Skip))
+    (subst (λ (n : ℕ). AreWritten layout (tree (get_or ps (k + i) Skip)) (get_or writes n 0)) at (h (k + i) less))
+
+module _ (layout : List (Name × Width × ℕ)) (all : ℕ) (users : List Users) (writes : List ℕ) (Γ : Environment) where
+  -- the map of the part in a place
+  abbrev PartAt : World → ℕ → Proc → MapId → Type 0
+  PartAt w n p m = IsPart w layout all (except all (get_or writes n 0)) (closed_in n (n + 1) users) Γ (tree p) m
+
+  parts_taken : (w : World) (place k : ℕ) (ps : List Proc) (maps : List MapId) → k ≤ length ps → AreOfParts w layout all users writes Γ place ps maps → AreOfParts w layout all users writes Γ place (take k ps) (take k maps)
   parts_taken w place k ps maps low h i l =
       let less : i < k = let n : length (take k ps) ≡ k = length-take-le k ps low in omega (arith, n, l) in
-      subst (λ (p : Proc). IsAfter w layout keep (closed_in (place + i) (place + i + 1) users) Γ (tree p) ended (get_or (take k maps) i no_map)) (sym (get_or-take k ps i Skip less))
-      (subst (λ (m : MapId). IsAfter w layout keep (closed_in (place + i) (place + i + 1) users) Γ (tree (get_or ps i Skip)) ended m) (sym (get_or-take k maps i no_map less)) (h i (omega (arith, less, low))))
+      subst (λ (p : Proc). PartAt w (place + i) p (get_or (take k maps) i no_map)) (sym (get_or-take k ps i Skip less))
+      (subst (λ (m : MapId). PartAt w (place + i) (get_or ps i Skip) m) (sym (get_or-take k maps i no_map less)) (h i (omega (arith, less, low))))
 
-  parts_dropped : (w : World) (place k : ℕ) (ps : List Proc) (maps : List MapId) → k ≤ length ps → AreOfParts w layout keep users Γ ended place ps maps → AreOfParts w layout keep users Γ ended (place + k) (drop k ps) (drop k maps)
+  parts_dropped : (w : World) (place k : ℕ) (ps : List Proc) (maps : List MapId) → k ≤ length ps → AreOfParts w layout all users writes Γ place ps maps → AreOfParts w layout all users writes Γ (place + k) (drop k ps) (drop k maps)
   parts_dropped w place k ps maps low h i l =
       let less : k + i < length ps = let n : length (drop k ps) ≡ length ps - k = length-drop k ps in omega (arith, n, l, low) in
-      let first : place + (k + i) ≡ place + k + i = omega arith in
-      let second : place + (k + i) + 1 ≡ place + k + i + 1 = omega arith in
-      subst (λ (p : Proc). IsAfter w layout keep (closed_in (place + k + i) (place + k + i + 1) users) Γ (tree p) ended (get_or (drop k maps) i no_map)) (sym (get_or-drop k ps i Skip))
-      (subst (λ (m : MapId). IsAfter w layout keep (closed_in (place + k + i) (place + k + i + 1) users) Γ (tree (get_or ps (k + i) Skip)) ended m) (sym (get_or-drop k maps i no_map))
-      (subst (λ (n : ℕ). IsAfter w layout keep (closed_in (place + k + i) n users) Γ (tree (get_or ps (k + i) Skip)) ended (get_or maps (k + i) no_map)) second
-      (subst (λ (n : ℕ). IsAfter w layout keep (closed_in n (place + (k + i) + 1) users) Γ (tree (get_or ps (k + i) Skip)) ended (get_or maps (k + i) no_map)) first (h (k + i) less))))
+      let at : place + (k + i) ≡ place + k + i = omega arith in
+      subst (λ (p : Proc). PartAt w (place + k + i) p (get_or (drop k maps) i no_map)) (sym (get_or-drop k ps i Skip))
+      (subst (λ (m : MapId). PartAt w (place + k + i) (get_or ps (k + i) Skip) m) (sym (get_or-drop k maps i no_map))
+      (subst (λ (n : ℕ). PartAt w n (get_or ps (k + i) Skip) (get_or maps (k + i) no_map)) at (h (k + i) less)))
 
-  parts_later : (u v : World) → Extends u v → (place : ℕ) (ps : List Proc) (maps : List MapId) → length maps ≡ length ps → HaveNodes u maps → IsSkip u keep ended → AreOfParts u layout keep users Γ ended place ps maps → AreOfParts v layout keep users Γ ended place ps maps
-  parts_later u v grow place ps maps even has skip h i l =
-      let m = get_or maps i no_map in
-      let closed = closed_in (place + i) (place + i + 1) users in
-      let p = tree (get_or ps i Skip) in
-      alone_to v layout keep closed Γ p ended m (skip_later u v grow keep ended skip) (alone_later u v grow m (has i (omega (arith, even, l))) layout keep closed Γ p (alone_from u layout keep closed Γ p ended m skip (h i l)))
+  parts_later : (u v : World) → Extends u v → (place : ℕ) (ps : List Proc) (maps : List MapId) → length maps ≡ length ps → HaveNodes u maps → AreOfParts u layout all users writes Γ place ps maps → AreOfParts v layout all users writes Γ place ps maps
+  parts_later u v grow place ps maps even has h i l =
+      alone_later u v grow (get_or maps i no_map) (has i (omega (arith, even, l))) layout all (except all (get_or writes (place + i) 0)) (closed_in (place + i) (place + i + 1) users) Γ (tree (get_or ps i Skip)) (h i l)
 
 drop_twice : {A : Type 0} (s k : ℕ) (xs : List A) → drop k (drop s xs) ≡ drop (s + k) xs
 drop_twice zero k xs = ap (λ n. drop n xs) (let e : k ≡ 0 + k = omega arith in e)
@@ -163,8 +176,8 @@ one_part [] h = absurd (omega arith)
 one_part (p ∷ []) h = refl
 one_part (p ∷ q ∷ ps) h = absurd (omega arith)
 
-as_par : (w : World) (layout : List (Name × Width × ℕ)) (keep : ℕ) (closed : List Name) (Γ : Environment) (p : Tree) (m : MapId) → IsPart w layout keep closed Γ p m → IsPart w layout keep closed Γ (par (and_tree p no_tree)) m
-as_par w layout keep closed Γ p m a = record {
+as_par : (w : World) (layout : List (Name × Width × ℕ)) (all keep : ℕ) (closed : List Name) (Γ : Environment) (p : Tree) (m : MapId) → IsPart w layout all keep closed Γ p m → IsPart w layout all keep closed Γ (par (and_tree p no_tree)) m
+as_par w layout all keep closed Γ p m a = record {
   alone_fails = λ x n l v t X. a.alone_fails x n l v t X;
   alone_ends = λ x n l v t z b. (
     λ f. let s = (a.alone_ends x n l v t z b).0 f in record { y = s.y; below = s.below; silent = s.silent; ended = s.ended; changed = s.changed },
@@ -172,54 +185,77 @@ as_par w layout keep closed Γ p m a = record {
   );
 }
 
+bits_one : (writes : List ℕ) (place : ℕ) → bits_in writes place 1 ≡ get_or writes place 0
+unfolding bits_in
+bits_one writes place =
+    let e : place + 0 ≡ place = omega arith in
+    same_from_bits (bit_or 0 (get_or writes (place + 0) 0)) (get_or writes (place + 0) 0) (λ i. bit_at_or 0 (get_or writes (place + 0) 0) i ∙ alone (bit_at 0 i) (bit_at (get_or writes (place + 0) 0) i) (bit_at-zero i))
+    ∙ ap (λ n. get_or writes n 0) e
+  where
+    alone : (a b : ℕ) → a ≡ 0 → max a b ≡ b
+    alone a b e = omega (arith, e)
+
 -- one part alone
-pub joined_one : (vars : List (Name × Kind)) (layout : List (Name × Width × ℕ)) (keep : ℕ) (users : List Users) (ended : MapId) (place : ℕ) (ps : List Proc) (maps : List MapId) (w : World)
-    → length ps ≡ 1 → IsJoined vars layout keep users ended place ps maps w w (get_or maps 0 no_map)
-joined_one vars layout keep users ended place ps maps w one = record {
-  joined = λ Γ around types separate spread skip parts.
-      let closed = closed_in place (place + length ps) users in
+pub joined_one : (vars : List (Name × Kind)) (layout : List (Name × Width × ℕ)) (all : ℕ) (users : List Users) (writes : List ℕ) (place : ℕ) (ps : List Proc) (maps : List MapId) (w : World)
+    → length ps ≡ 1 → IsJoined vars layout all users writes place ps maps w w (get_or maps 0 no_map)
+joined_one vars layout all users writes place ps maps w one = record {
+  joined = λ Γ around types separate spread each parts.
       let m = get_or maps 0 no_map in
       let p = get_or ps 0 Skip in
+      let here : PartAt layout all users writes Γ w (place + 0) p m = parts 0 (omega (arith, one)) in
       let low : place + 0 ≡ place = omega arith in
-      let high : place + 0 + 1 ≡ place + length ps = omega (arith, one) in
-      let here : IsAfter w layout keep closed Γ (tree p) ended m =
-      subst (λ (n : ℕ). IsAfter w layout keep (closed_in place n users) Γ (tree p) ended m) high (subst (λ (n : ℕ). IsAfter w layout keep (closed_in n (place + 0 + 1) users) Γ (tree p) ended m) low (parts 0 (omega (arith, one)))) in
-      subst (λ (qs : List Proc). IsAfter w layout keep closed Γ (par (trees qs)) ended m) (sym (one_part ps one))
-      (alone_to w layout keep closed Γ (par (and_tree (tree p) no_tree)) ended m skip (as_par w layout keep closed Γ (tree p) m (alone_from w layout keep closed Γ (tree p) ended m skip here)));
+      let count : 1 ≡ length ps = sym one in
+      let there : PartAt layout all users writes Γ w place p m = subst (λ (n : ℕ). PartAt layout all users writes Γ w n p m) low here in
+      let whole : IsPart w layout all (except all (bits_in writes place 1)) (closed_in place (place + 1) users) Γ (tree p) m
+      = subst (λ (b : ℕ). IsPart w layout all (except all b) (closed_in place (place + 1) users) Γ (tree p) m) (sym (bits_one writes place)) there in
+      subst (λ (n : ℕ). IsPart w layout all (except all (bits_in writes place n)) (closed_in place (place + n) users) Γ (par (trees ps)) m) count
+      (subst (λ (qs : List Proc). IsPart w layout all (except all (bits_in writes place 1)) (closed_in place (place + 1) users) Γ (par (trees qs)) m) (sym (one_part ps one))
+      (as_par w layout all (except all (bits_in writes place 1)) (closed_in place (place + 1) users) Γ (tree p) m whole));
 }
 
 -- ---- other worlds
-module _ (vars : List (Name × Kind)) (layout : List (Name × Width × ℕ)) (keep : ℕ) (users : List Users) (ended : MapId) (place : ℕ) (ps : List Proc) (maps : List MapId) where
+module _ (vars : List (Name × Kind)) (layout : List (Name × Width × ℕ)) (all : ℕ) (users : List Users) (writes : List ℕ) (place : ℕ) (ps : List Proc) (maps : List MapId) where
   -- the map in a later world
-  pub joined_later : (u v w : World) → Extends u v → Extends v w → (r : MapId) → HasNodes v r → IsJoined vars layout keep users ended place ps maps u v r → IsJoined vars layout keep users ended place ps maps u w r
-  joined_later u v w first grow r has is = record {
-    joined = λ Γ around types separate spread skip parts.
-        let closed = closed_in place (place + length ps) users in
-        let there = skip_later u v first keep ended skip in
-        alone_to w layout keep closed Γ (par (trees ps)) ended r (skip_later v w grow keep ended there)
-        (alone_later v w grow r has layout keep closed Γ (par (trees ps)) (alone_from v layout keep closed Γ (par (trees ps)) ended r there (is.joined Γ around types separate spread skip parts)));
+  pub joined_later : (u v w : World) → Extends v w → (r : MapId) → HasNodes v r → IsJoined vars layout all users writes place ps maps u v r → IsJoined vars layout all users writes place ps maps u w r
+  joined_later u v w grow r has is = record {
+    joined = λ Γ around types separate spread each parts.
+        alone_later v w grow r has layout all (except all (bits_in writes place (length ps))) (closed_in place (place + length ps) users) Γ (par (trees ps)) (is.joined Γ around types separate spread each parts);
   }
 
   -- the maps of the parts in an earlier world
-  pub joined_from : (u v w : World) → Extends u v → (r : MapId) → length maps ≡ length ps → HaveNodes u maps → IsJoined vars layout keep users ended place ps maps v w r → IsJoined vars layout keep users ended place ps maps u w r
+  pub joined_from : (u v w : World) → Extends u v → (r : MapId) → length maps ≡ length ps → HaveNodes u maps → IsJoined vars layout all users writes place ps maps v w r → IsJoined vars layout all users writes place ps maps u w r
   joined_from u v w grow r even have is = record {
-    joined = λ Γ around types separate spread skip parts.
-        is.joined Γ around types separate spread (skip_later u v grow keep ended skip) (parts_later layout keep users Γ ended u v grow place ps maps even have skip parts);
+    joined = λ Γ around types separate spread each parts. is.joined Γ around types separate spread each (parts_later layout all users writes Γ u v grow place ps maps even have parts);
   }
 
+-- the bits that two halves don't write, by halves
+pub kept_halves : (all a b both : ℕ) → ((i : ℕ) → bit_at both i ≡ max (bit_at a i) (bit_at b i)) → IsOfBoth a (except all a) (except all b) (except all both)
+kept_halves all a b both are i l =
+    except_bit all both i ∙ ap (λ c. (bit_at all i + min (bit_at all i) c) % 2) (are i)
+    ∙ ⊎_elim
+    (λ (n : bit_at a i ≡ 0). second (bit_at all i) (bit_at a i) (bit_at b i) n ∙ sym (except_bit all b i) ∙ sym (ap (λ c. cond (c == 1) (bit_at (except all a) i) (bit_at (except all b) i)) n))
+    (λ (o : bit_at a i ≡ 1). first (bit_at all i) (bit_at a i) (bit_at b i) o (bit_at-lt b i) ∙ sym (except_bit all a i) ∙ sym (ap (λ c. cond (c == 1) (bit_at (except all a) i) (bit_at (except all b) i)) o))
+    (bit_cases a i)
+  where
+    second : (c a b : ℕ) → a ≡ 0 → (c + min c (max a b)) % 2 ≡ (c + min c b) % 2
+    second c a b e = ap (λ n. (c + min c n) % 2) (omega (arith, e))
+
+    first : (c a b : ℕ) → a ≡ 1 → b < 2 → (c + min c (max a b)) % 2 ≡ (c + min c a) % 2
+    first c a b e h = ap (λ n. (c + min c n) % 2) (omega (arith, e, h))
+
 -- two neighbours side by side
-module _ (vars : List (Name × Kind)) (layout : List (Name × Width × ℕ)) (bits : ℕ) (frame : IsFrame vars layout bits) (keep : ℕ) (users : List Users) (ended : MapId) (place k : ℕ) (ps : List Proc) (maps : List MapId)
+module _ (vars : List (Name × Kind)) (layout : List (Name × Width × ℕ)) (bits : ℕ) (frame : IsFrame vars layout bits) (all : ℕ) (users : List Users) (writes : List ℕ) (place k : ℕ) (ps : List Proc) (maps : List MapId)
     (low : k ≤ length ps) (u v w : World) (grow1 : Extends u v) (grow2 : Extends v w) (r1 r2 r : MapId) (has1 : HasNodes v r1) (has2 : HasNodes v r2)
-    (join1 : IsJoined vars layout keep users ended place (take k ps) (take k maps) u v r1) (join2 : IsJoined vars layout keep users ended (place + k) (drop k ps) (drop k maps) u v r2)
-    (are : AreBoth layout users place (place + k) (place + length ps) (trees (take k ps)) r1 r2 w r) where
+    (join1 : IsJoined vars layout all users writes place (take k ps) (take k maps) u v r1) (join2 : IsJoined vars layout all users writes (place + k) (drop k ps) (drop k maps) u v r2)
+    (are : AreBoth users writes place k (place + length ps) r1 r2 w r) where
   abbrev first : Trees
   first = trees (take k ps)
 
   abbrev second : Trees
   second = trees (drop k ps)
 
-  abbrev all : List Name
-  all = closed_in place (place + length ps) users
+  abbrev closed : List Name
+  closed = closed_in place (place + length ps) users
 
   abbrev sole : List Name
   sole = closed_in place (place + k) users
@@ -233,8 +269,8 @@ module _ (vars : List (Name × Kind)) (layout : List (Name × Width × ℕ)) (bi
   second_length : length (drop k ps) ≡ length ps - k
   second_length = length-drop k ps
 
-  module _ (Γ : Environment) (around : IsAround Γ vars) (types : all_types_kept (trees ps) Γ ≡ true) (separate : AreSeparate (trees ps)) (spread : All (IsSpread place (trees ps)) users) (skip : IsSkip u keep ended)
-      (parts : AreOfParts u layout keep users Γ ended place ps maps) where
+  module _ (Γ : Environment) (around : IsAround Γ vars) (types : all_types_kept (trees ps) Γ ≡ true) (separate : AreSeparate (trees ps)) (spread : All (IsSpread place (trees ps)) users) (each : WriteEach layout writes place ps)
+      (parts : AreOfParts u layout all users writes Γ place ps maps) where
     apart : AreSeparate (all_of first second)
     apart = subst AreSeparate (trees_halves k ps) separate
 
@@ -244,20 +280,28 @@ module _ (vars : List (Name × Kind)) (layout : List (Name × Width × ℕ)) (bi
     spread2 : All (IsSpread (place + k) second) users
     spread2 = spread_each place (place + k) (trees ps) second users (spread_dropped place k ps) spread
 
-    skip1 : IsSkip v keep ended
-    skip1 = skip_later u v grow1 keep ended skip
+    abbrev mine : ℕ
+    mine = bits_in writes place k
 
-    part1 : IsPart v layout keep sole Γ (par first) r1
-    part1 = alone_from v layout keep sole Γ (par first) ended r1 skip1
-        (subst (λ (n : ℕ). IsAfter v layout keep (closed_in place (place + n) users) Γ (par first) ended r1) first_length
-        (join1.joined Γ around (types_taken Γ ps k types) (separate_first first second apart) spread1 skip (parts_taken layout keep users Γ ended u place k ps maps low parts)))
+    abbrev theirs : ℕ
+    theirs = bits_in writes (place + k) (length ps - k)
 
-    part2 : IsPart v layout keep behind Γ (par second) r2
+    part1 : IsPart v layout all (except all mine) sole Γ (par first) r1
+    part1 = subst (λ (n : ℕ). IsPart v layout all (except all (bits_in writes place n)) (closed_in place (place + n) users) Γ (par first) r1) first_length
+        (join1.joined Γ around (types_taken Γ ps k types) (separate_first first second apart) spread1 (each_taken layout writes place k ps low each) (parts_taken layout all users writes Γ u place k ps maps low parts))
+
+    part2 : IsPart v layout all (except all theirs) behind Γ (par second) r2
     part2 =
         let high : place + k + length (drop k ps) ≡ place + length ps = omega (arith, second_length, low) in
-        alone_from v layout keep behind Γ (par second) ended r2 skip1
-        (subst (λ (n : ℕ). IsAfter v layout keep (closed_in (place + k) n users) Γ (par second) ended r2) high
-        (join2.joined Γ around (types_dropped Γ ps k types) (separate_second first second apart) spread2 skip (parts_dropped layout keep users Γ ended u place k ps maps low parts)))
+        subst (λ (n : ℕ). IsPart v layout all (except all (bits_in writes (place + k) n)) behind Γ (par second) r2) second_length
+        (subst (λ (n : ℕ). IsPart v layout all (except all (bits_in writes (place + k) (length (drop k ps)))) (closed_in (place + k) n users) Γ (par second) r2) high
+        (join2.joined Γ around (types_dropped Γ ps k types) (separate_second first second apart) spread2 (each_dropped layout writes place k ps low each) (parts_dropped layout all users writes Γ u place k ps maps low parts)))
+
+    written_first : AreWritten layout (par first) mine
+    written_first = subst (λ (n : ℕ). AreWritten layout (par first) (bits_in writes place n)) first_length (written_in layout writes place (take k ps) (each_taken layout writes place k ps low each))
+
+    whole_bits : (i : ℕ) → bit_at (bits_in writes place (length ps)) i ≡ max (bit_at mine i) (bit_at theirs i)
+    whole_bits i = let e : length ps ≡ k + (length ps - k) = omega (arith, low) in ap (λ n. bit_at (bits_in writes place n) i) e ∙ bits_both writes place k (length ps - k) i
 
     sole_off : (e : Event) → is_open sole e ≡ false → (d : Dir) → end_in_some second e.chan.0 d ≡ false
     sole_off e h d = some_end second e.chan.0 (first_off second users place (place + k) e spread2 h) d
@@ -271,35 +315,35 @@ module _ (vars : List (Name × Kind)) (layout : List (Name × Width × ℕ)) (bi
     out : (s : Values) (t : Trace) (o : Outcome) → (meaning (par (trees ps))).does Γ s t o → Together (meaning (par first)) (meaning (par second)) Γ s t o
     out s t o d = (all_of_beside Γ first second).gives s t o (subst (λ (qs : Trees). (meaning (par qs)).does Γ s t o) (trees_halves k ps) d)
 
-    both : IsAfter w layout keep all Γ (par (trees ps)) ended r
-    both = alone_to w layout keep all Γ (par (trees ps)) ended r (skip_later v w grow2 keep ended skip1)
-        (beside_alone vars layout bits frame Γ around (par first) (par second) (types_taken Γ ps k types) (types_dropped Γ ps k types)
-        all sole (crossing place (place + k) (place + length ps) users) behind (open_halves place (place + k) (place + length ps) (omega arith) (omega (arith, low)) users) sole_off behind_off
-        w keep are.mask are.small are.written (separate_halves first second apart) r1 r2
-        (alone_later v w grow2 r1 has1 layout keep sole Γ (par first) part1)
-        (alone_later v w grow2 r2 has2 layout keep behind Γ (par second) part2)
+    both : IsPart w layout all (except all (bits_in writes place (length ps))) closed Γ (par (trees ps)) r
+    both = beside_alone vars layout bits frame Γ around (par first) (par second) (types_taken Γ ps k types) (types_dropped Γ ps k types)
+        closed sole (crossing place (place + k) (place + length ps) users) behind (open_halves place (place + k) (place + length ps) (omega arith) (omega (arith, low)) users) sole_off behind_off
+        w all (except all mine) (except all theirs) (except all (bits_in writes place (length ps))) mine are.small (kept_halves all mine theirs (bits_in writes place (length ps)) whole_bits)
+        written_first (separate_halves first second apart) r1 r2
+        (alone_later v w grow2 r1 has1 layout all (except all mine) sole Γ (par first) part1)
+        (alone_later v w grow2 r2 has2 layout all (except all theirs) behind Γ (par second) part2)
         (par (trees ps)) into out
-        r (has_nodes-extends v w grow2 r1 has1) (has_nodes-extends v w grow2 r2 has2) are.lifts)
+        r (has_nodes-extends v w grow2 r1 has1) (has_nodes-extends v w grow2 r2 has2) are.lifts
 
-  pub joined_halves : IsJoined vars layout keep users ended place ps maps u w r
+  pub joined_halves : IsJoined vars layout all users writes place ps maps u w r
   joined_halves = record { joined = both }
 
-module _ (vars : List (Name × Kind)) (layout : List (Name × Width × ℕ)) (bits : ℕ) (frame : IsFrame vars layout bits) (keep : ℕ) (users : List Users) (ended : MapId) where
+module _ (vars : List (Name × Kind)) (layout : List (Name × Width × ℕ)) (bits : ℕ) (frame : IsFrame vars layout bits) (all : ℕ) (users : List Users) (writes : List ℕ) where
   -- the two halves, of which the first was made before the other
   pub halves_joined : (place k : ℕ) (ps : List Proc) (maps : List MapId) → k ≤ length ps → length maps ≡ length ps → (u v1 v2 w : World) → Extends u v1 → Extends v1 v2 → Extends v2 w → HaveNodes u maps
-      → (r1 r2 r : MapId) → HasNodes v1 r1 → HasNodes v2 r2 → IsJoined vars layout keep users ended place (take k ps) (take k maps) u v1 r1 → IsJoined vars layout keep users ended (place + k) (drop k ps) (drop k maps) v1 v2 r2
-      → AreBoth layout users place (place + length (take k ps)) (place + length ps) (trees (take k ps)) r1 r2 w r → IsJoined vars layout keep users ended place ps maps u w r
+      → (r1 r2 r : MapId) → HasNodes v1 r1 → HasNodes v2 r2 → IsJoined vars layout all users writes place (take k ps) (take k maps) u v1 r1 → IsJoined vars layout all users writes (place + k) (drop k ps) (drop k maps) v1 v2 r2
+      → AreBoth users writes place k (place + length ps) r1 r2 w r → IsJoined vars layout all users writes place ps maps u w r
   halves_joined place k ps maps low even u v1 v2 w g1 g2 g3 have r1 r2 r has1 has2 join1 join2 are =
       let dropped : length (drop k maps) ≡ length (drop k ps) = length-drop k maps ∙ ap (λ n. n - k) even ∙ sym (length-drop k ps) in
-      joined_halves vars layout bits frame keep users ended place k ps maps low u v2 w (extends_trans u v1 v2 g1 g2) g3 r1 r2 r (has_nodes-extends v1 v2 g2 r1 has1) has2
-      (joined_later vars layout keep users ended place (take k ps) (take k maps) u v1 v2 g1 g2 r1 has1 join1)
-      (joined_from vars layout keep users ended (place + k) (drop k ps) (drop k maps) u v1 v2 g1 r2 dropped (nodes_dropped u k maps have) join2)
-      (subst (λ (n : ℕ). AreBoth layout users place (place + n) (place + length ps) (trees (take k ps)) r1 r2 w r) (length-take-le k ps low) are)
+      joined_halves vars layout bits frame all users writes place k ps maps low u v2 w (extends_trans u v1 v2 g1 g2) g3 r1 r2 r (has_nodes-extends v1 v2 g2 r1 has1) has2
+      (joined_later vars layout all users writes place (take k ps) (take k maps) u v1 v2 g2 r1 has1 join1)
+      (joined_from vars layout all users writes (place + k) (drop k ps) (drop k maps) u v1 v2 g1 r2 dropped (nodes_dropped u k maps have) join2)
+      are
 
   -- a row in front of what is joined already
   pub row_joined : (s e : ℕ) (parts : List Proc) (maps : List MapId) → s < e → e ≤ length parts → length maps ≡ length parts → (u v w x : World) → Extends u v → Extends v w → Extends w x → HaveNodes u maps
-      → (r1 others r : MapId) → HasNodes w r1 → HasNodes v others → IsJoined vars layout keep users ended s (take (e - s) (drop s parts)) (take (e - s) (drop s maps)) v w r1 → IsJoined vars layout keep users ended e (drop e parts) (drop e maps) u v others
-      → AreBoth layout users s (s + length (take (e - s) (drop s parts))) (length parts) (trees (take (e - s) (drop s parts))) r1 others x r → IsJoined vars layout keep users ended s (drop s parts) (drop s maps) u x r
+      → (r1 others r : MapId) → HasNodes w r1 → HasNodes v others → IsJoined vars layout all users writes s (take (e - s) (drop s parts)) (take (e - s) (drop s maps)) v w r1 → IsJoined vars layout all users writes e (drop e parts) (drop e maps) u v others
+      → AreBoth users writes s (e - s) (length parts) r1 others x r → IsJoined vars layout all users writes s (drop s parts) (drop s maps) u x r
   row_joined s e parts maps se ep even u v w x g0 g1 g2 have r1 others r has1 has2 join1 join2 are =
       let k = e - s in
       let ps = drop s parts in
@@ -313,26 +357,16 @@ module _ (vars : List (Name × Kind)) (layout : List (Name × Width × ℕ)) (bi
       let taken : length (take k ms) ≡ length (take k ps) = length-take-le k ms low_maps ∙ sym (length-take-le k ps low) in
       let behind : drop k ps ≡ drop e parts = drop_twice s k parts ∙ ap (λ n. drop n parts) back in
       let behind_maps : drop k ms ≡ drop e maps = drop_twice s k maps ∙ ap (λ n. drop n maps) back in
-      let second : IsJoined vars layout keep users ended (s + k) (drop k ps) (drop k ms) u v others =
-      subst (λ (n : ℕ). IsJoined vars layout keep users ended n (drop k ps) (drop k ms) u v others) (sym back)
-      (subst (λ (qs : List Proc). IsJoined vars layout keep users ended e qs (drop k ms) u v others) (sym behind)
-      (subst (λ (qs : List MapId). IsJoined vars layout keep users ended e (drop e parts) qs u v others) (sym behind_maps) join2)) in
-      joined_halves vars layout bits frame keep users ended s k ps ms low u w x (extends_trans u v w g0 g1) g2 r1 others r has1 (has_nodes-extends v w g1 others has2)
-      (joined_from vars layout keep users ended s (take k ps) (take k ms) u v w g0 r1 taken (nodes_taken u k ms (nodes_dropped u s maps have)) join1)
-      (joined_later vars layout keep users ended (s + k) (drop k ps) (drop k ms) u v w g0 g1 others has2 second)
-      (subst (λ (n : ℕ). AreBoth layout users s (s + k) n (trees (take k ps)) r1 others x r) high
-      (subst (λ (n : ℕ). AreBoth layout users s (s + n) (length parts) (trees (take k ps)) r1 others x r) (length-take-le k ps low) are))
+      let second : IsJoined vars layout all users writes (s + k) (drop k ps) (drop k ms) u v others =
+      subst (λ (n : ℕ). IsJoined vars layout all users writes n (drop k ps) (drop k ms) u v others) (sym back)
+      (subst (λ (qs : List Proc). IsJoined vars layout all users writes e qs (drop k ms) u v others) (sym behind)
+      (subst (λ (qs : List MapId). IsJoined vars layout all users writes e (drop e parts) qs u v others) (sym behind_maps) join2)) in
+      joined_halves vars layout bits frame all users writes s k ps ms low u w x (extends_trans u v w g0 g1) g2 r1 others r has1 (has_nodes-extends v w g1 others has2)
+      (joined_from vars layout all users writes s (take k ps) (take k ms) u v w g0 r1 taken (nodes_taken u k ms (nodes_dropped u s maps have)) join1)
+      (joined_later vars layout all users writes (s + k) (drop k ps) (drop k ms) u v w g1 others has2 second)
+      (subst (λ (n : ℕ). AreBoth users writes s k n r1 others x r) high are)
 
 -- all parts
-pub all_joined : (vars : List (Name × Kind)) (layout : List (Name × Width × ℕ)) (keep : ℕ) (users : List Users) (ended : MapId) (s : ℕ) (parts : List Proc) (maps : List MapId) (u w : World) (r : MapId) → s ≡ 0
-    → IsJoined vars layout keep users ended s (drop s parts) (drop s maps) u w r → IsJoined vars layout keep users ended 0 parts maps u w r
-all_joined vars layout keep users ended s parts maps u w r none is = subst (λ (n : ℕ). IsJoined vars layout keep users ended n (drop n parts) (drop n maps) u w r) none is
-
--- the bits that matter to a map of the first world are the same in later worlds
-pub support_later : (u v w : World) → Extends u v → Extends v w → (count : ℕ) (map : MapId) (bits : ℕ) → IsKnown u.maps map → IsSupport v count map bits → IsSupport w count map bits
-support_later u v w first grow count map bits known is =
-    let still : IsKnown v.maps map = map-keeps u v first.maps map known in
-    record {
-      within = is.within;
-      others = λ k l z x. grow.maps.same map (turned x k) still ∙ is.others k l z x ∙ sym (grow.maps.same map x still);
-    }
+pub all_joined : (vars : List (Name × Kind)) (layout : List (Name × Width × ℕ)) (all : ℕ) (users : List Users) (writes : List ℕ) (s : ℕ) (parts : List Proc) (maps : List MapId) (u w : World) (r : MapId) → s ≡ 0
+    → IsJoined vars layout all users writes s (drop s parts) (drop s maps) u w r → IsJoined vars layout all users writes 0 parts maps u w r
+all_joined vars layout all users writes s parts maps u w r none is = subst (λ (n : ℕ). IsJoined vars layout all users writes n (drop n parts) (drop n maps) u w r) none is

@@ -1,10 +1,11 @@
 -- The bits of the variables that parts write.
-use Rattle.std.proofs.Common.{◌≡◌, ℕ, ◌+◌, ◌<◌, ◌≤◌, ◌==◌, ◌&&◌, ◌||◌, ◌++◌, max, Bool, true, false, cond, nat_le, nat_lt, List, [], ◌∷◌, Some, length, get_or, take, ⊎_elim, refl, sym, ap, ◌∙◌, subst, arith}
+use Rattle.std.proofs.Common.{◌≡◌, ℕ, zero, suc, ◌+◌, ◌<◌, ◌≤◌, ◌==◌, ◌&&◌, ◌||◌, ◌++◌, max, Bool, true, false, cond, nat_le, nat_lt, List, [], ◌∷◌, Some, length, get_or, take, ⊎_elim, refl, sym, ap, ◌∙◌, subst, arith}
 use Rattle.std.specs.Int.{bit_at}
 use Rattle.std.specs.Int.RustNames.{bit_or}
 use Rattle.std.specs.List.{list_any}
-use Rattle.std.proofs.lemmas.Bool.{and_from, and_left, and_right, cases_Bool, eqb-true, le-leb, lt-leb, lt-ltb, le-ltb, or_from}
+use Rattle.std.proofs.lemmas.Bool.{and_from, and_left, and_right, cases_Bool, cases_lt, eqb-true, le-leb, lt-leb, lt-ltb, le-ltb, or_from}
 use Rattle.std.proofs.lemmas.List.Folds.{list_any-append}
+use Rattle.std.proofs.lemmas.List.{get_or_append_left, get_or_push, length-append, length-take-le}
 use Rattle.std.proofs.lemmas.Nat.Bits.{bit_at-zero, bit_at_or}
 use Rattle.occ_base.specs.declared.names.Name.{Name}
 use Rattle.occ_base.specs.declared.width.Width.{Width}
@@ -12,7 +13,7 @@ use Rattle.occ_base.specs.Width.{bits_of}
 use Rattle.occ_bits.specs.Layout.{IsLayout, entry_of, laid_out, scope_in, state_of}
 use Rattle.occ_bits.proofs.Laid.{found_within, same_pair}
 use Rattle.occ_meaning.proofs.Facts.{none_not_some, same_turned}
-use Rattle.occ_syntax.specs.declared.proc.Proc.{Proc}
+use Rattle.occ_syntax.specs.declared.proc.Proc.{Proc, Skip}
 use Rattle.occ_syntax.specs.declared.scope.Kind.{Kind}
 use Rattle.occ_syntax.specs.declared.scope.Kind.TheVariants.{Var, Chan}
 use Rattle.occ_syntax.specs.Names.{is_in, written, written_in_some}
@@ -23,7 +24,8 @@ use Rattle.occ_syntax.specs.View.{numbers, tree, trees}
 use Rattle.occ_weave.proofs.Stepping.{all_taken, take_push}
 use Rattle.occ_norm_frame.specs.After.{WritesWithin}
 use Rattle.occ_norm_frame.specs.Placed.{IsAround, IsFrame}
-use Rattle.occ_norm_par.specs.Sides.{AreWritten}
+use Rattle.occ_norm_par.specs.Joined.{WriteEach}
+use Rattle.occ_norm_par.specs.Sides.{AllWritten, AreWritten, bits_in}
 use Rattle.occ_norm_par.specs.Spans.{covers, is_of}
 use Rattle.occ_norm_par.proofs.Assignments.{bits_by_value, covered, value_kept}
 
@@ -122,6 +124,81 @@ more_written layout ps i d p old bits h e was one = record {
       ∙ ap digit (ap (λ q. written_in_some (trees (take i ps)) x || written (tree q) x) e ∙ sym (some_written_more ps i d x h));
 }
 
+pub written_end : (layout : List (Name × Width × ℕ)) (ps : List Proc) (i bits : ℕ) → length ps ≤ i → AreWritten layout (par (trees (take i ps))) bits → AreWritten layout (par (trees ps)) bits
+written_end layout ps i bits h = subst (λ qs. AreWritten layout (par (trees qs)) bits) (all_taken i ps h)
+
+-- the first parts, so many, write the bits that are listed for them
+first_written : (layout : List (Name × Width × ℕ)) (writes : List ℕ) (place : ℕ) (ps : List Proc) → WriteEach layout writes place ps → (i : ℕ) → i ≤ length ps → AreWritten layout (par (trees (take i ps))) (bits_in writes place i)
+unfolding bits_in
+first_written layout writes place ps each zero h = none_written layout
+first_written layout writes place ps each (suc i) h =
+    let more : suc i ≡ i + 1 = omega arith in
+    subst (λ n. AreWritten layout (par (trees (take n ps))) (bit_or (bits_in writes place i) (get_or writes (place + i) 0))) (sym more)
+    (more_written layout ps i Skip (get_or ps i Skip) (bits_in writes place i) (get_or writes (place + i) 0) (omega (arith, h)) refl (first_written layout writes place ps each i (omega (arith, h))) (each i (omega (arith, h))))
+
+pub written_in : (layout : List (Name × Width × ℕ)) (writes : List ℕ) (place : ℕ) (ps : List Proc) → WriteEach layout writes place ps → AreWritten layout (par (trees ps)) (bits_in writes place (length ps))
+written_in layout writes place ps each = written_end layout ps (length ps) (bits_in writes place (length ps)) (omega arith) (first_written layout writes place ps each (length ps) (omega arith))
+
+pub write_all : (layout : List (Name × Width × ℕ)) (writes : List ℕ) (ps : List Proc) → AllWritten layout ps writes → WriteEach layout writes 0 ps
+write_all layout writes ps all i h = let e : i ≡ 0 + i = omega arith in subst (λ n. AreWritten layout (tree (get_or ps i Skip)) (get_or writes n 0)) e (all.each i h)
+
+nothing : (a b : ℕ) → b ≡ 0 → a ≡ max a b
+nothing a b e = omega (arith, e)
+
+grouped : (a b c : ℕ) → max (max a b) c ≡ max a (max b c)
+grouped a b c = omega arith
+
+-- the bits of parts in a row are those of the first ones and of the others
+pub bits_both : (writes : List ℕ) (place k n i : ℕ) → bit_at (bits_in writes place (k + n)) i ≡ max (bit_at (bits_in writes place k) i) (bit_at (bits_in writes (place + k) n) i)
+unfolding bits_in
+bits_both writes place k zero i =
+    let e : k + 0 ≡ k = omega arith in
+    ap (λ m. bit_at (bits_in writes place m) i) e ∙ nothing (bit_at (bits_in writes place k) i) (bit_at 0 i) (bit_at-zero i)
+bits_both writes place k (suc n) i =
+    let e : k + suc n ≡ suc (k + n) = omega arith in
+    let f : place + (k + n) ≡ place + k + n = omega arith in
+    ap (λ m. bit_at (bits_in writes place m) i) e
+    ∙ bit_at_or (bits_in writes place (k + n)) (get_or writes (place + (k + n)) 0) i
+    ∙ (λ d. max (bits_both writes place k n i d) (bit_at (get_or writes (f d) 0) i))
+    ∙ grouped (bit_at (bits_in writes place k) i) (bit_at (bits_in writes (place + k) n) i) (bit_at (get_or writes (place + k + n) 0) i)
+    ∙ ap (max (bit_at (bits_in writes place k) i)) (sym (bit_at_or (bits_in writes (place + k) n) (get_or writes (place + k + n) 0) i))
+
+pub bits_none : (writes : List ℕ) (place : ℕ) → 0 ≡ bits_in writes place 0
+unfolding bits_in
+bits_none writes place = refl
+
+pub bits_more_in : (writes : List ℕ) (place n : ℕ) → bit_or (bits_in writes place n) (get_or writes (place + n) 0) ≡ bits_in writes place (n + 1)
+unfolding bits_in
+bits_more_in writes place n = let e : suc n ≡ n + 1 = omega arith in ap (bits_in writes place) e
+
+-- the bits of one more part
+pub all_written_more : (layout : List (Name × Width × ℕ)) (ps : List Proc) (i : ℕ) (d p : Proc) (old : List ℕ) (bits : ℕ) → i < length ps → p ≡ get_or ps i d → AllWritten layout (take i ps) old → AreWritten layout (tree p) bits
+    → AllWritten layout (take (i + 1) ps) (old ++ bits ∷ [])
+all_written_more layout ps i d p old bits h e was one =
+    let low : length (take i ps) ≡ i = length-take-le i ps (omega (arith, h)) in
+    let count : length old ≡ i = was.count ∙ low in
+    subst (λ qs. AllWritten layout qs (old ++ bits ∷ [])) (sym (take_push i ps d h))
+    (record {
+      count = length-append old (bits ∷ []) ∙ ap (λ n. n + 1) was.count ∙ sym (length-append (take i ps) (get_or ps i d ∷ []));
+      each = λ k l. ⊎_elim
+          (λ (m : k < i).
+          let first : get_or (take i ps ++ get_or ps i d ∷ []) k Skip ≡ get_or (take i ps) k Skip = get_or_append_left (take i ps) (get_or ps i d ∷ []) Skip k (omega (arith, m, low)) in
+          let there : get_or (old ++ bits ∷ []) k 0 ≡ get_or old k 0 = get_or_append_left old (bits ∷ []) 0 k (omega (arith, m, count)) in
+          subst (λ (q : Proc). AreWritten layout (tree q) (get_or (old ++ bits ∷ []) k 0)) (sym first) (subst (λ (n : ℕ). AreWritten layout (tree (get_or (take i ps) k Skip)) n) (sym there) (was.each k (omega (arith, m, low)))))
+          (λ (m : i ≤ k).
+          let whole : length (take i ps ++ get_or ps i d ∷ []) ≡ length (take i ps) + 1 = length-append (take i ps) (get_or ps i d ∷ []) in
+          let last : get_or (take i ps ++ get_or ps i d ∷ []) k Skip ≡ get_or ps i d = get_or_push (take i ps) (get_or ps i d) Skip k (omega (arith, l, m, low, whole)) in
+          let there : get_or (old ++ bits ∷ []) k 0 ≡ bits = get_or_push old bits 0 k (omega (arith, l, m, low, whole, count)) in
+          subst (λ (q : Proc). AreWritten layout (tree q) (get_or (old ++ bits ∷ []) k 0)) (e ∙ sym last) (subst (λ (n : ℕ). AreWritten layout (tree p) n) (sym there) one))
+          (cases_lt k i);
+    })
+
+pub all_written_end : (layout : List (Name × Width × ℕ)) (ps : List Proc) (i : ℕ) (writes : List ℕ) → length ps ≤ i → AllWritten layout (take i ps) writes → AllWritten layout ps writes
+all_written_end layout ps i writes h = subst (λ qs. AllWritten layout qs writes) (all_taken i ps h)
+
+pub all_written_none : (layout : List (Name × Width × ℕ)) → AllWritten layout [] []
+all_written_none layout = record { count = refl; each = λ i h. absurd (omega (arith, h)) }
+
 -- ---- what isn't written is kept
 pub writes_within : (vars : List (Name × Kind)) (layout : List (Name × Width × ℕ)) (bits : ℕ) → IsFrame vars layout bits → (Γ : Environment) → IsAround Γ vars → (p : Tree) → types_kept p Γ ≡ true → (mask : ℕ)
     → AreWritten layout p mask → WritesWithin layout bits mask Γ p
@@ -134,9 +211,6 @@ writes_within vars layout bits frame Γ around p typed mask are x y t d k h off 
     not_one : (b : Bool) → digit b ≡ 0 → b ≡ false
     not_one true e = absurd (let f : 1 ≡ 0 = e in omega arith)
     not_one false e = refl
-
-pub written_end : (layout : List (Name × Width × ℕ)) (ps : List Proc) (i bits : ℕ) → length ps ≤ i → AreWritten layout (par (trees (take i ps))) bits → AreWritten layout (par (trees ps)) bits
-written_end layout ps i bits h = subst (λ qs. AreWritten layout (par (trees qs)) bits) (all_taken i ps h)
 
 pub names_there : (names : List Name) (n : Name) → list_any (λ (k : Name). k.0 == n.0) names ≡ is_in (numbers names) n.0
 names_there [] n = refl

@@ -6,7 +6,7 @@ use Rattle.occ_base.specs.declared.width.Width.{Width}
 use Rattle.occ_mdd.specs.declared.map.MapId.{MapId}
 use Rattle.occ_node.specs.declared.world.World.{World}
 use Rattle.occ_follow.specs.Sequence.{HasNodes}
-use Rattle.occ_norm_maps.specs.Maps.{IsSkip, Lifts}
+use Rattle.occ_norm_maps.specs.Maps.{Lifts}
 use Rattle.occ_norm_maps.specs.Lifted.{IsWovenOf, OnTwo}
 use Rattle.occ_syntax.specs.Scopes.{Environment}
 use Rattle.occ_syntax.specs.Tree.{Trees, par}
@@ -15,9 +15,9 @@ use Rattle.occ_syntax.specs.Usage.{AreSeparate}
 use Rattle.occ_syntax.specs.View.{tree, trees}
 use Rattle.occ_syntax.specs.declared.proc.Proc.{Proc, Skip}
 use Rattle.occ_syntax.specs.declared.scope.Kind.{Kind}
-use Rattle.occ_norm_frame.specs.After.{IsAfter}
+use Rattle.occ_norm_ending.specs.Alone.{IsPart, except}
 use Rattle.occ_norm_frame.specs.Placed.{IsAround}
-use Rattle.occ_norm_par.specs.Sides.{AreWritten, closed_in, crossing, uses_at}
+use Rattle.occ_norm_par.specs.Sides.{AreWritten, bits_in, closed_in, crossing, uses_at}
 use Rattle.occ_norm_par.specs.declared.users.Users.{Users}
 
 abbrev pub no_map : MapId
@@ -31,19 +31,24 @@ HaveNodes w maps = (i : ℕ) → i < length maps → HasNodes w (get_or maps i n
 abbrev pub IsSpread : ℕ → Trees → Users → Type 0
 IsSpread place ps u = (j : ℕ) → uses_at ps j u.chan.0 ≡ true → (u.first ≤ place + j) × (place + j ≤ u.last)
 
--- each map is that of the part in its place, where the channels that it alone uses are closed
-abbrev pub AreOfParts : World → List (Name × Width × ℕ) → ℕ → List Users → Environment → MapId → ℕ → List Proc → List MapId → Type 0
-AreOfParts w layout keep users Γ ended place ps maps = (i : ℕ) → i < length ps → IsAfter w layout keep (closed_in (place + i) (place + i + 1) users) Γ (tree (get_or ps i Skip)) ended (get_or maps i no_map)
+-- the bits of each part, from a place on
+abbrev pub WriteEach : List (Name × Width × ℕ) → List ℕ → ℕ → List Proc → Type 0
+WriteEach layout writes place ps = (i : ℕ) → i < length ps → AreWritten layout (tree (get_or ps i Skip)) (get_or writes (place + i) 0)
 
--- r is the map of the parts side by side, where the channels that they alone use are closed
-pub record IsJoined (vars : List (Name × Kind)) (layout : List (Name × Width × ℕ)) (keep : ℕ) (users : List Users) (ended : MapId) (place : ℕ) (ps : List Proc) (maps : List MapId) (u w : World) (r : MapId) : Type 0 where
-  pub joined : (Γ : Environment) → IsAround Γ vars → all_types_kept (trees ps) Γ ≡ true → AreSeparate (trees ps) → All (IsSpread place (trees ps)) users → IsSkip u keep ended
-      → AreOfParts u layout keep users Γ ended place ps maps → IsAfter w layout keep (closed_in place (place + length ps) users) Γ (par (trees ps)) ended r
+-- each map is that of the part in its place, whose ends have the values of what it writes, and where the channels that it
+-- alone uses are closed
+abbrev pub AreOfParts : World → List (Name × Width × ℕ) → ℕ → List Users → List ℕ → Environment → ℕ → List Proc → List MapId → Type 0
+AreOfParts w layout all users writes Γ place ps maps = (i : ℕ) → i < length ps
+    → IsPart w layout all (except all (get_or writes (place + i) 0)) (closed_in (place + i) (place + i + 1) users) Γ (tree (get_or ps i Skip)) (get_or maps i no_map)
 
--- r is the first map beside the other: final states take the bits from the first that its parts write, and the channels are
--- closed that both use and no other part
-pub record AreBoth (layout : List (Name × Width × ℕ)) (users : List Users) (low mid high : ℕ) (ps : Trees) (first others : MapId) (w : World) (r : MapId) : Type 0 where
-  pub mask : ℕ
-  pub small : mask < 2 ^ 64
-  pub written : AreWritten layout (par ps) mask
-  pub lifts : Lifts w first others r (OnTwo (IsWovenOf w mask (crossing low mid high users)))
+-- r is the map of the parts side by side, whose ends have the values of what they write, and where the channels that they
+-- alone use are closed
+pub record IsJoined (vars : List (Name × Kind)) (layout : List (Name × Width × ℕ)) (all : ℕ) (users : List Users) (writes : List ℕ) (place : ℕ) (ps : List Proc) (maps : List MapId) (u w : World) (r : MapId) : Type 0 where
+  pub joined : (Γ : Environment) → IsAround Γ vars → all_types_kept (trees ps) Γ ≡ true → AreSeparate (trees ps) → All (IsSpread place (trees ps)) users → WriteEach layout writes place ps
+      → AreOfParts u layout all users writes Γ place ps maps → IsPart w layout all (except all (bits_in writes place (length ps))) (closed_in place (place + length ps) users) Γ (par (trees ps)) r
+
+-- r is the map of so many parts, the first in place `low`, beside the other's: final states take the bits from the first that
+-- its parts write, and the channels are closed that both use and no other part
+pub record AreBoth (users : List Users) (writes : List ℕ) (low count high : ℕ) (first others : MapId) (w : World) (r : MapId) : Type 0 where
+  pub small : bits_in writes low count < 2 ^ 64
+  pub lifts : Lifts w first others r (OnTwo (IsWovenOf w (bits_in writes low count) (crossing low (low + count) high users)))

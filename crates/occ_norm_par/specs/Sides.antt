@@ -1,5 +1,5 @@
 -- Which part of a PAR closes which channel, and which bits a part writes.
-use Rattle.std.specs.Prelude.{ℕ, zero, suc, ◌≡◌, ◌<◌, ◌≤◌, ◌+◌, ◌&&◌, ◌||◌, nat_le, nat_lt, not, Bool, true, false, List, [], ◌∷◌, map, Some, if◌then◌else◌}
+use Rattle.std.specs.Prelude.{ℕ, zero, suc, ◌≡◌, ◌<◌, ◌≤◌, ◌+◌, ◌&&◌, ◌||◌, nat_le, nat_lt, not, Bool, true, false, List, [], ◌∷◌, map, length, get_or, Some, bit_or, if◌then◌else◌}
 use Rattle.std.specs.Int.{bit_at}
 use Rattle.std.specs.List.{All}
 use Rattle.occ_base.specs.declared.event.Dir.TheVariants.{Input, Output}
@@ -9,7 +9,8 @@ use Rattle.occ_base.specs.Width.{bits_of}
 use Rattle.occ_bits.specs.Layout.{entry_of}
 use Rattle.occ_syntax.specs.Names.{is_in, uses_end, written}
 use Rattle.occ_syntax.specs.Tree.{Tree, Trees, no_tree, and_tree}
-use Rattle.occ_syntax.specs.View.{numbers}
+use Rattle.occ_syntax.specs.View.{numbers, tree}
+use Rattle.occ_syntax.specs.declared.proc.Proc.{Proc, Skip}
 use Rattle.occ_norm_par.specs.declared.users.Users.{Users}
 
 -- the channels that only parts from place `low` on and in front of place `high` use
@@ -53,3 +54,13 @@ pub record AreUsers (ps : Trees) (closed : List Name) (users : List Users) : Typ
 pub record AreWritten (layout : List (Name × Width × ℕ)) (p : Tree) (bits : ℕ) : Type 0 where
   pub at : (x : ℕ) (width : Width) (first : ℕ) → entry_of layout x ≡ Some (width, first) → (k : ℕ) → first ≤ k → k < first + bits_of width
       → bit_at bits k ≡ (if written p x then 1 else 0)
+
+-- each number has the bits of the variables that the part in its place writes
+pub record AllWritten (layout : List (Name × Width × ℕ)) (ps : List Proc) (writes : List ℕ) : Type 0 where
+  pub count : length writes ≡ length ps
+  pub each : (i : ℕ) → i < length ps → AreWritten layout (tree (get_or ps i Skip)) (get_or writes i 0)
+
+-- the bits that so many parts write, from a place on
+unfoldable pub bits_in : List ℕ → ℕ → ℕ → ℕ
+bits_in writes place zero = 0
+bits_in writes place (suc n) = bit_or (bits_in writes place n) (get_or writes (place + n) 0)

@@ -1,54 +1,33 @@
-ghost use Rattle.std.specs.Prelude.{◌≡◌, ℕ, ◌≤◌, ◌<◌, bit_or, IfOk};
+ghost use Rattle.std.specs.Prelude.{◌≡◌, ℕ, ◌≤◌, ◌<◌, true, bit_or, IfOk};
 ghost use Rattle.occ_follow.specs.Sequence.{HasNodes};
-ghost use Rattle.occ_norm_maps.specs.Maps.{Extends, IsSkip, digit};
+ghost use Rattle.occ_norm_maps.specs.Maps.{Extends, digit};
 ghost use Rattle.occ_syntax.specs.Scopes.{Environment};
 ghost use Rattle.occ_syntax.specs.Tree.{Tree};
 ghost use Rattle.occ_norm_frame.specs.After.{IsAfter, IsOver, WritesWithin};
-ghost use Rattle.occ_norm_frame.specs.Changes.{IsChanged, IsSupport};
+ghost use Rattle.occ_norm_ending.specs.Alone.{IsPart, except};
+ghost use Rattle.occ_norm_frame.specs.Changes.{IsSupport};
 ghost use Rattle.occ_norm_frame.specs.Placed.{IsAround};
-ghost use Rattle.occ_norm_par.specs.Joints.{AreJoint, IsJoint, IsStepped, KeepJoints, kept_change};
+ghost use Rattle.occ_norm_par.specs.Joints.{AreJoint, IsEnded, IsJoint, IsStepped, KeepJoints};
 
 use occ_base::Memory;
 use occ_diagram::{Call, Memo};
 use occ_mdd::MapId;
 use occ_node::World;
-use occ_norm_frame::{Frame, bit_set, has_bit, rebased, turned_on};
-use occ_norm_maps::{choose, cofactor, flip, followed, skip};
+use occ_norm_ending::{ending, except};
+use occ_norm_frame::{Frame, bit_set, has_bit, rebased};
+use occ_norm_maps::{choose, cofactor, followed};
 use std::alloc::Global;
 
-// The bits of the states: those that matter outside, those that the processes before write, and those on which what
-// follows depends.
+// The bits of the states: those that the processes before write, and those on which what follows depends.
 #[derive(Clone, Copy)]
 struct Joint {
-    keep: u64,
     written: u64,
     needed: u64,
 }
 
-// What follows, where a bit that is written has a value before the processes: by their changes of the states.
-fn next_written(
-    alloc: Global,
-    world: &mut World,
-    joint: Joint,
-    bit: u32,
-    there: MapId,
-) -> Result<MapId, Memory>
-    requires bit { bit < 64 }
-    requires there { HasNodes world.old there }
-    ensures extends { Extends world.old world.new }
-    ensures nodes { IfOk result (HasNodes world.new) }
-    ensures changed { IfOk result (IsChanged world.new (kept_change joint.keep bit) there) }
-{
-    if !has_bit(joint.keep, bit) {
-        return Ok(there);
-    }
-    let changed = bit_set(world, bit)?;
-    turned_on(alloc, world, changed, bit, there)
-}
-
-// What follows, where a bit of the states has a value before the processes: by their changes of the states.
+// What follows, where a bit of the states has a value before the processes: by their ends, which have the bits that they
+// write, and not this bit where they don't write it.
 fn next_at(
-    alloc: Global,
     world: &mut World,
     joint: Joint,
     bit: u32,
@@ -63,14 +42,10 @@ fn next_at(
     if !has_bit(joint.needed, bit) {
         return Ok(next);
     }
-    if !has_bit(joint.written, bit) {
-        return cofactor(world, next, bit, one);
+    if has_bit(joint.written, bit) {
+        return Ok(next);
     }
-    if !one {
-        return next_written(alloc, world, joint, bit, next);
-    }
-    let there = flip(world, next, bit)?;
-    next_written(alloc, world, joint, bit, there)
+    cofactor(world, next, bit, one)
 }
 
 // The map of processes that have one node everywhere, and of what follows.
@@ -118,8 +93,8 @@ fn sequel_below(
     let bit = left - 1;
     let zero = cofactor(world, map, bit, false)?;
     let one = cofactor(world, map, bit, true)?;
-    let next_zero = next_at(alloc, world, joint, bit, false, next)?;
-    let next_one = next_at(alloc, world, joint, bit, true, next)?;
+    let next_zero = next_at(world, joint, bit, false, next)?;
+    let next_one = next_at(world, joint, bit, true, next)?;
     let low = sequel_below(alloc, world, joint, bit, zero, next_zero, memo)?;
     let high = sequel_below(alloc, world, joint, bit, one, next_one, memo)?;
     let set = bit_set(world, bit)?;
@@ -128,9 +103,29 @@ fn sequel_below(
     Ok(made)
 }
 
-/// The map of processes, which say what they change, and then what another map has. `together` is the map of the processes
-/// alone: its ends are the changes of the bits that matter outside (the frame's `keep`) or to what follows (`needed`); the
-/// processes write the bits of `written` at most.
+// Whether what follows processes is that they have ended, and all of their changes that matter are values.
+fn is_ended(
+    alloc: Global,
+    world: &mut World,
+    frame: &Frame,
+    joint: Joint,
+    rest: MapId,
+) -> Result<bool, Memory>
+    ensures extends { Extends world.old world.new }
+    ensures ended { IfOk result (λ answer. answer ≡ true → IsEnded world.new frame.now.keep joint rest) }
+{
+    let all = frame.keep | joint.needed;
+    let keep = except(all, joint.written);
+    if keep != frame.keep {
+        return Ok(false);
+    }
+    let ended = ending(alloc, world, all, keep)?;
+    Ok(rest == ended)
+}
+
+/// The map of processes and then what another map has. `together` is the map of the processes alone: its ends have the
+/// values of the bits that they write (`written`), and the changes of the others that matter outside (the frame's `keep`)
+/// or to what follows (`needed`).
 pub fn sequel(
     alloc: Global,
     world: &mut World,
@@ -145,21 +140,18 @@ pub fn sequel(
     requires rest { IsOver world.old frame.now.bits rest }
     ensures extends { Extends world.old world.new }
     ensures nodes { IfOk result (HasNodes world.new) }
-    ensures after { IfOk result (λ r. (Γ : Environment) (p : Tree) (ended : MapId) → IsAround Γ frame.now.vars
-        → IsSkip world.old (bit_or frame.now.keep needed) ended → WritesWithin frame.now.layout frame.now.bits written Γ p
-        → IsAfter world.old frame.now.layout (bit_or frame.now.keep needed) frame.now.closed.items Γ p ended together
+    ensures after { IfOk result (λ r. (Γ : Environment) (p : Tree) → WritesWithin frame.now.layout frame.now.bits written Γ p
+        → IsPart world.old frame.now.layout (bit_or frame.now.keep needed) (except (bit_or frame.now.keep needed) written) frame.now.closed.items Γ p together
         → IsAfter world.new frame.now.layout frame.now.keep frame.now.closed.items Γ p rest r) }
 {
-    let ended = skip(alloc, world, frame.keep)?;
-    if rest == ended && needed & !frame.keep == 0 {
+    let joint = Joint { written, needed };
+    let nothing = is_ended(alloc, world, frame, joint, rest)?;
+    if nothing {
         return Ok(together);
     }
-    let joint = Joint {
-        keep: frame.keep,
-        written,
-        needed,
-    };
-    let next = rebased(alloc, world, frame.keep & written & !needed, rest)?;
+    let turned = frame.keep & written;
+    let next = rebased(alloc, world, turned, rest)?;
     let mut memo = Memo::new(alloc);
-    sequel_below(alloc, world, joint, frame.bits, together, next, &mut memo)
+    let map = sequel_below(alloc, world, joint, frame.bits, together, next, &mut memo)?;
+    rebased(alloc, world, turned, map)
 }

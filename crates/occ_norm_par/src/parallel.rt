@@ -1,17 +1,18 @@
-ghost use Rattle.std.specs.Prelude.{◌≡◌, ℕ, ◌+◌, ◌^◌, ◌≤◌, ◌<◌, true, Some, drop, length, slice_get, bit_or, if◌then◌else◌, IfOk};
+ghost use Rattle.std.specs.Prelude.{◌≡◌, ℕ, ◌+◌, ◌^◌, ◌≤◌, ◌<◌, true, Some, drop, get_or, length, slice_get, bit_or, if◌then◌else◌, IfOk};
 ghost use Rattle.std.specs.Int.{bit_at};
 ghost use Rattle.occ_bits.specs.Layout.{IsLayout};
 ghost use Rattle.occ_follow.specs.Sequence.{HasNodes};
-ghost use Rattle.occ_norm_maps.specs.Maps.{Extends, IsSkip};
+ghost use Rattle.occ_norm_maps.specs.Maps.{Extends};
 ghost use Rattle.occ_syntax.specs.Scopes.{Environment};
 ghost use Rattle.occ_syntax.specs.Tree.{par};
 ghost use Rattle.occ_syntax.specs.Types.{all_types_kept};
 ghost use Rattle.occ_syntax.specs.Usage.{AllKeepUsage, AreSeparate};
 ghost use Rattle.occ_syntax.specs.View.{numbers, tree, trees};
-ghost use Rattle.occ_norm_frame.specs.After.{IsAfter, IsOver, WritesWithin};
+ghost use Rattle.occ_norm_frame.specs.After.{IsOver, WritesWithin};
+ghost use Rattle.occ_norm_ending.specs.Alone.{except};
 ghost use Rattle.occ_norm_frame.specs.Changes.{IsSupport};
 ghost use Rattle.occ_norm_frame.specs.Placed.{IsAround};
-ghost use Rattle.occ_norm_par.specs.Sides.{AreUsers, AreWritten, closed_in};
+ghost use Rattle.occ_norm_par.specs.Sides.{AllWritten, AreUsers, AreWritten, bits_in, closed_in};
 ghost use Rattle.occ_norm_par.specs.Joined.{AreBoth, HaveNodes, IsJoined};
 ghost use Rattle.occ_norm_par.specs.Spans.{covers, is_of};
 ghost use Rattle.occ_base.specs.Width.{bits_of};
@@ -22,19 +23,20 @@ use occ_base::{Memory, Name, Width};
 use occ_mdd::MapId;
 use occ_names::written;
 use occ_node::World;
+use occ_norm_ending::except;
 use occ_norm_frame::{Frame, bits_from, support};
-use occ_norm_maps::{skip, woven};
+use occ_norm_maps::woven;
 use occ_syntax::Proc;
 use std::alloc::Global;
 
-/// What the parts of a PAR have in common: the bits that matter to what follows, the bits whose changes matter to that or
-/// outside, the bits that the parts write, the map of a part that has ended, and who uses the closed channels.
+/// What the parts of a PAR have in common: the bits that matter to what follows, the bits that matter to that or outside, the
+/// bits that each part writes, those that some part writes, and who uses the closed channels.
 #[derive(Drop)]
 pub struct Sides {
     pub needed: u64,
-    pub keep: u64,
+    pub all: u64,
+    pub writes: Vec<u64>,
     pub written: u64,
-    pub ended: MapId,
     pub users: Vec<Users>,
 }
 
@@ -49,44 +51,44 @@ impl Sides {
     ) -> Result<Sides, Memory>
         requires rest { IsOver world.old frame.now.bits rest }
         ensures extends { Extends world.old world.new }
-        ensures ended { IfOk result (λ r. HasNodes world.new r.ended) }
-        ensures skip { IfOk result (λ r. IsSkip world.new r.keep r.ended) }
         ensures needed { IfOk result (λ r. IsSupport world.new frame.now.bits rest r.needed) }
-        ensures keep { IfOk result (λ r. r.keep ≡ bit_or frame.now.keep r.needed) }
+        ensures all { IfOk result (λ r. r.all ≡ bit_or frame.now.keep r.needed) }
+        ensures writes { IfOk result (λ r. AllWritten frame.now.layout parts.now r.writes.items) }
+        ensures written { IfOk result (λ r. r.written ≡ bits_in r.writes.items 0 (length parts.now)) }
         ensures users { IfOk result (λ r. AreUsers (trees parts.now) frame.now.closed.items r.users.items) }
-        ensures written { IfOk result (λ r. (Γ : Environment) → IsAround Γ frame.now.vars → all_types_kept (trees parts.now) Γ ≡ true
-            → WritesWithin frame.now.layout frame.now.bits r.written Γ (par (trees parts.now))) }
     {
         let needed = support(world, frame.bits, rest)?;
-        let keep = frame.keep | needed;
-        let ended = skip(alloc, world, keep)?;
+        let all = frame.keep | needed;
+        let writes = writes_of(alloc, frame, parts)?;
+        let written = bits_in(writes.as_slice(), 0, parts.len());
         let users = users_of(alloc, parts, frame.closed.as_slice())?;
-        let written = all_written(alloc, frame, parts)?;
         Ok(Sides {
             needed,
-            keep,
+            all,
+            writes,
             written,
-            ended,
             users,
         })
     }
 }
 
-/// The frame of one of the parts of a PAR: channels that it alone uses are closed in it.
+/// The frame of one of the parts of a PAR: the bits that it doesn't write are kept as changes in it, and channels that it alone
+/// uses are closed.
 pub fn side_frame(
     alloc: Global,
     frame: &Frame,
     sides: &Sides,
     place: usize,
 ) -> Result<Frame, Memory>
-    requires keep { sides.now.keep < 2 ^ frame.now.bits }
-    requires place { place + 1 < 2 ^ 64 }
+    requires all { sides.now.all < 2 ^ frame.now.bits }
+    requires place { place < length sides.now.writes.items }
     ensures vars { IfOk result (λ r. r.vars ≡ frame.now.vars) }
-    ensures keep { IfOk result (λ r. r.keep ≡ sides.now.keep) }
+    ensures keep { IfOk result (λ r. r.keep ≡ except sides.now.all (get_or sides.now.writes.items place 0)) }
     ensures closed { IfOk result (λ r. r.closed.items ≡ closed_in place (place + 1) sides.now.users.items) }
 {
     let closed = within(alloc, sides.users.as_slice(), place, place + 1)?;
-    frame.with(alloc, sides.keep, closed)
+    let keep = except(sides.all, sides.writes[place]);
+    frame.with(alloc, keep, closed)
 }
 
 // Whether a name is among some.
@@ -130,39 +132,50 @@ pub fn written_bits(alloc: Global, frame: &Frame, part: &Proc) -> Result<u64, Me
     Ok(bits_of_names(frame.layout.items(), names.as_slice()))
 }
 
-// The bits of the variables that some parts write.
-fn all_written(alloc: Global, frame: &Frame, parts: &[Proc]) -> Result<u64, Memory>
-    ensures { IfOk result (AreWritten frame.now.layout (par (trees parts.now))) }
+// The bits of the variables that each of some parts writes.
+fn writes_of(alloc: Global, frame: &Frame, parts: &[Proc]) -> Result<Vec<u64>, Memory>
+    ensures { IfOk result (λ r. AllWritten frame.now.layout parts.now r.items) }
 {
-    let mut written: u64 = 0;
+    let mut writes = Vec::new(alloc);
     for part in parts {
         let bits = written_bits(alloc, frame, part)?;
-        written |= bits;
+        writes.push(bits)?;
     }
-    Ok(written)
+    Ok(writes)
 }
 
-// Two neighbours among parts of a PAR, of which the first stands in place `low` and the second begins in place `mid`.
+// The bits that so many parts write, from a place on.
+fn bits_in(writes: &[u64], place: usize, count: usize) -> u64
+    requires { place + count ≤ length writes.now }
+    ensures { result ≡ bits_in writes.now place count }
+{
+    let mut bits: u64 = 0;
+    for next in 0..count {
+        bits |= writes[place + next];
+    }
+    bits
+}
+
+// Two neighbours among parts of a PAR, of which the first stands in place `low`.
 fn both(
     alloc: Global,
     world: &mut World,
-    frame: &Frame,
     sides: &Sides,
     low: usize,
-    parts: &[Proc],
+    count: usize,
+    high: usize,
     first: MapId,
     others: MapId,
-    high: usize,
 ) -> Result<MapId, Memory>
     requires first { HasNodes world.old first }
     requires others { HasNodes world.old others }
-    requires places { low + length parts.now < 2 ^ 64 }
+    requires places { low + count ≤ length sides.now.writes.items }
     ensures extends { Extends world.old world.new }
     ensures nodes { IfOk result (HasNodes world.new) }
-    ensures both { IfOk result (AreBoth frame.now.layout sides.now.users.items low (low + length parts.now) high (trees parts.now) first others world.new) }
+    ensures both { IfOk result (AreBoth sides.now.users.items sides.now.writes.items low count high first others world.new) }
 {
-    let bits = all_written(alloc, frame, parts)?;
-    let closed = crossing(alloc, sides.users.as_slice(), low, low + parts.len(), high)?;
+    let bits = bits_in(sides.writes.as_slice(), low, count);
+    let closed = crossing(alloc, sides.users.as_slice(), low, low + count, high)?;
     let both = woven(alloc, world, bits, closed.as_slice(), first, others)?;
     Ok(both)
 }
@@ -180,12 +193,12 @@ fn halves(
     maps: &[MapId],
 ) -> Result<MapId, Memory>
     requires some { 1 ≤ length parts.now }
-    requires places { place + length parts.now < 2 ^ 64 }
+    requires places { place + length parts.now ≤ length sides.now.writes.items }
     requires maps { length maps.now ≡ length parts.now }
     requires nodes { HaveNodes world.old maps.now }
     ensures extends { Extends world.old world.new }
     ensures nodes { IfOk result (HasNodes world.new) }
-    ensures joined { IfOk result (IsJoined frame.now.vars frame.now.layout sides.now.keep sides.now.users.items sides.now.ended place parts.now maps.now world.old world.new) }
+    ensures joined { IfOk result (IsJoined frame.now.vars frame.now.layout sides.now.all sides.now.users.items sides.now.writes.items place parts.now maps.now world.old world.new) }
 {
     if parts.len() == 1 {
         return Ok(maps[0]);
@@ -210,17 +223,7 @@ fn halves(
         &maps[half..],
     )?;
     let high = place + parts.len();
-    both(
-        alloc,
-        world,
-        frame,
-        sides,
-        place,
-        &parts[..half],
-        first,
-        others,
-        high,
-    )
+    both(alloc, world, sides, place, half, high, first, others)
 }
 
 /// The map of the parts of a PAR side by side, by the map of each. Parts that stand in a row and share a channel each with
@@ -235,11 +238,12 @@ pub fn joined(
     maps: &[MapId],
 ) -> Result<MapId, Memory>
     requires some { 1 ≤ length parts.now }
+    requires writes { length sides.now.writes.items ≡ length parts.now }
     requires maps { length maps.now ≡ length parts.now }
     requires nodes { HaveNodes world.old maps.now }
     ensures extends { Extends world.old world.new }
     ensures nodes { IfOk result (HasNodes world.new) }
-    ensures joined { IfOk result (IsJoined frame.now.vars frame.now.layout sides.now.keep sides.now.users.items sides.now.ended 0 parts.now maps.now world.old world.new) }
+    ensures joined { IfOk result (IsJoined frame.now.vars frame.now.layout sides.now.all sides.now.users.items sides.now.writes.items 0 parts.now maps.now world.old world.new) }
 {
     let count = parts.len();
     let mut start = row_start(sides.users.as_slice(), count);
@@ -264,17 +268,8 @@ pub fn joined(
             &parts[start..end],
             &maps[start..end],
         )?;
-        map = both(
-            alloc,
-            world,
-            frame,
-            sides,
-            start,
-            &parts[start..end],
-            first,
-            map,
-            count,
-        )?;
+        let size = end - start;
+        map = both(alloc, world, sides, start, size, count, first, map)?;
     }
     Ok(map)
 }

@@ -9,26 +9,28 @@ use Rattle.occ_syntax.proofs.Views.{tree-Seq, tree-Par, tree-If, tree-Alt}
 use Rattle.occ_syntax.proofs.Weights.{weight, weight-seq, weight-par, weight-select, weight-alt, weight_in_all, weight_in_cases, weight_in_branches}
 use Rattle.occ_syntax.proofs.Counting.{weight-declaring}
 use Rattle.occ_dd.specs.Store.{has}
-use Rattle.occ_norm_frame.specs.After.{IsAfter}
 use Rattle.occ_norm_frame.specs.Placed.{Fits, IsAround}
-use Rattle.occ_norm_frame.proofs.After.{after-extends, after-over, over-extends}
+use Rattle.occ_norm_frame.proofs.After.{after-extends, over-extends}
 use Rattle.occ_norm_frame.proofs.Placing.{branch_at, branch_condition, branch_wait, case_at, case_condition, fit_at, fits_alt, fits_assign, fits_can, fits_next, fits_par, fits_receive, fits_select, fits_send, fits_seq}
 use Rattle.std.proofs.Common.{true, ◌-◌, ◌≡◌, ◌≤◌, ◌<◌, ◌+◌, [], ◌∷◌, cond, drop, length, get_or, sym, ap, ◌∙◌, subst, arith}
 use Rattle.occ_norm_maps.proofs.Worlds.{extends_refl, extends_trans, has_nodes-extends}
 use Rattle.occ_norm.specs.Parts.{IsAfterIn}
 use Rattle.occ_norm.proofs.Declaring.{bits_grow, opens_next}
 use Rattle.occ_norm.proofs.Opening.{after_from, freed_after}
-use Rattle.std.proofs.Common.{bit_or}
+use Rattle.std.proofs.Common.{bit_or, ◌^◌, ℕ}
 use Rattle.std.proofs.lemmas.Option.{same_Some, slice_get-get_or}
 use Rattle.std.proofs.lemmas.List.{length-append}
 use Rattle.occ_syntax.specs.declared.proc.Proc.{Skip}
 use Rattle.occ_bits.specs.Layout.{laid_out}
-use Rattle.occ_norm_maps.specs.Maps.{IsSkip}
-use Rattle.occ_norm_par.specs.Sides.{closed_in}
+use Rattle.occ_syntax.specs.Counts.{bits_of_scope}
+use Rattle.occ_norm_ending.specs.Alone.{IsPart, except}
+use Rattle.occ_norm_ending.proofs.Alone.{alone_from, ending_later, ending_over, part_over}
+use Rattle.occ_norm_par.specs.Sides.{AreWritten, bits_in, closed_in}
+use Rattle.occ_norm_par.proofs.Writing.{write_all, writes_within, written_in}
 use Rattle.occ_norm_par.specs.Joined.{HaveNodes}
 use Rattle.occ_norm.proofs.Beside.{AreMade, made_more, nodes_more, parts_after}
 use Rattle.occ_norm_par.proofs.Closing.{closed_all}
-use Rattle.occ_norm.proofs.Steps.{as_is, case_in, empty_in, if_ok, in-extends, no_case_in, keep_below, none_in, one_in, over_in, over_skip, seq_in, skip-extends, skip_in, stop_in, truth_here}
+use Rattle.occ_norm.proofs.Steps.{as_is, case_in, empty_in, if_ok, in-extends, no_case_in, keep_below, none_in, one_in, over_in, seq_in, skip_in, stop_in, truth_here}
 use Rattle.occ_norm.proofs.Using.{no_parts, branch_usage_at, branches_left, case_usage_at, cases_left, dropped_all, one_tree, trees_left, types_at, usage_at, usage_inside}
 use Rattle.occ_norm.proofs.after.+after.Goals as goal
 
@@ -360,34 +362,46 @@ at_once-returns-then-parts-eq1-clause-after t c =
     (one_in c.after.new.world frame.vars frame.layout frame.bits frame.keep frame.closed.items frame.kept frame.inside (tree c.index-parts-0.result) c.args.rest r is))
     c.after.ensures.after
 
-pub at_once-side_frame-requires-clause-keep : goal.at_once-side_frame-requires-clause-keep
-at_once-side_frame-requires-clause-keep t c = keep_below c.args.frame.now.keep c.in_ok-sides.sides.needed c.in_ok-sides.sides.keep c.args.frame.now.bits c.args.frame.now.inside c.in_ok-sides.ensures.needed.within c.in_ok-sides.ensures.keep
+pub at_once-side_frame-requires-clause-all : goal.at_once-side_frame-requires-clause-all
+at_once-side_frame-requires-clause-all t c = keep_below c.args.frame.now.keep c.in_ok-sides.sides.needed c.in_ok-sides.sides.all c.args.frame.now.bits c.args.frame.now.inside c.in_ok-sides.ensures.needed.within c.in_ok-sides.ensures.all
+
+pub at_once-side_frame-requires-clause-place : goal.at_once-side_frame-requires-clause-place
+at_once-side_frame-requires-clause-place t c = let same : length c.in_ok-sides.sides.writes.items ≡ length c.args.parts.now = c.in_ok-sides.ensures.writes.count in omega (arith, same)
+
+pub at_once-joined-requires-clause-writes : goal.at_once-joined-requires-clause-writes
+at_once-joined-requires-clause-writes t c = c.in_ok-sides.ensures.writes.count
 
 pub at_once-loop-place-init : goal.at_once-loop-place-init
 at_once-loop-place-init t c = record {
   extends = c.of.ensures.extends;
-  ended = c.in_ok-sides.ensures.ended;
-  skips = c.in_ok-sides.ensures.skip;
   count = ap length c.new-maps.ensures.items;
   nodes = λ i l. let none : length c.new-maps.result.items ≡ 0 = ap length c.new-maps.ensures.items in absurd (omega (arith, none, l));
   made = λ Γ around types i l. absurd (omega (arith, l));
 }
 
+pub at_once-returns-in_err-ended-clause-extends : goal.at_once-returns-in_err-ended-clause-extends
+at_once-returns-in_err-ended-clause-extends t c = extends_trans c.args.world.now c.loop-place.world c.ending.new.world c.loop-place.invariant.extends c.ending.ensures.extends
+
 pub at_once-returns-in_err-map-clause-extends : goal.at_once-returns-in_err-map-clause-extends
-at_once-returns-in_err-map-clause-extends t c = extends_trans c.args.world.now c.loop-place.world c.after-in-loop-place.new.world c.loop-place.invariant.extends c.after-in-loop-place.ensures.extends
+at_once-returns-in_err-map-clause-extends t c = extends_trans c.args.world.now c.loop-place.world c.after-in-loop-place.new.world c.loop-place.invariant.extends (extends_trans c.loop-place.world c.ending.new.world c.after-in-loop-place.new.world c.ending.ensures.extends c.after-in-loop-place.ensures.extends)
 
 pub at_once-returns-in_err-push-clause-extends : goal.at_once-returns-in_err-push-clause-extends
-at_once-returns-in_err-push-clause-extends t c = extends_trans c.args.world.now c.loop-place.world c.after-in-loop-place.new.world c.loop-place.invariant.extends c.after-in-loop-place.ensures.extends
+at_once-returns-in_err-push-clause-extends t c = extends_trans c.args.world.now c.loop-place.world c.after-in-loop-place.new.world c.loop-place.invariant.extends (extends_trans c.loop-place.world c.ending.new.world c.after-in-loop-place.new.world c.ending.ensures.extends c.after-in-loop-place.ensures.extends)
 
 pub at_once-after-requires-in-loop-place : goal.at_once-after-requires-in-loop-place
 at_once-after-requires-in-loop-place t c =
-    let lt : c.loop-place.place < length c.args.parts.now = omega arith in (
+    let lt : c.loop-place.place < length c.args.parts.now = omega arith in
+    let frame = c.args.frame.now in
+    let inner = c.in_ok-inner.inner in
+    let sides = c.in_ok-sides.sides in
+    let all : sides.all < 2 ^ frame.bits = keep_below frame.keep sides.needed sides.all frame.bits frame.inside c.in_ok-sides.ensures.needed.within c.in_ok-sides.ensures.all in
+    let same : frame.bits ≡ inner.bits = frame.kept.bits_are ∙ ap bits_of_scope (sym c.in_ok-inner.ensures.vars) ∙ sym inner.kept.bits_are in (
       omega (arith, weight_in_all c.args.parts.now c.loop-place.place c.index-parts-place.result lt c.index-parts-place.is, c.decreases),
       (
         subst (λ vs. Fits vs (tree c.index-parts-place.result)) (sym c.in_ok-inner.ensures.vars) (fit_at c.args.frame.now.vars c.args.parts.now c.loop-place.place c.index-parts-place.result c.requires.parts lt c.index-parts-place.is),
         (
           usage_at c.args.parts.now c.loop-place.place c.index-parts-place.result c.requires.usage lt c.index-parts-place.is,
-          over_skip c.loop-place.world c.in_ok-inner.inner.bits c.in_ok-sides.sides.keep c.in_ok-sides.sides.ended c.loop-place.invariant.ended c.loop-place.invariant.skips,
+          ending_over c.ending.new.world inner.bits sides.all inner.keep c.in_ok-ended.ended c.in_ok-ended.ensures.nodes c.in_ok-ended.ensures.ending (subst (λ n. sides.all < 2 ^ n) same all),
         ),
       ),
     )
@@ -398,28 +412,32 @@ at_once-loop-place-preserved t c =
     let inner = c.in_ok-inner.inner in
     let sides = c.in_ok-sides.sides in
     let v = c.loop-place.world in
+    let e = c.ending.new.world in
     let u = c.after-in-loop-place.new.world in
     let place = c.loop-place.place in
     let old = c.loop-place.maps.items in
+    let ended = c.in_ok-ended.ended in
+    let map = c.in_ok-map.map in
     let lt : place < length c.args.parts.now = omega arith in
-    let grow = c.after-in-loop-place.ensures.extends in
+    let later = c.after-in-loop-place.ensures.extends in
+    let grow = extends_trans v e u c.ending.ensures.extends later in
     let laid : inner.layout ≡ frame.layout = inner.kept.layout_is ∙ ap (laid_out 0) c.in_ok-inner.ensures.vars ∙ sym frame.kept.layout_is in
     let one : c.index-parts-place.result ≡ get_or c.args.parts.now place Skip = c.index-parts-place.is ∙ same_Some _ _ (sym (slice_get-get_or c.args.parts.now place _ lt) ∙ slice_get-get_or c.args.parts.now place Skip lt) in
     let whole = c.in_ok-push.ensures.items in
     record {
       extends = extends_trans c.args.world.now v u c.loop-place.invariant.extends grow;
-      ended = has_nodes-extends v u grow sides.ended c.loop-place.invariant.ended;
-      skips = skip-extends v u grow sides.keep sides.ended c.loop-place.invariant.skips;
-      count = ap length whole ∙ length-append old (c.in_ok-map.map ∷ []) ∙ ap (λ n. n + 1) c.loop-place.invariant.count;
-      nodes = subst (HaveNodes u) (sym whole) (nodes_more v u grow old c.in_ok-map.map place c.loop-place.invariant.count c.loop-place.invariant.nodes c.in_ok-map.ensures.nodes);
-      made = subst (AreMade u frame.vars frame.layout sides.keep sides.users.items sides.ended (place + 1) c.args.parts.now) (sym whole)
-          (made_more v u grow old c.in_ok-map.map place c.loop-place.invariant.count c.loop-place.invariant.nodes frame.vars frame.layout sides.keep sides.users.items sides.ended c.args.parts.now c.loop-place.invariant.ended c.loop-place.invariant.made
+      count = ap length whole ∙ length-append old (map ∷ []) ∙ ap (λ n. n + 1) c.loop-place.invariant.count;
+      nodes = subst (HaveNodes u) (sym whole) (nodes_more v u grow old map place c.loop-place.invariant.count c.loop-place.invariant.nodes c.in_ok-map.ensures.nodes);
+      made = subst (AreMade u frame.vars frame.layout sides.all sides.users.items sides.writes.items (place + 1) c.args.parts.now) (sym whole)
+          (made_more v u grow old map place c.loop-place.invariant.count c.loop-place.invariant.nodes frame.vars frame.layout sides.all sides.users.items sides.writes.items c.args.parts.now c.loop-place.invariant.made
           (λ Γ around types.
-          subst (λ q. IsAfter u frame.layout sides.keep (closed_in place (place + 1) sides.users.items) Γ (tree q) sides.ended c.in_ok-map.map) one
-          (subst (λ cs. IsAfter u frame.layout sides.keep cs Γ (tree c.index-parts-place.result) sides.ended c.in_ok-map.map) c.in_ok-inner.ensures.closed
-          (subst (λ k. IsAfter u frame.layout k inner.closed.items Γ (tree c.index-parts-place.result) sides.ended c.in_ok-map.map) c.in_ok-inner.ensures.keep
-          (subst (λ l. IsAfter u l inner.keep inner.closed.items Γ (tree c.index-parts-place.result) sides.ended c.in_ok-map.map) laid
-          (c.in_ok-map.ensures.after Γ (subst (IsAround Γ) (sym c.in_ok-inner.ensures.vars) around) (types_at c.args.parts.now place c.index-parts-place.result Γ types lt c.index-parts-place.is)))))));
+          subst (λ q. IsPart u frame.layout sides.all (except sides.all (get_or sides.writes.items place 0)) (closed_in place (place + 1) sides.users.items) Γ (tree q) map) one
+          (subst (λ cs. IsPart u frame.layout sides.all (except sides.all (get_or sides.writes.items place 0)) cs Γ (tree c.index-parts-place.result) map) c.in_ok-inner.ensures.closed
+          (subst (λ k. IsPart u frame.layout sides.all k inner.closed.items Γ (tree c.index-parts-place.result) map) c.in_ok-inner.ensures.keep
+          (subst (λ l. IsPart u l sides.all inner.keep inner.closed.items Γ (tree c.index-parts-place.result) map) laid
+          (alone_from u inner.layout sides.all inner.keep inner.closed.items Γ (tree c.index-parts-place.result) ended map (has_nodes-extends e u later ended c.in_ok-ended.ensures.nodes)
+          (ending_later e u later ended c.in_ok-ended.ensures.nodes sides.all inner.keep c.in_ok-ended.ensures.ending)
+          (c.in_ok-map.ensures.after Γ (subst (IsAround Γ) (sym c.in_ok-inner.ensures.vars) around) (types_at c.args.parts.now place c.index-parts-place.result Γ types lt c.index-parts-place.is))))))));
     }
 
 pub at_once-sequel-requires-clause-together : goal.at_once-sequel-requires-clause-together
@@ -428,10 +446,12 @@ at_once-sequel-requires-clause-together t c =
     let sides = c.in_ok-sides.sides in
     let w = c.loop-place.world in
     let x = c.joined.new.world in
-    after-over x frame.vars frame.layout frame.bits frame.kept sides.keep (keep_below frame.keep sides.needed sides.keep frame.bits frame.inside c.in_ok-sides.ensures.needed.within c.in_ok-sides.ensures.keep)
-    (closed_in 0 (length c.args.parts.now) sides.users.items) c.requires.parts.outer (par (trees c.args.parts.now)) sides.ended c.in_ok-map-2.map
-    (parts_after w x frame.vars frame.layout sides.keep sides.users.items sides.ended c.loop-place.place c.args.parts.now c.loop-place.maps.items c.as_slice.result.now frame.closed.items c.in_ok-map-2.map c.as_slice.ensures.value (omega arith) c.requires.separate c.in_ok-sides.ensures.users
-    c.loop-place.invariant.skips c.loop-place.invariant.made c.in_ok-map-2.ensures.joined c.requires.parts.outer c.requires.parts.around c.requires.parts.types) c.in_ok-map-2.ensures.nodes
+    let parts = c.args.parts.now in
+    let m = c.in_ok-map-2.map in
+    let all : sides.all < 2 ^ frame.bits = keep_below frame.keep sides.needed sides.all frame.bits frame.inside c.in_ok-sides.ensures.needed.within c.in_ok-sides.ensures.all in
+    part_over x frame.vars frame.layout frame.bits frame.kept sides.all (except sides.all (bits_in sides.writes.items 0 (length parts))) all (closed_in 0 (length parts) sides.users.items) c.requires.parts.outer (par (trees parts)) m
+    (parts_after w x frame.vars frame.layout sides.all sides.users.items sides.writes.items c.loop-place.place parts c.loop-place.maps.items c.as_slice.result.now frame.closed.items m c.as_slice.ensures.value (omega arith) c.requires.separate c.in_ok-sides.ensures.users c.in_ok-sides.ensures.writes
+    c.loop-place.invariant.made c.in_ok-map-2.ensures.joined c.requires.parts.outer c.requires.parts.around c.requires.parts.types) c.in_ok-map-2.ensures.nodes
 
 pub at_once-sequel-requires-clause-rest : goal.at_once-sequel-requires-clause-rest
 at_once-sequel-requires-clause-rest t c = over-extends c.args.world.now c.joined.new.world (extends_trans c.args.world.now c.loop-place.world c.joined.new.world c.loop-place.invariant.extends c.joined.ensures.extends) c.args.frame.now.bits c.args.rest c.requires.rest
@@ -444,11 +464,14 @@ at_once-returns-clause-after t c =
     let x = c.joined.new.world in
     let parts = c.args.parts.now in
     let m = c.in_ok-map-2.map in
-    let skips = subst (λ k. IsSkip x k sides.ended) c.in_ok-sides.ensures.keep (skip-extends w x c.joined.ensures.extends sides.keep sides.ended c.loop-place.invariant.skips) in
+    let all : ℕ = bit_or frame.keep sides.needed in
     if_ok c.sequel.result _ _
-    (λ r is Γ around types. is Γ (par (trees parts)) sides.ended around skips (c.in_ok-sides.ensures.written Γ around types)
-    (closed_all x frame.layout (bit_or frame.keep sides.needed) sides.ended m Γ parts frame.closed.items sides.users.items c.in_ok-sides.ensures.users types skips
-    (subst (λ k. IsAfter x frame.layout k (closed_in 0 (length parts) sides.users.items) Γ (par (trees parts)) sides.ended m) c.in_ok-sides.ensures.keep
-    (parts_after w x frame.vars frame.layout sides.keep sides.users.items sides.ended c.loop-place.place parts c.loop-place.maps.items c.as_slice.result.now frame.closed.items m c.as_slice.ensures.value (omega arith) c.requires.separate c.in_ok-sides.ensures.users
-    c.loop-place.invariant.skips c.loop-place.invariant.made c.in_ok-map-2.ensures.joined Γ around types))))
+    (λ r is Γ around types. is Γ (par (trees parts))
+    (writes_within frame.vars frame.layout frame.bits frame.kept Γ around (par (trees parts)) types sides.written
+    (subst (AreWritten frame.layout (par (trees parts))) (sym c.in_ok-sides.ensures.written) (written_in frame.layout sides.writes.items 0 parts (write_all frame.layout sides.writes.items parts c.in_ok-sides.ensures.writes))))
+    (closed_all x frame.layout all (except all sides.written) m Γ parts frame.closed.items sides.users.items c.in_ok-sides.ensures.users types
+    (subst (λ b. IsPart x frame.layout all (except all b) (closed_in 0 (length parts) sides.users.items) Γ (par (trees parts)) m) (sym c.in_ok-sides.ensures.written)
+    (subst (λ k. IsPart x frame.layout k (except k (bits_in sides.writes.items 0 (length parts))) (closed_in 0 (length parts) sides.users.items) Γ (par (trees parts)) m) c.in_ok-sides.ensures.all
+    (parts_after w x frame.vars frame.layout sides.all sides.users.items sides.writes.items c.loop-place.place parts c.loop-place.maps.items c.as_slice.result.now frame.closed.items m c.as_slice.ensures.value (omega arith) c.requires.separate c.in_ok-sides.ensures.users c.in_ok-sides.ensures.writes
+    c.loop-place.invariant.made c.in_ok-map-2.ensures.joined Γ around types)))))
     c.sequel.ensures.after

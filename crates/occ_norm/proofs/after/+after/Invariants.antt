@@ -6,7 +6,7 @@ use Rattle.occ_syntax.specs.Usage.{KeepsUsage}
 use Rattle.occ_syntax.specs.View.{tree, trees, cases, branches}
 use Rattle.occ_syntax.proofs.Weights.{weight, weight_of_all, weight_of_cases, weight_of_branches}
 use Rattle.occ_follow.specs.Sequence.{HasNodes}
-use Rattle.occ_norm_maps.specs.Maps.{Extends, IsSkip, MayHaveNodes}
+use Rattle.occ_norm_maps.specs.Maps.{Extends, MayHaveNodes}
 use Rattle.occ_norm_frame.specs.After.{IsOver}
 use Rattle.occ_norm_frame.specs.Placed.{Fits, IsAround}
 use Rattle.occ_norm_alt.specs.Alternation.{IsAlternation}
@@ -73,11 +73,9 @@ decreases-first_choice-loop-left l = l.left
 abbrev pub invariant-at_once-loop-place : goal.invariant-at_once-loop-place
 invariant-at_once-loop-place l = record {
   extends : Extends l.fn.world l.world;
-  ended : HasNodes l.world l.sides.ended;
-  skips : IsSkip l.world l.sides.keep l.sides.ended;
   count : length l.maps.items ≡ l.place;
   nodes : HaveNodes l.world l.maps.items;
-  made : AreMade l.world l.frame.vars l.frame.layout l.sides.keep l.sides.users.items l.sides.ended l.place l.parts l.maps.items;
+  made : AreMade l.world l.frame.vars l.frame.layout l.sides.all l.sides.users.items l.sides.writes.items l.place l.parts l.maps.items;
 }
 
 abbrev pub invariant-alternated-loop-left : goal.invariant-alternated-loop-left

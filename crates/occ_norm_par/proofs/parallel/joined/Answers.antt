@@ -28,9 +28,9 @@ loop-start-preserved c =
       extends = extends_trans u v x i.extends (extends_trans v w x c.halves-in-loop-start.ensures.extends c.both.ensures.extends);
       nodes = c.in_ok-map-2.ensures.nodes;
       below = omega (arith, low, high);
-      joined = row_joined f.vars f.layout f.bits f.kept c.args.sides.now.keep c.args.sides.now.users.items c.args.sides.now.ended s e c.args.parts.now c.args.maps.now low (omega (arith, high)) c.requires.maps u v w x i.extends c.halves-in-loop-start.ensures.extends c.both.ensures.extends
+      joined = row_joined f.vars f.layout f.bits f.kept c.args.sides.now.all c.args.sides.now.users.items c.args.sides.now.writes.items s e c.args.parts.now c.args.maps.now low (omega (arith, high)) c.requires.maps u v w x i.extends c.halves-in-loop-start.ensures.extends c.both.ensures.extends
           c.requires.nodes c.in_ok-first.first c.loop-start.map c.in_ok-map-2.map c.in_ok-first.ensures.nodes i.nodes c.in_ok-first.ensures.joined i.joined c.in_ok-map-2.ensures.both;
     }
 
 pub returns-clause-joined : goal.returns-clause-joined
-returns-clause-joined c = all_joined c.args.frame.now.vars c.args.frame.now.layout c.args.sides.now.keep c.args.sides.now.users.items c.args.sides.now.ended c.loop-start.start c.args.parts.now c.args.maps.now c.args.world.now c.loop-start.world c.loop-start.map (omega arith) c.loop-start.invariant.joined
+returns-clause-joined c = all_joined c.args.frame.now.vars c.args.frame.now.layout c.args.sides.now.all c.args.sides.now.users.items c.args.sides.now.writes.items c.loop-start.start c.args.parts.now c.args.maps.now c.args.world.now c.loop-start.world c.loop-start.map (omega arith) c.loop-start.invariant.joined

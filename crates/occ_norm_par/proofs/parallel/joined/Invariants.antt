@@ -10,7 +10,7 @@ invariant-loop-start l = record {
   extends : Extends l.fn.world l.world;
   nodes : HasNodes l.world l.map;
   below : l.start < length l.parts;
-  joined : IsJoined l.frame.vars l.frame.layout l.sides.keep l.sides.users.items l.sides.ended l.start (drop l.start l.parts) (drop l.start l.maps) l.fn.world l.world l.map;
+  joined : IsJoined l.frame.vars l.frame.layout l.sides.all l.sides.users.items l.sides.writes.items l.start (drop l.start l.parts) (drop l.start l.maps) l.fn.world l.world l.map;
 }
 
 abbrev pub decreases-loop-start : goal.decreases-loop-start
