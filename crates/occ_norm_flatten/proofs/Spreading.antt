@@ -28,7 +28,7 @@ use Rattle.occ_norm_flatten.specs.Spread.{IsNext, IsSpread, bare, channel, parts
 
 -- ---- lists of parts
 
-types_of_all : (ps qs : Trees) (Γ : Environment) → all_types_kept (all_of ps qs) Γ ≡ true → (all_types_kept ps Γ ≡ true) × (all_types_kept qs Γ ≡ true)
+pub types_of_all : (ps qs : Trees) (Γ : Environment) → all_types_kept (all_of ps qs) Γ ≡ true → (all_types_kept ps Γ ≡ true) × (all_types_kept qs Γ ≡ true)
 types_of_all no_tree qs Γ h = (refl, h)
 types_of_all (and_tree p ps) qs Γ h =
     let one = and_parts (types_kept p Γ) (all_types_kept (all_of ps qs) Γ) h in
@@ -41,7 +41,7 @@ free_of_all (and_tree p ps) qs x h k =
 
 -- ---- bits
 
-all_at_least : (ps : Trees) (n : ℕ) → n ≤ most_bits_of_all ps n
+pub all_at_least : (ps : Trees) (n : ℕ) → n ≤ most_bits_of_all ps n
 all_at_least no_tree n = omega arith
 all_at_least (and_tree p ps) n = let h = all_at_least ps n in omega (arith, h)
 
@@ -66,11 +66,11 @@ at_least (alt bs) n = branches_at_least bs n
 at_least (declare x w p) n = let h = at_least p (n + bits_of w) in omega (arith, h)
 at_least (connect c w p) n = at_least p n
 
-bits_of_both : (ps qs : Trees) (n : ℕ) → most_bits_of_all (all_of ps qs) n ≡ max (most_bits_of_all ps n) (most_bits_of_all qs n)
+pub bits_of_both : (ps qs : Trees) (n : ℕ) → most_bits_of_all (all_of ps qs) n ≡ max (most_bits_of_all ps n) (most_bits_of_all qs n)
 bits_of_both no_tree qs n = let h = all_at_least qs n in omega (arith, h)
 bits_of_both (and_tree p ps) qs n = let h = bits_of_both ps qs n in omega (arith, h)
 
-bits_within : (ds : List (Name × Kind)) (p q : Tree) → ((n : ℕ) → most_bits q n ≤ most_bits p n) → (n : ℕ) → most_bits (declaring_all ds q) n ≤ most_bits (declaring_all ds p) n
+pub bits_within : (ds : List (Name × Kind)) (p q : Tree) → ((n : ℕ) → most_bits q n ≤ most_bits p n) → (n : ℕ) → most_bits (declaring_all ds q) n ≤ most_bits (declaring_all ds p) n
 bits_within [] p q h n = h n
 bits_within (d ∷ ds) p q h n =
     let k = bits_within ds p q h (n + bits_of_kind d.1) in

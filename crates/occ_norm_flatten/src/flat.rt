@@ -103,7 +103,7 @@ fn flat(alloc: Global, part: &Proc) -> Result<Proc, Memory>
 /// perhaps within declarations of channels, which then stand round the one PAR. None where the process within its own
 /// declarations is no PAR in whose last part a PAR stands so. Where both keep types the two do the same; the new one keeps
 /// none where a part declares a name again that is declared farther in beside it.
-pub fn flattened(alloc: Global, part: &Proc) -> Result<Option<Proc>, Memory>
+pub fn last_flattened(alloc: Global, part: &Proc) -> Result<Option<Proc>, Memory>
     ensures { IfOk result (λ found. IfSome found (λ flat. IsFlat (tree part.now) (tree flat))) }
 {
     let mut declarations = Scope::new(alloc);

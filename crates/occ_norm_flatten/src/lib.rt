@@ -1,6 +1,10 @@
-//! PARs that stand in the last parts of PARs, with the channels that are declared round them, as one PAR.
+//! PARs inside one another as one PAR, with the channels that are declared round them, and its parts in an order in which those
+//! that share channels stand close together.
 #![tactic(auto)]
 
+mod apart;
 mod flat;
+mod links;
+mod order;
 
-pub use flat::flattened;
+pub use order::flattened;

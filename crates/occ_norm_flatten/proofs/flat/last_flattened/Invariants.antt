@@ -2,7 +2,7 @@ use Rattle.std.proofs.Common.{◌≡◌}
 use Rattle.occ_syntax.specs.Declarations.{declaring_all}
 use Rattle.occ_syntax.specs.View.{tree}
 use Rattle.occ_syntax.proofs.Weights.{weight}
-use Rattle.occ_norm_flatten.proofs.flat.flattened.Given as goal
+use Rattle.occ_norm_flatten.proofs.flat.last_flattened.Given as goal
 
 -- the declarations so far, round the rest, are the whole
 abbrev pub invariant-loop-name : goal.invariant-loop-name

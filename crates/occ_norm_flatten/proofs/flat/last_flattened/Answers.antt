@@ -5,7 +5,7 @@ use Rattle.occ_syntax.proofs.Within.{one_off}
 use Rattle.occ_syntax.specs.Declarations.{declaring_all}
 use Rattle.occ_syntax.specs.View.{tree}
 use Rattle.occ_norm_flatten.proofs.Spreading.{flat_within}
-use Rattle.occ_norm_flatten.proofs.flat.flattened.Goals as goal
+use Rattle.occ_norm_flatten.proofs.flat.last_flattened.Goals as goal
 
 pub loop-name-smaller : goal.loop-name-smaller
 loop-name-smaller c = let g = ap weight c.in-Some.ensures ∙ weight-declaring _ _ _ in omega (arith, g)

@@ -1,0 +1,91 @@
+-- Parts of PARs in the place of these PARs.
+use Rattle.std.proofs.Common.{◌≡◌, Bool, ◌&&◌, true, false, refl, sym, ap, ◌∙◌, subst, arith}
+use Rattle.std.proofs.lemmas.Bool.{and_parts}
+use Rattle.occ_meaning.proofs.Beside.{Gives, beside_gives, gives_itself, gives_through}
+use Rattle.occ_meaning.proofs.Parts.{all_of_beside, beside_all_of}
+use Rattle.occ_meaning.specs.Parallel.{all_of, one}
+use Rattle.occ_norm_flatten.proofs.Listed.{all_of_none, all_of_three}
+use Rattle.occ_norm_flatten.proofs.Spreading.{bits_of_both, types_of_all}
+use Rattle.occ_norm_flatten.specs.Arranged.{AddsAll, AreArranged}
+use Rattle.occ_syntax.specs.Meaning.{at_the_same_time, beside}
+use Rattle.occ_syntax.specs.Scopes.{Environment}
+use Rattle.occ_syntax.specs.Tree.{Tree, Trees, and_tree, no_tree, par}
+use Rattle.occ_syntax.specs.Types.{all_types_kept, types_kept}
+
+-- ---- two lists of parts in one
+
+and_three : (a b c : Bool) → (a && (b && c)) ≡ ((a && b) && c)
+and_three true b c = refl
+and_three false b c = refl
+
+types_in_both : (ps qs : Trees) (Γ : Environment) → all_types_kept (all_of ps qs) Γ ≡ (all_types_kept ps Γ && all_types_kept qs Γ)
+types_in_both no_tree qs Γ = refl
+types_in_both (and_tree p ps) qs Γ = ap (λ b. types_kept p Γ && b) (types_in_both ps qs Γ) ∙ and_three (types_kept p Γ) (all_types_kept ps Γ) (all_types_kept qs Γ)
+
+both_give : (Γ : Environment) (ps ps' qs qs' : Trees) → Gives Γ (at_the_same_time ps) (at_the_same_time ps') → Gives Γ (at_the_same_time qs) (at_the_same_time qs')
+    → Gives Γ (at_the_same_time (all_of ps qs)) (at_the_same_time (all_of ps' qs'))
+both_give Γ ps ps' qs qs' h k =
+    gives_through Γ (at_the_same_time (all_of ps qs)) (beside (at_the_same_time ps) (at_the_same_time qs)) (at_the_same_time (all_of ps' qs')) (all_of_beside Γ ps qs)
+    (gives_through Γ (beside (at_the_same_time ps) (at_the_same_time qs)) (beside (at_the_same_time ps') (at_the_same_time qs')) (at_the_same_time (all_of ps' qs'))
+    (beside_gives Γ (at_the_same_time ps) (at_the_same_time ps') (at_the_same_time qs) (at_the_same_time qs') h k) (beside_all_of Γ ps' qs'))
+
+-- ---- parts that do the same
+
+alike_itself : (ps : Trees) → AreArranged ps ps
+alike_itself ps = record {
+  types = λ Γ. refl;
+  forth = λ Γ h. gives_itself Γ (at_the_same_time ps);
+  back = λ Γ h. gives_itself Γ (at_the_same_time ps);
+  bits = λ n. omega arith;
+}
+
+alike_both : (ps ps' qs qs' : Trees) → AreArranged ps ps' → AreArranged qs qs' → AreArranged (all_of ps qs) (all_of ps' qs')
+alike_both ps ps' qs qs' a b = record {
+  types = λ Γ. types_in_both ps' qs' Γ ∙ ap (λ v. v && all_types_kept qs' Γ) (a.types Γ) ∙ ap (λ v. all_types_kept ps Γ && v) (b.types Γ) ∙ sym (types_in_both ps qs Γ);
+  forth = λ Γ h. let k = types_of_all ps qs Γ h in both_give Γ ps ps' qs qs' (a.forth Γ k.0) (b.forth Γ k.1);
+  back = λ Γ h. let k = types_of_all ps qs Γ h in both_give Γ ps' ps qs' qs (a.back Γ k.0) (b.back Γ k.1);
+  bits = λ n.
+      let e = bits_of_both ps qs n in
+      let f = bits_of_both ps' qs' n in
+      let g = a.bits n in
+      let h = b.bits n in omega (arith, e, f, g, h);
+}
+
+and_none : (b : Bool) → (b && true) ≡ b
+and_none true = refl
+and_none false = refl
+
+-- a PAR, and what does what its parts do
+alike_par : (qs rs : Trees) → AreArranged qs rs → AreArranged (one (par qs)) rs
+alike_par qs rs a = record {
+  types = λ Γ. a.types Γ ∙ sym (and_none (all_types_kept qs Γ));
+  forth = λ Γ h. a.forth Γ (and_parts (all_types_kept qs Γ) true h).0;
+  back = λ Γ h. a.back Γ (and_parts (all_types_kept qs Γ) true h).0;
+  bits = λ n. let h = a.bits n in omega (arith, h);
+}
+
+-- ---- parts that are added
+
+-- none
+pub adds_none : (ps : Trees) → AddsAll ps no_tree ps
+adds_none ps = record { others = no_tree; whole = sym (all_of_none ps); alike = alike_itself no_tree }
+
+-- some and then more
+pub adds_more : (ps qs rs xs ys : Trees) → AddsAll ps xs qs → AddsAll qs ys rs → AddsAll ps (all_of xs ys) rs
+adds_more ps qs rs xs ys a b = record {
+  others = all_of a.others b.others;
+  whole = b.whole ∙ ap (λ zs. all_of zs b.others) a.whole ∙ sym (all_of_three ps a.others b.others);
+  alike = alike_both xs a.others ys b.others a.alike b.alike;
+}
+
+-- one as it is
+pub adds_one : (ps qs : Trees) (p : Tree) → qs ≡ all_of ps (one p) → AddsAll ps (one p) qs
+adds_one ps qs p e = record { others = one p; whole = e; alike = alike_itself (one p) }
+
+-- those of a PAR
+pub adds_par : (ps qs rs : Trees) → AddsAll ps qs rs → AddsAll ps (one (par qs)) rs
+adds_par ps qs rs a = record { others = a.others; whole = a.whole; alike = alike_par qs a.others a.alike }
+
+-- all that there are
+pub added_alike : (ps rs : Trees) → AddsAll no_tree ps rs → AreArranged ps rs
+added_alike ps rs a = subst (λ zs. AreArranged ps zs) (sym a.whole) a.alike
