@@ -1,125 +1,112 @@
--- Two programs mean the same exactly where each refines the other.
-use Rattle.std.proofs.Common.{◌≡◌, ◌↔◌, ◌<◌, ◌≤◌, ◌%◌, ◌^◌, ℕ, Bool, true, false, List, Option, Some, None, refl, sym, ap, ◌∙◌, subst}
-use Rattle.std.proofs.Math.Nat.{mod-lt, mod-eq_of_lt}
-use Rattle.std.proofs.lemmas.Nat.{pow_pos}
+-- Programs that mean the same have no behaviour of the interface that only one has; and two mean the same exactly where each refines the
+-- other.
+use Rattle.std.proofs.Common.{◌≡◌, ◌<◌, ◌^◌, ◌==◌, ◌&&◌, ◌↔◌, ℕ, Bool, true, false, nat_lt, cond, List, [], ◌∷◌, Option, Some, refl, sym, ◌∙◌, subst}
+use Rattle.std.proofs.lemmas.Bool.{and_parts, eqb-true, ltb-true, false≢true}
+use Rattle.std.proofs.lemmas.Option.{same_Some, none-some}
+use Rattle.occ_base.specs.declared.event.Dir.{Dir}
 use Rattle.occ_base.specs.declared.event.Event.{Event}
 use Rattle.occ_base.specs.declared.names.Name.{Name}
+use Rattle.occ_base.specs.declared.width.Width.{Width}
+use Rattle.occ_base.specs.Width.{bits_of}
 use Rattle.occ_syntax.specs.declared.scope.Kind.{Kind}
-use Rattle.occ_syntax.specs.Counts.{bits_of_scope}
+use Rattle.occ_syntax.specs.declared.scope.Kind.TheVariants.{Var, Chan}
+use Rattle.occ_syntax.specs.Same.{SAME}
+use Rattle.occ_syntax.specs.Scopes.{IsState, IsWithin as IsInScope, among, allows, environment, in_interface, in_scope, values, variable_kind, variable_width}
 use Rattle.occ_syntax.specs.Tree.{Tree}
-use Rattle.occ_bits.specs.Layout.{laid_out}
-use Rattle.occ_behaviour.specs.States.{is_state}
+use Rattle.occ_behaviour.specs.declared.behaviour.Behaviour.{Behaviour}
+use Rattle.occ_behaviour.specs.declared.behaviour.Last.{Last}
+use Rattle.occ_behaviour.specs.declared.behaviour.Last.TheVariants.{Refuses, Ends}
+use Rattle.occ_behaviour.specs.declared.behaviour.Side.TheVariants.{First, Second}
 use Rattle.occ_behaviour.specs.declared.behaviour.Verdict.{Verdict}
-use Rattle.occ_behaviour.specs.declared.behaviour.Verdict.TheVariants.{Same}
-use Rattle.occ_mdd.specs.Maps.{value}
-use Rattle.occ_mdd.specs.declared.map.MapId.{MapId}
-use Rattle.occ_node.specs.World.{IsNode, fails, ends}
-use Rattle.occ_node.specs.declared.node.NodeId.{NodeId}
-use Rattle.occ_node.specs.declared.world.World.{World}
-use Rattle.occ_compare.specs.Interface.{IsOfInterface, IsWithin as IsOfNames}
-use Rattle.occ_compare.specs.Places.{state_at}
-use Rattle.occ_compare.specs.Verdicts.{MeanTheSame}
-use Rattle.occ_compare.proofs.Numbers.{same}
-use Rattle.occ_norm_frame.proofs.After.{same_truth}
-use Rattle.occ_norm.specs.Root.{IsRoot}
-use Rattle.occ_norm.proofs.Rooted.{listed_fits}
+use Rattle.occ_behaviour.specs.declared.behaviour.Verdict.TheVariants.{Same, Differ}
+use Rattle.occ_behaviour.specs.Members.{IsOnlyOf, Stands}
+use Rattle.occ_behaviour.specs.States.{is_state}
+use Rattle.occ_accept.proofs.Events.{cmp_total, event_exact}
+use Rattle.occ_accept.proofs.Strict.{all_at}
+use Rattle.occ_compare.proofs.Walking.{among_is}
 use Rattle.occ_views.specs.declared.refined.Refined.{Refined}
 use Rattle.occ_views.specs.declared.refined.Refined.TheVariants.{Yes, No}
-use Rattle.occ_views.specs.Views.{Values, IsWithin}
-use Rattle.occ_views.specs.Programs.{behaviours_of, Refines, IsRefinement}
-use Rattle.occ_views.proofs.Alike.{turned, within_alike}
-use Rattle.occ_views.proofs.One.{refinement_one}
-use Rattle.occ_refine.specs.Nodes.{behaviours_at}
-use Rattle.occ_verdict.specs.Verdict.{IsVerdictOf}
-use Rattle.occ_verdict.proofs.Outside.{alike, assignment_there}
-use Rattle.occ_norm_frame.proofs.Bits.{pow_more}
+use Rattle.occ_views.specs.Programs.{behaviours_of, AreEvents, LastIsWithin, IsOfInterface, IsDifference, Refines, IsRefinement}
+use Rattle.occ_views.proofs.Differences.{difference_excess}
+use Rattle.occ_views.proofs.One.{excess_more}
+use Rattle.occ_verdict.specs.Verdict.{IsFirst, IsVerdictOf}
 
-module _ (w : World) (ps : List (Name × Kind)) (few : bits_of_scope ps ≤ 64) (p q : Tree) (one two : MapId) (first : IsRoot w ps p one) (second : IsRoot w ps q two) where
-  small : (x : ℕ) → x < 2 ^ bits_of_scope ps → x < 2 ^ 64
-  small x h = pow_more (bits_of_scope ps) 64 x few h
+-- ---- states
+-- a state of the interface gives each variable a value of its width
+abbrev FitsAt : List (Name × Kind) → List (Name × ℕ) → ℕ → Width → Type 0
+FitsAt ps s x width = variable_width (environment ps) x ≡ Some width → values s x < 2 ^ bits_of width
 
-  -- nodes that do the same are within one another
-  refines_from : MeanTheSame w one two → Refines ps p q
-  refines_from means s is =
-      let z = assignment_there ps s is in
-      let h : z.0 < 2 ^ 64 = small z.0 z.1 in
-      let m = first.over.has.nodes z.0 h in
-      let n = second.over.has.nodes z.0 h in
-      let both = means z.0 m.0 n.0 h m.1 n.1 in
-      let within : IsWithin (behaviours_at w ps n.0) (behaviours_at w ps m.0) = record {
-        fails = λ t X k. both.same_fails t X ∙ k;
-        ends = λ t u v. (v.0, v.1, v.2, both.same_ends t v.0 (small v.0 v.1) ∙ v.3);
-      } in
-      subst (λ (u : Values). IsWithin (behaviours_of ps q u) (behaviours_of ps p u)) (sym z.2)
-      (within_alike (behaviours_at w ps m.0) (behaviours_at w ps n.0) (behaviours_of ps p (state_at ps z.0)) (behaviours_of ps q (state_at ps z.0))
-      (alike w ps few p one first z.0 m.0 z.1 m.1) (alike w ps few q two second z.0 n.0 z.1 n.1) within)
+past_channel : (ps : List (Name × Kind)) (s : List (Name × ℕ)) (w : Width) (d : Option Dir) (x : ℕ) (width : Width) (b : Bool)
+    → FitsAt ps s x width → variable_kind (cond b (Some (Chan w d)) (environment ps x)) ≡ Some width → values s x < 2 ^ bits_of width
+past_channel ps s w d x width true again k = absurd (none-some width k)
+past_channel ps s w d x width false again k = again k
 
-  module _ (refine : Refines ps p q) (x : ℕ) (m n : NodeId) (h : x < 2 ^ bits_of_scope ps) (hm : value w.maps one x ≡ Some m) (hn : value w.maps two x ≡ Some n) where
-    within_nodes : IsWithin (behaviours_at w ps n) (behaviours_at w ps m)
-    within_nodes = within_alike (behaviours_of ps p (state_at ps x)) (behaviours_of ps q (state_at ps x)) (behaviours_at w ps m) (behaviours_at w ps n)
-        (turned (behaviours_at w ps m) (behaviours_of ps p (state_at ps x)) (alike w ps few p one first x m h hm))
-        (turned (behaviours_at w ps n) (behaviours_of ps q (state_at ps x)) (alike w ps few q two second x n h hn))
-        (refine (state_at ps x) (listed_fits 0 ps x))
+past_variable : (ps : List (Name × Kind)) (vs : List (Name × ℕ)) (w : Width) (v x : ℕ) (width : Width) (b : Bool) → v < 2 ^ bits_of w
+    → FitsAt ps vs x width → variable_kind (cond b (Some (Var w)) (environment ps x)) ≡ Some width → cond b v (values vs x) < 2 ^ bits_of width
+past_variable ps vs w v x width true small again k = subst (λ u. v < 2 ^ bits_of u) (same_Some w width k) small
+past_variable ps vs w v x width false small again k = again k
 
-    -- an end of the second is one of the first
-    pub end_too : (t : List Event) (z : ℕ) → z < 2 ^ bits_of_scope ps → ends w n t z ≡ true → ends w m t z ≡ true
-    end_too t z k e =
-        let v = within_nodes.ends t (state_at ps z) (z, k, refl, e) in
-        let one_place : v.0 ≡ z = sym (mod-eq_of_lt v.1) ∙ same ps v.0 z (sym v.2) ∙ mod-eq_of_lt k in
-        sym (ap (ends w m t) one_place) ∙ v.3
+states_are : (ps : List (Name × Kind)) (s : List (Name × ℕ)) → is_state ps s ≡ true → (x : ℕ) (width : Width) → FitsAt ps s x width
+states_are [] s h x width e = absurd (none-some width e)
+states_are ((n, Chan w d) ∷ ps) s h x width e = past_channel ps s w d x width (x == n.0) (states_are ps s h x width) e
+states_are ((n, Var w) ∷ ps) [] h x width e = absurd (false≢true h)
+states_are ((n, Var w) ∷ ps) (v ∷ vs) h x width e =
+    let p = and_parts (v.0.0 == n.0 && nat_lt v.1 (2 ^ bits_of w)) (is_state ps vs) h in
+    let q = and_parts (v.0.0 == n.0) (nat_lt v.1 (2 ^ bits_of w)) p.0 in
+    subst (λ m. cond (x == m) v.1 (values vs x) < 2 ^ bits_of width) (sym (eqb-true v.0.0 n.0 q.0))
+    (past_variable ps vs w v.1 x width (x == n.0) (ltb-true v.1 (2 ^ bits_of w) q.1) (states_are ps vs p.1 x width) e)
 
-    pub fail_too : (t : List Event) (X : Event → Bool) → fails w n t X ≡ true → fails w m t X ≡ true
-    fail_too t X e = within_nodes.fails t X e
+module _ (ps : List (Name × Kind)) where
+  pub turned_same : (p q : Tree) → SAME (environment ps) p q → SAME (environment ps) q p
+  turned_same p q h = record {
+    same_failures = λ s t X state within. let both = h.same_failures s t X state within in (both.1, both.0);
+    same_ends = λ s t u state. let both = h.same_ends s t u state in (both.1, both.0);
+  }
 
-module _ (w : World) (ps : List (Name × Kind)) (few : bits_of_scope ps ≤ 64) (p q : Tree) (one two : MapId) (first : IsRoot w ps p one) (second : IsRoot w ps q two)
-    (bits_one : (x : ℕ) (a : NodeId) → x < 2 ^ 64 → value w.maps one x ≡ Some a → IsOfNames w ps a) (bits_two : (x : ℕ) (a : NodeId) → x < 2 ^ 64 → value w.maps two x ≡ Some a → IsOfNames w ps a)
-    (low_one : (x : ℕ) → x < 2 ^ 64 → value w.maps one x ≡ value w.maps one (x % 2 ^ bits_of_scope ps)) (low_two : (x : ℕ) → x < 2 ^ 64 → value w.maps two x ≡ value w.maps two (x % 2 ^ bits_of_scope ps)) where
-  means_from : Refines ps p q → Refines ps q p → MeanTheSame w one two
-  means_from there back x m n h hm hn =
-      let y : ℕ = x % 2 ^ bits_of_scope ps in
-      let k : y < 2 ^ bits_of_scope ps = mod-lt x (pow_pos (bits_of_scope ps)) in
-      let at_m : value w.maps one y ≡ Some m = sym (low_one x h) ∙ hm in
-      let at_n : value w.maps two y ≡ Some n = sym (low_two x h) ∙ hn in
-      record {
-        same_fails = λ t X. same_truth (fails w m t X) (fails w n t X) (fail_too w ps few q p two one second first back y n m k at_n at_m t X) (fail_too w ps few p q one two first second there y m n k at_m at_n t X);
-        same_ends = λ t z hz.
-            let u : ℕ = z % 2 ^ bits_of_scope ps in
-            let l : u < 2 ^ bits_of_scope ps = mod-lt z (pow_pos (bits_of_scope ps)) in
-            (bits_one x m h hm).bits t z hz
-            ∙ same_truth (ends w m t u) (ends w n t u) (end_too w ps few q p two one second first back y n m k at_n at_m t u l) (end_too w ps few p q one two first second there y m n k at_m at_n t u l)
-            ∙ sym ((bits_two x n h hn).bits t z hz);
-      }
+  events_in_scope : (events : List Event) → AreEvents ps events → IsInScope (environment ps) (among events)
+  events_in_scope events all e h =
+      let inside = all_at cmp_total event_exact (in_interface (environment ps)) events e all (sym (among_is events e) ∙ h) in
+      (and_parts (in_scope (environment ps) e) (allows (environment ps e.chan.0) e.dir) inside).0
 
-module _ (params : List (Name × Kind)) (p q : Tree) (v : Verdict) (h : IsVerdictOf params p q v) where
-  few_bits : bits_of_scope params ≤ 64
-  few_bits = subst (λ (ps : List (Name × Kind)). bits_of_scope ps ≤ 64) h.one_params h.comparable.few
+  -- programs that mean the same have no behaviour of the interface that only one has
+  pub no_other : (p q : Tree) (b : Behaviour) → SAME (environment ps) p q → IsOfInterface ps b → IsOnlyOf ps p q b → ⊥
+  no_other p q b same within only = only.no_member (record { state = within.state; stands = over b.last within.last only.member.stands })
+    where
+      state : IsState (environment ps) (values b.state)
+      state = states_are ps b.state within.state
 
-  within_of : (ps : List (Name × Kind)) (a : NodeId) → ps ≡ params → IsOfNames h.world ps a → IsOfNames h.world params a
-  within_of ps a e = subst (λ (l : List (Name × Kind)). IsOfNames h.world l a) e
+      over : (last : Last) → LastIsWithin ps last → Stands ps p b last → Stands ps q b last
+      over (Refuses events) h k = (same.same_failures (values b.state) b.trace (among events) state (events_in_scope events h)).0 k
+      over (Ends s) h k = (k.0, (same.same_ends (values b.state) b.trace (values s) state).0 k.1)
 
-  low_of : (ps : List (Name × Kind)) (map : MapId) (x : ℕ) → ps ≡ params → value h.world.maps map x ≡ value h.world.maps map (x % 2 ^ bits_of_scope ps) → value h.world.maps map x ≡ value h.world.maps map (x % 2 ^ bits_of_scope params)
-  low_of ps map x e = subst (λ (l : List (Name × Kind)). value h.world.maps map x ≡ value h.world.maps map (x % 2 ^ bits_of_scope l)) e
+  -- so the verdict on these is Same
+  pub same_from : (p q : Tree) (v : Verdict) → IsFirst ps p q v → SAME (environment ps) p q → v ≡ Same
+  same_from p q Same h same = refl
+  same_from p q (Differ b First) h same = absurd (no_other p q b same h.within h.only)
+  same_from p q (Differ b Second) h same = absurd (no_other q p b (turned_same p q same) h.within h.only)
 
-  pub both_ways_same : Refines params p q → Refines params q p → v ≡ Same
-  both_ways_same there back = h.alike.1 (means_from h.world params few_bits p q h.one.states h.two.states h.first h.second
-      (λ x a k e. within_of h.one.params a h.one_params (h.first_within.nodes x a k e)) (λ x a k e. within_of h.two.params a h.two_params (h.second_within.nodes x a k e))
-      (λ x k. low_of h.one.params h.one.states x h.one_params (h.first_within.map x k)) (λ x k. low_of h.two.params h.two.states x h.two_params (h.second_within.map x k)) there back)
+  -- ---- both ways
+  -- where all that p does q does, nothing tells them apart for p
+  no_difference : (p q : Tree) (b : Behaviour) → Refines ps q p → IsDifference ps p q b → ⊥
+  no_difference p q b refines h = excess_more ps b.trace b.last (behaviours_of ps q b.state) (behaviours_of ps p b.state)
+      (difference_excess ps b.trace b.last (behaviours_of ps p b.state) (behaviours_of ps q b.state) h.first)
+      (refines b.state h.within.state)
 
-  turned_means : (w : World) (a b : MapId) → MeanTheSame w a b → MeanTheSame w b a
-  turned_means w a b means x m n k e f = let both = means x n m k f e in record { same_fails = λ t X. sym (both.same_fails t X); same_ends = λ t z l. sym (both.same_ends t z l) }
+  same_both : (p q : Tree) (v : Verdict) → IsFirst ps p q v → Refines ps p q → Refines ps q p → v ≡ Same
+  same_both p q Same h there back = refl
+  same_both p q (Differ b First) h there back = absurd (no_difference p q b back h)
+  same_both p q (Differ b Second) h there back = absurd (no_difference q p b there h)
 
-  pub same_both_ways : v ≡ Same → Refines params p q × Refines params q p
-  same_both_ways e =
-      let means = h.alike.0 e in (
-        refines_from h.world params few_bits p q h.one.states h.two.states h.first h.second means,
-        refines_from h.world params few_bits q p h.two.states h.one.states h.second h.first (turned_means h.world h.one.states h.two.states means),
-      )
+  yes_from : (p q : Tree) (x : Refined) → SAME (environment ps) p q → IsRefinement ps p q x → x ≡ Yes
+  yes_from p q Yes same h = refl
+  yes_from p q (No b) same h = absurd (no_other q p b (turned_same p q same) h.within h.only)
 
-yes_from : (params : List (Name × Kind)) (p q : Tree) (x : Refined) → x ≡ Yes → IsRefinement params p q x → Refines params p q
-yes_from params p q x e h = subst (λ (r : Refined). IsRefinement params p q r) e h
+  refines_by : (p q : Tree) (x : Refined) → x ≡ Yes → IsRefinement ps p q x → Refines ps p q
+  refines_by p q x e h = subst (λ (r : Refined). IsRefinement ps p q r) e h
 
-pub refined_both_ways : (params : List (Name × Kind)) (p q : Tree) (x y : Refined) (v : Verdict) → IsVerdictOf params p q v → IsRefinement params p q x → IsRefinement params q p y → ((x ≡ Yes) × (y ≡ Yes)) ↔ (v ≡ Same)
-refined_both_ways params p q x y v h k l = (
-  λ e. both_ways_same params p q v h (yes_from params p q x e.0 k) (yes_from params q p y e.1 l),
-  λ e. let both = same_both_ways params p q v h e in (refinement_one params p q x Yes k both.0, refinement_one params q p y Yes l both.1),
-)
+  pub refined_both_ways : (p q : Tree) (x y : Refined) (v : Verdict) → IsVerdictOf ps p q v → IsRefinement ps p q x
+      → IsRefinement ps q p y → ((x ≡ Yes) × (y ≡ Yes)) ↔ (v ≡ Same)
+  refined_both_ways p q x y v h k l = (
+    λ e. same_both p q v h.first (refines_by p q x e.0 k) (refines_by q p y e.1 l),
+    λ e. let same = h.same.0 e in (yes_from p q x same k, yes_from q p y (turned_same p q same) l),
+  )

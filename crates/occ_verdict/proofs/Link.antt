@@ -1,35 +1,23 @@
 -- From the roots of two programs to the programs.
-use Rattle.std.proofs.Common.{◌≡◌, ◌<◌, ◌≤◌, ◌^◌, ◌/◌, ◌%◌, ◌+◌, ◌↔◌, inl, inr, ℕ, Bool, true, false, cond, List, [], ◌∷◌, Option, Some, None, is_some, Result, Ok, Err, IfOk, refl, sym, ap, ◌∙◌, subst, arith}
-use Rattle.std.proofs.lemmas.Bool.{and_from, eq-eqb, lt-ltb}
-use Rattle.std.proofs.lemmas.Nat.{pow_pos}
-use Rattle.std.proofs.Math.Nat.{mod-lt}
-use Rattle.std.specs.List.{list_all}
-use Rattle.std.specs.Option.{IsSomeAnd}
+use Rattle.std.proofs.Common.{◌≡◌, ◌<◌, ◌≤◌, ◌^◌, ◌↔◌, ℕ, Bool, true, false, cond, List, [], ◌∷◌, Option, Some, None, is_some, Result, Ok, Err, IfOk, refl, sym, ap, ◌∙◌, subst, arith}
 use mathlib.Core.Path.{fun_ext}
 use Rattle.occ_base.specs.declared.event.Event.{Event}
 use Rattle.occ_base.specs.declared.names.Name.{Name}
 use Rattle.occ_base.specs.declared.width.Width.{Width}
-use Rattle.occ_base.specs.Width.{bits_of}
 use Rattle.occ_syntax.specs.declared.scope.Kind.{Kind}
-use Rattle.occ_syntax.specs.declared.scope.Kind.TheVariants.{Var, Chan}
 use Rattle.occ_syntax.specs.Counts.{bits_of_scope}
 use Rattle.occ_syntax.specs.Meaning.{ended, refusing, fails as part_fails, ends as part_ends}
 use Rattle.occ_syntax.specs.Same.{SAME}
-use Rattle.occ_syntax.specs.Scopes.{EventSet, IsState, Trace, Values, among, environment, in_interface, values, variable_width, with_value}
+use Rattle.occ_syntax.specs.Scopes.{EventSet, IsState, Trace, Values, environment, values, variable_width}
 use Rattle.occ_syntax.specs.Tree.{Tree}
 use Rattle.occ_syntax.specs.Types.{scope_kept, types_kept}
-use Rattle.occ_meaning.specs.Foundation.{AreWithin}
 use Rattle.occ_meaning.proofs.Frame.{written_in_scope}
 use Rattle.occ_meaning.proofs.Frame.{part_value}
-use Rattle.occ_meaning.proofs.Interface.{part_in_interface}
 use Rattle.occ_meaning.proofs.States.{part_states}
-use Rattle.occ_bits.specs.Layout.{assignment_of, environment_in, entry_of, laid_out, state_of, scope_in}
-use Rattle.occ_bits.proofs.Laid.{found_width, laid_bits, laid_width, layout_of, missing}
-use Rattle.occ_bits.proofs.Arithmetic.{low_bit}
+use Rattle.occ_bits.specs.Layout.{assignment_of, laid_out, state_of}
 use Rattle.occ_mdd.specs.Maps.{value}
 use Rattle.occ_mdd.specs.declared.map.MapId.{MapId}
-use Rattle.occ_node.specs.Canonical.{HasTrace}
-use Rattle.occ_node.specs.World.{IsNode, ends}
+use Rattle.occ_node.specs.World.{ends}
 use Rattle.occ_node.specs.declared.node.NodeId.{NodeId}
 use Rattle.occ_node.specs.declared.root.Root.{Root}
 use Rattle.occ_node.specs.declared.world.World.{World}
@@ -40,28 +28,31 @@ use Rattle.occ_behaviour.specs.declared.behaviour.Side.{Side}
 use Rattle.occ_behaviour.specs.declared.behaviour.Side.TheVariants.{First, Second}
 use Rattle.occ_behaviour.specs.declared.behaviour.Verdict.{Verdict}
 use Rattle.occ_behaviour.specs.declared.behaviour.Verdict.TheVariants.{Same, Differ}
-use Rattle.occ_behaviour.specs.Members.{IsRight, Stands as StandsIn}
+use Rattle.occ_behaviour.specs.Members.{IsRight}
 use Rattle.occ_behaviour.specs.States.{is_state}
-use Rattle.occ_compare.specs.Interface.{AreComparable, HasNodes as HasAllNodes, IsOfInterface}
-use Rattle.occ_compare.specs.Places.{state_at, values_at}
+use Rattle.occ_compare.specs.Interface.{AreComparable, IsOfInterface}
+use Rattle.occ_compare.specs.Places.{state_at}
 use Rattle.occ_base.specs.declared.memory.Memory.{Memory}
-use Rattle.occ_norm_maps.specs.Maps.{Extends}
-use Rattle.occ_compare.specs.Verdicts.{BelongsToOne, IsFirst, IsMember, IsPrintable, MeanTheSame, Stands}
-use Rattle.occ_norm_frame.specs.After.{AgreeBelow}
-use Rattle.occ_norm_frame.specs.Placed.{IsFrame}
-use Rattle.occ_bits.proofs.States.{are_states, state_fits}
-use Rattle.occ_norm_frame.proofs.After.{map_node, over-extends, same_truth, state_below, value_was, zero_off}
+use Rattle.occ_compare.specs.Verdicts.{BelongsToOne, IsFirst as IsRowFirst, IsMember, IsPrintable, MeanTheSame, Stands}
+use Rattle.occ_compare.specs.Walk.{IsFirstDifference as IsRowDifference}
+use Rattle.occ_compare.proofs.Found.{node_at}
+use Rattle.occ_views.specs.Difference.{IsFirstDifference}
+use Rattle.occ_refine.specs.Nodes.{behaviours_at}
 use Rattle.occ_norm_frame.proofs.Bits.{pow_more}
 use Rattle.occ_norm.specs.Root.{IsRoot}
-use Rattle.occ_verdict.specs.Verdict.{IsVerdictOf}
+use Rattle.occ_verdict.specs.Verdict.{IsFirst, IsVerdictOf}
+use Rattle.occ_verdict.proofs.Both.{same_from}
+use Rattle.occ_verdict.proofs.Outside.{difference_of}
+use Rattle.occ_verdict.proofs.Walked.{walk_is, turned_walk}
 use Rattle.occ_meaning.proofs.Overlay.{does_over, over}
-use Rattle.occ_norm.proofs.Rooted.{values_state, listed_fits, state_is, settled, assignment_lt, put_back, of_interface, all_nodes, stands_out, IsPlaced, stands_in, root-extends}
+use Rattle.occ_norm.proofs.Rooted.{listed_fits, state_is, settled, assignment_lt, put_back, of_interface, all_nodes, stands_out, IsPlaced, stands_in}
 
 module _ (w : World) (params : List (Name × Kind)) (scope : scope_kept params ≡ true) (few : bits_of_scope params ≤ 16) where
   -- ---- two programs
   module _ (p q : Tree) (hp : types_kept p (environment params) ≡ true) (hq : types_kept q (environment params) ≡ true) (one two : MapId) (first : IsRoot w params p one) (second : IsRoot w params q two)
       (same_nodes : MeanTheSame w one two) where
-    fails_too : (s : Values) (t : Trace) (X : EventSet) → IsState (environment params) s → part_fails (environment params) p s t X → part_fails (environment params) q s t X
+    fails_too : (s : Values) (t : Trace) (X : EventSet) → IsState (environment params) s → part_fails (environment params) p s t X
+        → part_fails (environment params) q s t X
     fails_too s t X state d =
         let x = assignment_of (laid_out 0 params) s in
         let h = assignment_lt w params scope few s state in
@@ -72,7 +63,8 @@ module _ (w : World) (params : List (Name × Kind)) (scope : scope_kept params �
         subst (λ v. part_fails (environment params) q v t X) (ap (over (environment params) s) (sym (settled w params scope few s state)) ∙ put_back w params scope few s)
         (does_over (environment params) q hq s (state_of (laid_out 0 params) x) t (refusing X) there)
 
-    kept_value : (s s' : Values) (t : Trace) → part_ends (environment params) p s t s' → over (environment params) s (over (environment params) (λ z. 0) s') ≡ s'
+    kept_value : (s s' : Values) (t : Trace) → part_ends (environment params) p s t s'
+        → over (environment params) s (over (environment params) (λ z. 0) s') ≡ s'
     kept_value s s' t d = fun_ext (λ y. at y (variable_width (environment params) y) refl)
       where
         at : (y : ℕ) (o : Option Width) → variable_width (environment params) y ≡ o
@@ -81,7 +73,8 @@ module _ (w : World) (params : List (Name × Kind)) (scope : scope_kept params �
         at y None e = ap (λ k. cond (is_some k) (cond (is_some k) (s' y) 0) (s y)) e
             ∙ sym ((part_value p (environment params) hp y (written_in_scope p (environment params) hp y e)).value (environment params) s t s' d)
 
-    ends_too : (s : Values) (t : Trace) (s' : Values) → IsState (environment params) s → part_ends (environment params) p s t s' → part_ends (environment params) q s t s'
+    ends_too : (s : Values) (t : Trace) (s' : Values) → IsState (environment params) s → part_ends (environment params) p s t s'
+        → part_ends (environment params) q s t s'
     ends_too s t s' state d =
         let state' = (part_states p (environment params) hp).state s t s' state d in
         let x = assignment_of (laid_out 0 params) s in
@@ -137,6 +130,37 @@ module _ (w : World) (params : List (Name × Kind)) (scope : scope_kept params �
   right Same h k = all_same (h refl)
   right (Differ b side) h k = belongs b side k
 
+  -- ---- the first difference
+  small_start : (x : ℕ) → x < 2 ^ bits_of_scope params → x < 2 ^ 64
+  small_start x h = pow_more (bits_of_scope params) 64 x (omega (arith, few)) h
+
+  -- two rows that differ so at an assignment have that first difference as nodes
+  walk_of : (r s : Tree) (hr : types_kept r (environment params) ≡ true) (hs : types_kept s (environment params) ≡ true) (a b : MapId)
+      → IsRoot w params r a → IsRoot w params s b
+      → (x : ℕ) (m n : NodeId) (t : Trace) (last : Last) → x < 2 ^ bits_of_scope params → value w.maps a x ≡ Some m
+      → value w.maps b x ≡ Some n
+      → IsRowDifference w params (state_at params) m n t last First
+      → IsFirstDifference params (behaviours_at w params m) (behaviours_at w params n) t last
+  walk_of r s hr hs a b ra rb x m n t last h hm hn walk =
+      let k : x < 2 ^ 64 = small_start x h in
+      walk_is w params (omega (arith, few)) scope t last m n
+      (node_at w a x m (all_nodes w params scope few r hr a ra) k hm) (node_at w b x n (all_nodes w params scope few s hs b rb) k hn)
+      ((of_interface w params scope few r hr a ra).nodes x m k hm) ((of_interface w params scope few s hs b rb).nodes x n k hn) walk
+
+  pub first_of : (v : Verdict) → IsRowFirst w (record { params = params; states = one }) (record { params = params; states = two }) v → IsRight params p q v → IsFirst params p q v
+  first_of Same h right = tt
+  first_of (Differ b First) h right =
+      difference_of w params (omega (arith, few)) p q one two first second
+      (of_interface w params scope few p hp one first).nodes (of_interface w params scope few q hq two second).nodes
+      b h.start h.first h.second h.begins.within h.begins.state h.begins.first h.begins.second h.before
+      (walk_of p q hp hq one two first second h.start h.first h.second b.trace b.last h.begins.within h.begins.first h.begins.second h.walk) right
+  first_of (Differ b Second) h right =
+      difference_of w params (omega (arith, few)) q p two one second first
+      (of_interface w params scope few q hq two second).nodes (of_interface w params scope few p hp one first).nodes
+      b h.start h.second h.first h.begins.within h.begins.state h.begins.second h.begins.first (λ y k less. sym (h.before y k less))
+      (walk_of q p hq hp two one second first h.start h.second h.first b.trace b.last h.begins.within h.begins.second h.begins.first
+      (turned_walk w params (state_at params) b.trace b.last h.first h.second h.walk)) right
+
 -- ---- what is decided
 record_is : (a : Root) (params : List (Name × Kind)) → a.params ≡ params → a ≡ record { params = params; states = a.states }
 record_is a params e = λ i. record { params = e i; states = a.states }
@@ -157,29 +181,24 @@ module _ (w : World) (params : List (Name × Kind)) (scope : scope_kept params �
   of_second : IsOfInterface w b
   of_second = subst (IsOfInterface w) (sym (record_is b params eb)) (of_interface w params scope few q hq b.states second)
 
-  pub decided : (r : Result Verdict Memory) → IfOk r (λ v. (v ≡ Same) ↔ MeanTheSame w a.states b.states) → IfOk r (λ v. IsOfInterface w a → IsOfInterface w b → IsMember w a b v) → IfOk r (IsRight params p q)
+  pub decided : (r : Result Verdict Memory) → IfOk r (λ v. (v ≡ Same) ↔ MeanTheSame w a.states b.states)
+      → IfOk r (λ v. IsOfInterface w a → IsOfInterface w b → IsMember w a b v) → IfOk r (IsRight params p q)
   decided (Ok v) means member =
       right w params scope few p q hp hq a.states b.states first second v means.0
       (subst (λ x. IsMember w x (record { params = params; states = b.states }) v) (record_is a params ea) (subst (λ y. IsMember w a y v) (record_is b params eb) (member of_first of_second)))
   decided (Err m) means member = tt
 
-  pub named : (r : Result Verdict Memory) → IfOk r (λ v. IsOfInterface w a → IsOfInterface w b → IsPrintable a.params v) → IfOk r (IsPrintable params)
+  pub named : (r : Result Verdict Memory) → IfOk r (λ v. IsOfInterface w a → IsOfInterface w b → IsPrintable a.params v)
+      → IfOk r (IsPrintable params)
   named (Ok v) printable = subst (λ ps. IsPrintable ps v) ea (printable of_first of_second)
   named (Err m) printable = tt
 
-  pub placed : (r : Result Verdict Memory) → IfOk r (λ v. (v ≡ Same) ↔ MeanTheSame w a.states b.states) → IfOk r (λ v. IsOfInterface w a → IsOfInterface w b → IsFirst w a b v) → IfOk r (IsVerdictOf params p q)
-  placed (Ok v) means is = record {
-    world = w;
-    one = a;
-    two = b;
-    one_params = ea;
-    two_params = eb;
-    first = first;
-    second = second;
-    comparable = comparable;
-    first_within = of_first;
-    second_within = of_second;
-    alike = means;
-    is = is of_first of_second;
-  }
-  placed (Err m) means is = tt
+  pub placed : (r : Result Verdict Memory) → IfOk r (λ v. (v ≡ Same) ↔ MeanTheSame w a.states b.states)
+      → IfOk r (λ v. IsOfInterface w a → IsOfInterface w b → IsMember w a b v)
+      → IfOk r (λ v. IsOfInterface w a → IsOfInterface w b → IsRowFirst w a b v) → IfOk r (IsVerdictOf params p q)
+  placed (Ok v) means member is =
+      let right : IsRight params p q v = decided (Ok v) means member in
+      let found = first_of w params scope few p q hp hq a.states b.states first second v
+      (subst (λ x. IsRowFirst w x (record { params = params; states = b.states }) v) (record_is a params ea) (subst (λ y. IsRowFirst w a y v) (record_is b params eb) (is of_first of_second))) right in
+      record { same = (λ e. subst (IsRight params p q) e right, same_from params p q v found); first = found }
+  placed (Err m) means member is = tt

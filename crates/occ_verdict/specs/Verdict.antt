@@ -1,28 +1,22 @@
--- Which verdict two programs have: on roots of the two in one world.
+-- Which verdict two programs have.
 use Rattle.std.specs.Prelude.{◌≡◌, ◌↔◌, List}
 use Rattle.occ_base.specs.declared.names.Name.{Name}
 use Rattle.occ_syntax.specs.declared.scope.Kind.{Kind}
+use Rattle.occ_syntax.specs.Same.{SAME}
+use Rattle.occ_syntax.specs.Scopes.{environment}
 use Rattle.occ_syntax.specs.Tree.{Tree}
+use Rattle.occ_behaviour.specs.declared.behaviour.Side.TheVariants.{First, Second}
 use Rattle.occ_behaviour.specs.declared.behaviour.Verdict.{Verdict}
-use Rattle.occ_behaviour.specs.declared.behaviour.Verdict.TheVariants.{Same}
-use Rattle.occ_node.specs.declared.root.Root.{Root}
-use Rattle.occ_node.specs.declared.world.World.{World}
-use Rattle.occ_compare.specs.Interface.{AreComparable, IsOfInterface}
-use Rattle.occ_compare.specs.Verdicts.{IsFirst, MeanTheSame}
-use Rattle.occ_norm.specs.Root.{IsRoot}
+use Rattle.occ_behaviour.specs.declared.behaviour.Verdict.TheVariants.{Same, Differ}
+use Rattle.occ_views.specs.Programs.{IsDifference}
 
--- In some world both programs have roots, and the verdict is the one on these: Same exactly where they mean the same, and else the
--- first difference by the fixed walk. In which world doesn't matter (`one_verdict`).
+-- the behaviour is the first difference of the programs, and the side has it
+abbrev pub IsFirst : List (Name × Kind) → Tree → Tree → Verdict → Type 0
+IsFirst params p q Same = Unit {0}
+IsFirst params p q (Differ b First) = IsDifference params p q b
+IsFirst params p q (Differ b Second) = IsDifference params q p b
+
+-- Same exactly where the programs mean the same in their interface, and else their first difference.
 pub record IsVerdictOf (params : List (Name × Kind)) (p q : Tree) (verdict : Verdict) : Type 0 where
-  pub world : World
-  pub one : Root
-  pub two : Root
-  pub one_params : one.params ≡ params
-  pub two_params : two.params ≡ params
-  pub first : IsRoot world params p one.states
-  pub second : IsRoot world params q two.states
-  pub comparable : AreComparable world one two
-  pub first_within : IsOfInterface world one
-  pub second_within : IsOfInterface world two
-  pub alike : (verdict ≡ Same) ↔ MeanTheSame world one.states two.states
-  pub is : IsFirst world one two verdict
+  pub same : (verdict ≡ Same) ↔ SAME (environment params) p q
+  pub first : IsFirst params p q verdict

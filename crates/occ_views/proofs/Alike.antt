@@ -36,7 +36,7 @@ offers_alike a c h e o = (
       o.1,
 )
 
-stands_first : (b d : Behaviours) → AreAlike b d → (last : Last) → StandsFirst b last → StandsFirst d last
+pub stands_first : (b d : Behaviours) → AreAlike b d → (last : Last) → StandsFirst b last → StandsFirst d last
 stands_first b d k (Ends s) w = ((k.ends [] s).0 w.0, λ u less p. w.1 u less ((k.ends [] u).1 p))
 stands_first b d k (Refuses events) w = (w.0, λ s p. w.1 s ((k.ends [] s).1 p))
 
@@ -49,6 +49,15 @@ module _ (ps : List (Name × Kind)) (a b c d : Behaviours) (h : AreAlike a c) (k
 
   offers_within : OffersWithin b a → OffersWithin d c
   offers_within w e p = offers_alike a c h e (w e (offers_alike d b (turned b d k) e p))
+
+  pub refusal_alike : (set events : List Event) → IsRefusal ps a b set events → IsRefusal ps c d set events
+  refusal_alike set events w = record {
+    listed = w.listed;
+    members = λ e. (
+      λ m. (⊎_elim (λ (o : Offers a e). inl (offers_alike a c h e o)) (λ (o : Offers b e). inr (offers_alike b d k e o)) ((w.members e).0 m).0, ((w.members e).0 m).1),
+      λ m. (w.members e).1 (⊎_elim (λ (o : Offers c e). inl (offers_alike c a (turned a c h) e o)) (λ (o : Offers d e). inr (offers_alike d b (turned b d k) e o)) m.0, m.1),
+    );
+  }
 
   stops : (last : Last) → Stops ps a b last → Stops ps c d last
   stops (Ends s) w = record {
@@ -65,13 +74,7 @@ module _ (ps : List (Name × Kind)) (a b c d : Behaviours) (h : AreAlike a c) (k
       other = λ p. w.2.other ((h.fails [] (λ e. not (in_set w.1 e))).1 p);
       before = λ s listed less p. (h.fails [] (λ e. not (in_set s e))).0 (w.2.before s listed less ((k.fails [] (λ e. not (in_set s e))).1 p));
     },
-    record {
-      listed = w.3.listed;
-      members = λ e. (
-        λ m. (⊎_elim (λ (o : Offers a e). inl (offers_alike a c h e o)) (λ (o : Offers b e). inr (offers_alike b d k e o)) ((w.3.members e).0 m).0, ((w.3.members e).0 m).1),
-        λ m. (w.3.members e).1 (⊎_elim (λ (o : Offers c e). inl (offers_alike c a (turned a c h) e o)) (λ (o : Offers d e). inr (offers_alike d b (turned b d k) e o)) m.0, m.1),
-      );
-    },
+    refusal_alike w.1 events w.3,
   )
 
   goes_alone : (e : Event) (last : Last) → GoesAlone ps a b e last → GoesAlone ps c d e last

@@ -1,4 +1,5 @@
 pub mod Orders
 pub mod Alike
 pub mod One
+pub mod Differences
 pub mod Named

@@ -35,7 +35,8 @@ events_named n ps all (e ∷ events) h =
     let q = and_parts (in_scope (environment ps) e) (allows (environment ps e.chan.0) e.dir) p.0 in
     (channel_named n ps all e.chan.0 e.value q.0, events_named n ps all events p.1)
 
-abbrev LastWithin : List (Name × Kind) → Last → Type 0
+-- the refused events are of the interface
+abbrev pub LastWithin : List (Name × Kind) → Last → Type 0
 LastWithin ps (Refuses events) = list_all (in_interface (environment ps)) events ≡ true
 LastWithin ps (Ends state) = Unit {0}
 
@@ -81,7 +82,7 @@ module _ (ps : List (Name × Kind)) where
   last_alone b (Ends s) h = tt
   last_alone b (Refuses events) h = ap (list_all (in_interface (environment ps))) h.0
 
-  events_within : (t : Trace) (last : Last) (a b : Behaviours) → IsDown b → HasEvents a → HasEvents b → IsFirstExcess ps a b t last → (list_all (in_interface (environment ps)) t ≡ true) × LastWithin ps last
+  pub events_within : (t : Trace) (last : Last) (a b : Behaviours) → IsDown b → HasEvents a → HasEvents b → IsFirstExcess ps a b t last → (list_all (in_interface (environment ps)) t ≡ true) × LastWithin ps last
   events_within [] last a b down ha hb h = (refl, last_stops a b last ha hb h)
   events_within (e ∷ t) last a b down ha hb h = ⊎_elim
       (λ (k : (t ≡ []) × GoesAlone ps a b e last). (

@@ -135,21 +135,21 @@ module _ (ps : List (Name × Kind)) where
       step_one a b states e f t u l m (λ p q. one_excess t u l m (after a e) (after b e) (λ v s. states (e ∷ v) s) p q) h.2 k.2
 
 -- ---- one answer of programs
-same_behaviour : (x y : Behaviour) → x.state ≡ y.state → x.trace ≡ y.trace → x.last ≡ y.last → x ≡ y
+pub same_behaviour : (x y : Behaviour) → x.state ≡ y.state → x.trace ≡ y.trace → x.last ≡ y.last → x ≡ y
 same_behaviour x y e f g = λ i. record { state = e i; trace = f i; last = g i }
 
 module _ (ps : List (Name × Kind)) (p q : Tree) where
   excess_one : (x y : Behaviour) → IsExcess ps p q x → IsExcess ps p q y → x ≡ y
   excess_one x y h k =
-      let state : x.state ≡ y.state = one_state ps x.state y.state h.state k.state
-      (λ less. excess_more ps x.trace x.last (behaviours_of ps p x.state) (behaviours_of ps q x.state) h.first (k.before x.state h.state less))
-      (λ less. excess_more ps y.trace y.last (behaviours_of ps p y.state) (behaviours_of ps q y.state) k.first (h.before y.state k.state less)) in
+      let state : x.state ≡ y.state = one_state ps x.state y.state h.within.state k.within.state
+      (λ less. excess_more ps x.trace x.last (behaviours_of ps p x.state) (behaviours_of ps q x.state) h.first (k.before x.state h.within.state less))
+      (λ less. excess_more ps y.trace y.last (behaviours_of ps p y.state) (behaviours_of ps q y.state) k.first (h.before y.state k.within.state less)) in
       let one = one_excess ps x.trace y.trace x.last y.last (behaviours_of ps p x.state) (behaviours_of ps q x.state) (λ t s e. e.0) h.first
       (subst (λ (s : Values). IsFirstExcess ps (behaviours_of ps p s) (behaviours_of ps q s) y.trace y.last) (sym state) k.first) in
       same_behaviour x y state one.0 one.1
 
   no_excess : (x : Behaviour) → Refines ps p q → IsExcess ps p q x → ⊥
-  no_excess x h k = excess_more ps x.trace x.last (behaviours_of ps p x.state) (behaviours_of ps q x.state) k.first (h x.state k.state)
+  no_excess x h k = excess_more ps x.trace x.last (behaviours_of ps p x.state) (behaviours_of ps q x.state) k.first (h x.state k.within.state)
 
   pub refinement_one : (x y : Refined) → IsRefinement ps p q x → IsRefinement ps p q y → x ≡ y
   refinement_one Yes Yes h k = refl
@@ -169,14 +169,14 @@ stuck_one ps b t u h k = one_list ps t u (λ less. both_ways (is_lt (set_cmp ps 
 module _ (ps : List (Name × Kind)) (p : Tree) where
   deadlocks_one : (x y : Behaviour) → IsDeadlock ps p x → IsDeadlock ps p y → x ≡ y
   deadlocks_one x y h k =
-      let state : x.state ≡ y.state = one_state ps x.state y.state h.state k.state
-      (λ less. k.before x.state h.state less x.trace h.first.stuck)
-      (λ less. h.before y.state k.state less y.trace k.first.stuck) in
+      let state : x.state ≡ y.state = one_state ps x.state y.state h.within.state k.within.state
+      (λ less. k.before x.state h.within.state less x.trace h.first.stuck)
+      (λ less. h.before y.state k.within.state less y.trace k.first.stuck) in
       let trace : x.trace ≡ y.trace = stuck_one ps (behaviours_of ps p x.state) x.trace y.trace h.first (subst (λ (s : Values). IsFirstStuck ps (behaviours_of ps p s) y.trace) (sym state) k.first) in
       same_behaviour x y state trace (lasts_one ps x.last y.last h.last k.last)
 
   pub deadlock_one : (x y : Option Behaviour) → IsDeadlockAnswer ps p x → IsDeadlockAnswer ps p y → x ≡ y
   deadlock_one None None h k = refl
-  deadlock_one None (Some y) h k = absurd (h y.state k.state y.trace k.first.stuck)
-  deadlock_one (Some x) None h k = absurd (k x.state h.state x.trace h.first.stuck)
+  deadlock_one None (Some y) h k = absurd (h y.state k.within.state y.trace k.first.stuck)
+  deadlock_one (Some x) None h k = absurd (k x.state h.within.state x.trace h.first.stuck)
   deadlock_one (Some x) (Some y) h k = ap Some (deadlocks_one x y h k)

@@ -1,4 +1,5 @@
 pub mod Views
 pub mod Excess
+pub mod Difference
 pub mod Stuck
 pub mod Programs

@@ -48,4 +48,4 @@ returns-clause-verdict c =
     placed c.normalise-2.new.world left.params typed.scope typed.interface (tree left.body) (tree other.body) typed.types types c.in_ok-first.first c.in_ok-second.second c.in_ok-first.ensures.params (c.in_ok-second.ensures.params ∙ sym c.requires)
     (root-extends c.normalise.new.world c.normalise-2.new.world (record { grows = c.normalise-2.ensures.grows; maps = c.normalise-2.ensures.maps }) left.params (tree left.body) c.in_ok-first.first.states c.in_ok-first.ensures.root)
     (subst (λ ps. IsRoot c.normalise-2.new.world ps (tree other.body) c.in_ok-second.second.states) (sym c.requires) c.in_ok-second.ensures.root)
-    c.compare.result c.compare.ensures.means c.compare.ensures.first
+    c.compare.result c.compare.ensures.means c.compare.ensures.member c.compare.ensures.first
