@@ -6,4 +6,3 @@ mod generated;
 mod known;
 mod nform_read;
 mod print;
-mod tool_words;

@@ -27,10 +27,10 @@ use Rattle.occ_tool_run.specs.Accepts.{IsThere, IsAccepted, IsRefused, IsUnusabl
 use Rattle.occ_tool_run.specs.Answers.{Takes, refused, unusable, accepted, IsJudged, Judges}
 use Rattle.occ_tool_run.specs.Judged.{HasInterface, IsAcceptedFrom, IsRefusedFrom, IsRefusedFor, IsRefusalAnswer, IsSayable}
 
-pub there : (l : Loaded) (file : Option (List ℕ)) → IsLoaded most_bytes file l → IsThere file
-there (Bytes text) file h = (text.items, h.0)
-there TooLong None h = absurd h
-there TooLong (Some bytes) h = (bytes, refl)
+pub there : (most : ℕ) (l : Loaded) (file : Option (List ℕ)) → IsLoaded most file l → IsThere file
+there most (Bytes text) file h = (text.items, h.0)
+there most TooLong None h = absurd h
+there most TooLong (Some bytes) h = (bytes, refl)
 
 pub accepted_file : (l : Loaded) (file : Option (List ℕ)) (old new : List (List ℕ)) (program : Program) → IsAcceptedFrom l old new program → IsLoaded most_bytes file l
     → IsAccepted file old new program
@@ -86,14 +86,14 @@ pub refuse_judging : (r : Result Answer Memory) (first second : Loaded) (new : L
     → IfOk r (JudgesAll first second)
 refuse_judging (Err m) first second new f is why = tt
 refuse_judging (Ok a) first second new f is why = λ one two h k.
-    let t = there second two k in
+    let t = there most_bytes second two k in
     record { bytes = t.0; there = t.1; judged = refusal_taken First first one [] new (IsJudged t.0) f a is why h }
 
 pub take_judging : (r : Result Answer Memory) (first second : Loaded) (new : List (List ℕ)) (p : Program) → IsAcceptedFrom first [] new p
     → IfOk r (λ a. (bytes : List ℕ) → IsLoaded most_bytes (Some bytes) second → IsJudged bytes new p a) → IfOk r (JudgesAll first second)
 take_judging (Err m) first second new p read h = tt
 take_judging (Ok a) first second new p read h = λ one two j k.
-    let t = there second two k in
+    let t = there most_bytes second two k in
     let P : Option (List ℕ) → Type 0 = λ file. IsLoaded most_bytes file second in
     record { bytes = t.0; there = t.1; judged = accepted new p (accepted_file first one [] new p read j) (h t.0 (subst P t.1 k)) }
 

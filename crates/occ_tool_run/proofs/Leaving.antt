@@ -7,10 +7,10 @@ use Rattle.occ_tool_run.specs.declared.load.Stop.{Stop}
 use Rattle.occ_tool_run.specs.declared.load.Stop.TheVariants.{Read, Memory}
 use Rattle.occ_tool_run.specs.declared.answer.Answer.{Answer}
 use Rattle.occ_gen.specs.declared.shape.Shape.{Shape}
-use Rattle.occ_tool_words.specs.Words.{same, normalise, normal, belongs, stress, refine, deadlock, job_of, replay, run}
+use Rattle.occ_tool_words.specs.Words.{same, normalise, normal, belongs, stress, refine, deadlock, job_of, replay, run, transform, expand}
 use Rattle.occ_tool_run.specs.Files.{Files, AsksFront, AsksFor, IsLoaded}
 use Rattle.occ_tool_run.specs.Texts.{status_of, text_of}
-use Rattle.occ_tool_run.specs.Answers.{IsAnswer, comparison, normalisation, checking, membership, stressing, refinement, seeking, Answers, Settles, Normalises, Checks, Judges, Steps, Stresses, Seeks, replaying, running}
+use Rattle.occ_tool_run.specs.Answers.{IsAnswer, comparison, normalisation, checking, membership, stressing, refinement, seeking, Answers, Settles, Normalises, Checks, Judges, Steps, Stresses, Seeks, replaying, running, Transforms, Expands, transforming, expanding}
 use Rattle.occ_tool_run.specs.Derivations.{Replays}
 use Rattle.occ_tool_run.specs.declared.judge.Question.TheVariants.{WhetherSame, WhetherRefined}
 use Rattle.occ_tool_run.specs.Ran.{Ran, answered, cut_short}
@@ -104,12 +104,12 @@ one_answered most R None a one answer l s = tt
 one_answered most R (Some files) a one answer l s = s (files a) l
 
 -- two files that were read have an answer
-pub both_answered : (most : ℕ) (R : Option (List ℕ) → Option (List ℕ) → Answer → Type 0) (told : Option Files) (a b : List ℕ) (one two : Loaded) (answer : Answer)
-    → IfSome told (λ files. IsLoaded most (files a) one) → IfSome told (λ files. IsLoaded most (files b) two)
-    → ((x y : Option (List ℕ)) → IsLoaded most x one → IsLoaded most y two → R x y answer)
+pub both_answered : (most more : ℕ) (R : Option (List ℕ) → Option (List ℕ) → Answer → Type 0) (told : Option Files) (a b : List ℕ) (one two : Loaded) (answer : Answer)
+    → IfSome told (λ files. IsLoaded most (files a) one) → IfSome told (λ files. IsLoaded more (files b) two)
+    → ((x y : Option (List ℕ)) → IsLoaded most x one → IsLoaded more y two → R x y answer)
     → IfSome told (λ files. R (files a) (files b) answer)
-both_answered most R None a b one two answer l k s = tt
-both_answered most R (Some files) a b one two answer l k s = s (files a) (files b) l k
+both_answered most more R None a b one two answer l k s = tt
+both_answered most more R (Some files) a b one two answer l k s = s (files a) (files b) l k
 
 -- ---- what the words ask for is answered
 
@@ -188,3 +188,15 @@ pub asked_run : {E : Type 0} (told : Option Files) (words : List (List ℕ)) (a 
 asked_run None words a b (Ok answer) is s = tt
 asked_run (Some files) words a b (Ok answer) is s = running a b (sym is) s
 asked_run told words a b (Err e) is s = tt
+
+pub asked_transform : {E : Type 0} (told : Option Files) (words : List (List ℕ)) (a b : List ℕ) (r : Result Answer E) → Some (transform a b) ≡ job_of words
+    → IfOk r (λ answer. IfSome told (λ files. Transforms (files a) (files b) answer)) → IfOk r (λ answer. IfSome told (λ files. IsAnswer files words answer))
+asked_transform None words a b (Ok answer) is s = tt
+asked_transform (Some files) words a b (Ok answer) is s = transforming a b (sym is) s
+asked_transform told words a b (Err e) is s = tt
+
+pub asked_expand : {E : Type 0} (told : Option Files) (words : List (List ℕ)) (a path : List ℕ) (r : Result Answer E) → Some (expand a path) ≡ job_of words
+    → IfOk r (λ answer. IfSome told (λ files. Expands (files a) path answer)) → IfOk r (λ answer. IfSome told (λ files. IsAnswer files words answer))
+asked_expand None words a path (Ok answer) is s = tt
+asked_expand (Some files) words a path (Ok answer) is s = expanding a path (sym is) s
+asked_expand told words a path (Err e) is s = tt

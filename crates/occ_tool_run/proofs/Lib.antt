@@ -14,3 +14,5 @@ pub mod Members
 pub mod Scripted
 pub mod Scheduled
 pub mod OneReplay
+pub mod OneTransform
+pub mod Engine

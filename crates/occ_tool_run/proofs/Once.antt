@@ -39,6 +39,7 @@ same_bytes file a b e f = some_is a b (sym e ∙ f)
 
 pub record IsOneReading (m n : List (List ℕ)) (p q : Program) (ls ks : List ℕ) : Type 0 where
   pub names : m ≡ n
+  pub name : p.name ≡ q.name
   pub params : p.params ≡ q.params
   pub body : tree p.body ≡ tree q.body
   pub numbers : ls ≡ ks

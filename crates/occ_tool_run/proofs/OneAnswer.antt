@@ -22,7 +22,7 @@ use Rattle.occ_gen.specs.declared.shape.Shape.{Shape}
 use Rattle.occ_gen.specs.Programs.{program_text}
 use Rattle.occ_nform.specs.Written.{IsNormalText}
 use Rattle.occ_nform_program.specs.Counted.{HasCounts, counts_of}
-use Rattle.occ_tool_words.specs.Words.{Job, same, normalise, normal, belongs, stress, refine, deadlock, replay, run, job_of}
+use Rattle.occ_tool_words.specs.Words.{Job, same, normalise, normal, belongs, stress, refine, deadlock, replay, run, transform, expand, job_of}
 use Rattle.occ_tool_run.specs.declared.answer.Answer.{Answer}
 use Rattle.occ_tool_run.specs.declared.answer.Answer.TheVariants.{Usage, Refused, Unusable, TooLong, RefusedTable, RefusedClaim, InterfacesDiffer, Compared, Counted, Member, Stressed, Allowed, Sought, RefusedSchedule, Stepped}
 use Rattle.occ_tool_run.specs.declared.judge.Question.{Question}
@@ -34,12 +34,14 @@ use Rattle.occ_run_read.specs.declared.schedule.Schedule.{Schedule}
 use Rattle.occ_run_read.specs.Schedules.{schedule_read}
 use Rattle.occ_tool_run.specs.Derivations.{Replays}
 use Rattle.occ_tool_run.specs.Runs.{IsRun, too_long_schedule, faulty_schedule, followed_schedule}
+use Rattle.occ_tool_run.specs.Transforms.{IsExpandedTo, IsTransformed}
 use Rattle.occ_tool_run.specs.Texts.{status_of, text_of}
 use Rattle.occ_tool_run.specs.Accepts.{IsAccepted}
 use Rattle.occ_tool_run.specs.Answers.{Takes, TakesBoth, Turned, refused_behind, unusable_behind, accepted_behind, Compares, apart, compared, Refines, other, allowed, Replies, Settles, IsSought, Seeks, IsNormalised, Normalises, IsChecked, too_long_table, faulty_table, normal_table, Checks}
-use Rattle.occ_tool_run.specs.Answers.{IsJudged, too_long_claim, faulty_claim, judged_claim, Judges, IsStressed, Stresses, IsAnswer, usage, comparison, normalisation, checking, membership, stressing, refinement, seeking, replaying, running, Answers, Steps}
+use Rattle.occ_tool_run.specs.Answers.{IsJudged, too_long_claim, faulty_claim, judged_claim, Judges, IsStressed, Stresses, IsAnswer, usage, comparison, normalisation, checking, membership, stressing, refinement, seeking, replaying, running, transforming, expanding, Answers, Steps, Transforms, Expands}
 use Rattle.occ_tool_run.proofs.Once.{AreAlike, IsOnce, IsOneText, alike, same_bytes}
 use Rattle.occ_tool_run.proofs.OneReplay.{IsOneScript, replays_alike}
+use Rattle.occ_tool_run.proofs.OneTransform.{IsOneOutcome, expanded_alike, transformed_alike}
 use Rattle.occ_tool_run.proofs.Taken.{AreOne, agree, as_refused, as_taken, as_unusable, takes_alike}
 
 ok_is : {X E : Type 0} (x y : X) (r : Result X E) → r ≡ Ok x → r ≡ Ok y → x ≡ y
@@ -93,6 +95,8 @@ Does files (Some (refine x y)) a = Settles WhetherRefined (files x) (files y) a
 Does files (Some (deadlock x)) a = Seeks (files x) a
 Does files (Some (replay x)) a = Replays (files x) a
 Does files (Some (run x y)) a = Steps (files x) (files y) a
+Does files (Some (transform x y)) a = Transforms (files x) (files y) a
+Does files (Some (expand x path)) a = Expands (files x) path a
 
 pub does : (files : Files) (words : List (List ℕ)) (a : Answer) → IsAnswer files words a → Does files (job_of words) a
 does files words a (usage none e) = let P : Option Job → Type 0 = λ j. Does files j a in subst P (sym none) e
@@ -105,10 +109,12 @@ does files words a (refinement x y is s) = let P : Option Job → Type 0 = λ j.
 does files words a (seeking x is s) = let P : Option Job → Type 0 = λ j. Does files j a in subst P (sym is) s
 does files words a (replaying x is s) = let P : Option Job → Type 0 = λ j. Does files j a in subst P (sym is) s
 does files words a (running x y is s) = let P : Option Job → Type 0 = λ j. Does files j a in subst P (sym is) s
+does files words a (transforming x y is s) = let P : Option Job → Type 0 = λ j. Does files j a in subst P (sym is) s
+does files words a (expanding x path is s) = let P : Option Job → Type 0 = λ j. Does files j a in subst P (sym is) s
 
--- what follows stands on the reading of a text being one, on the verdict being one, on the normal text being one, and on scripts
--- being read and answered in one way
-module _ (once : IsOnce) (only : IsOneVerdict) (single : IsOneText) (scripts : IsOneScript) (following : IsOneFollowing) where
+-- what follows stands on the reading of a text being one, on the verdict being one, on the normal text being one, on scripts being
+-- read and answered in one way, and on orders and expansions having one outcome
+module _ (once : IsOnce) (only : IsOneVerdict) (single : IsOneText) (scripts : IsOneScript) (following : IsOneFollowing) (outcome : IsOneOutcome) where
   -- ---- two programs
 
   decided_alike : (p q r s : Program) (v w : Verdict) → p.params ≡ r.params → tree p.body ≡ tree r.body → tree q.body ≡ tree s.body
@@ -160,7 +166,7 @@ module _ (once : IsOnce) (only : IsOneVerdict) (single : IsOneText) (scripts : I
       let d = agree once two [] (as_taken m p) (as_taken n q) r t in
       let P : List (List ℕ) → Type 0 = λ o. Takes First one o (λ names x. Replies question x names q) b in
       takes_alike once First one m (λ names x. Replies question x names p) (λ names x. Replies question x names q) a b
-      (λ j k x y z e f g. replies_alike question j k j k x p y q a b e (record { names = e.names; params = d.params; body = d.body }) f g) s (subst P (sym d.names) u)
+      (λ j k x y z e f g. replies_alike question j k j k x p y q a b e (record { names = e.names; name = d.name; params = d.params; body = d.body }) f g) s (subst P (sym d.names) u)
 
   both_alike : (order : Ordering) (question : Question) (one two : Option (List ℕ)) (a b : Answer) → TakesBoth order question one two a → TakesBoth order question one two b → AreAlike a b
   both_alike Less question one two a b s t =
@@ -279,6 +285,14 @@ module _ (once : IsOnce) (only : IsOneVerdict) (single : IsOneText) (scripts : I
       takes_alike once First one [] (IsRun s.bytes) (IsRun s.bytes) a b (λ m n p q x d. run_alike s.bytes m n p q a b d) s.judged
       (subst P (same_bytes two t.bytes s.bytes t.there s.there) t.judged)
 
+  -- ---- orders, and an expansion
+
+  transforms_alike : (one two : Option (List ℕ)) (a b : Answer) → Transforms one two a → Transforms one two b → AreAlike a b
+  transforms_alike one two a b s t =
+      let P : List ℕ → Type 0 = λ bytes. Takes First one [] (IsTransformed bytes) b in
+      takes_alike once First one [] (IsTransformed s.bytes) (IsTransformed s.bytes) a b (λ m n p q x d. transformed_alike outcome s.bytes m n p q d a b) s.judged
+      (subst P (same_bytes two t.bytes s.bytes t.there s.there) t.judged)
+
   -- ---- command lines
 
   does_alike : (files : Files) (j : Option Job) (a b : Answer) → Does files j a → Does files j b → AreAlike a b
@@ -290,6 +304,9 @@ module _ (once : IsOnce) (only : IsOneVerdict) (single : IsOneText) (scripts : I
   does_alike files (Some (normal x)) a b s t = checks_alike (files x) a b s t
   does_alike files (Some (replay x)) a b s t = replays_alike scripts (files x) a b s t
   does_alike files (Some (run x y)) a b s t = steps_alike (files x) (files y) a b s t
+  does_alike files (Some (transform x y)) a b s t = transforms_alike (files x) (files y) a b s t
+  does_alike files (Some (expand x path)) a b s t =
+      takes_alike once First (files x) [] (IsExpandedTo path) (IsExpandedTo path) a b (λ m n p q y d. expanded_alike outcome path m n p q d a b) s t
   does_alike files (Some (belongs x y)) a b s t = judges_alike (files x) (files y) a b s t
   does_alike files (Some (stress shape n)) a b s t =
       takes_alike once First (Some (program_text shape n)) [] (IsStressed shape n) (IsStressed shape n) a b (λ j k p q y d. stressed_alike (Some (program_text shape n)) shape n j k p q a b y d) s t

@@ -36,7 +36,7 @@ ordered order question (Err m) first second is h = tt
 ordered order question (Ok a) first second is h = λ one two j k.
     let same : order_of one two ≡ order = ap₂ text_order (short first one j) (short second two k) ∙ is in
     let P : Ordering → Type 0 = λ o. TakesBoth o question one two a in
-    record { there = there second two k; judged = subst P (sym same) (h one two j k) }
+    record { there = there most_bytes second two k; judged = subst P (sym same) (h one two j k) }
 
 -- ---- the first file is read first
 

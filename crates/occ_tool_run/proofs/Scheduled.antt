@@ -33,14 +33,14 @@ pub refuse_running : (r : Result Answer Memory) (first second : Loaded) (new : L
     → IfOk r (StepsAll first second)
 refuse_running (Err m) first second new f is why = tt
 refuse_running (Ok a) first second new f is why = λ one two h k.
-    let t = there second two k in
+    let t = there most_bytes second two k in
     record { bytes = t.0; there = t.1; judged = refusal_taken First first one [] new (IsRun t.0) f a is why h }
 
 pub take_running : (r : Result Answer Memory) (first second : Loaded) (new : List (List ℕ)) (p : Program) → IsAcceptedFrom first [] new p
     → IfOk r (λ a. (bytes : List ℕ) → IsLoaded most_bytes (Some bytes) second → IsRun bytes new p a) → IfOk r (StepsAll first second)
 take_running (Err m) first second new p read h = tt
 take_running (Ok a) first second new p read h = λ one two j k.
-    let t = there second two k in
+    let t = there most_bytes second two k in
     let P : Option (List ℕ) → Type 0 = λ file. IsLoaded most_bytes file second in
     record { bytes = t.0; there = t.1; judged = accepted new p (accepted_file first one [] new p read j) (h t.0 (subst P t.1 k)) }
 

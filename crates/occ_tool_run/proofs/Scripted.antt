@@ -86,10 +86,10 @@ rejected_replay (Ok a) s names lines cause e told h = rejected_script cause told
 
 -- ---- faults of scripts are told
 
-abbrev IsTold : ScriptFault → Type 0
+abbrev pub IsTold : ScriptFault → Type 0
 IsTold f = f ≢ script.Memory → ScriptFaultIsTold f
 
-text_told : (e : ParseFault) → IsTold (text_fault e)
+pub text_told : (e : ParseFault) → IsTold (text_fault e)
 text_told (parse.Form line) kept = tt
 text_told parse.Memory kept = absurd (kept refl)
 text_told (parse.Line line e) kept = λ h. cc
@@ -101,7 +101,7 @@ text_told (parse.NoType line) kept = λ h. cc
 text_told (parse.Direction line) kept = λ h. cc
 text_told (parse.Limit w line) kept = λ h. cc
 
-bad_head_told : (f : Format) (old : List (List ℕ)) (s : Section) (e : ScriptFault) → IsBadHead f old s e → IsTold e
+pub bad_head_told : (f : Format) (old : List (List ℕ)) (s : Section) (e : ScriptFault) → IsBadHead f old s e → IsTold e
 bad_head_told f old s e (earlier a) kept = tt
 bad_head_told f old s e (another a b) kept = tt
 bad_head_told f old s e (further line lines stop a b j) kept = tt

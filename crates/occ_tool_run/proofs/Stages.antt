@@ -3,7 +3,8 @@ use Rattle.std.proofs.Common.{◌≡◌, ◌+◌, ◌*◌, ◌≤◌, ◌==◌, 
 use Rattle.std.specs.Str.{bytes_eq}
 use Rattle.std.proofs.lemmas.Bool.{and_parts, leb-true}
 use Rattle.occ_gen.specs.declared.shape.Shape.{Shape}
-use Rattle.occ_tool_words.specs.Words.{Job, same, normalise, normal, belongs, stress, refine, deadlock, replay, run, digit_of, in_range, is_plain, job_of, shape_of, stages_of, stress_of, two_digits, with_one, with_two}
+use Rattle.occ_script_path.specs.Texts.{path_of}
+use Rattle.occ_tool_words.specs.Words.{Job, same, normalise, normal, belongs, stress, refine, deadlock, replay, run, transform, expand, expand_of, digit_of, in_range, is_plain, job_of, shape_of, stages_of, stress_of, two_digits, with_one, with_two, with_two_later}
 
 abbrev pub InRange : ℕ → Type 0
 InRange n = (1 ≤ n) × (n ≤ 48)
@@ -23,6 +24,8 @@ IsFit (Some (refine a b)) = Unit {0}
 IsFit (Some (deadlock a)) = Unit {0}
 IsFit (Some (replay a)) = Unit {0}
 IsFit (Some (run a b)) = Unit {0}
+IsFit (Some (transform a b)) = Unit {0}
+IsFit (Some (expand a path)) = Unit {0}
 
 -- either of two
 choice : (b : Bool) (x y : Option Job) → IsFit x → IsFit y → IsFit (if b then x else y)
@@ -68,13 +71,23 @@ of_one command first =
     (choice (bytes_eq command (codes "deadlock")) (Some (deadlock first)) _ tt
     (choice (bytes_eq command (codes "replay")) (Some (replay first)) None tt tt)))
 
+pathed : (first : List ℕ) (o : Option (List ℕ)) → IsFit (option_map (expand first) o)
+pathed first None = tt
+pathed first (Some path) = tt
+
+of_two_later : (command first second : List ℕ) → IsFit (with_two_later command first second)
+of_two_later command first second =
+    choice (bytes_eq command (codes "refine")) (Some (refine first second)) _ tt
+    (choice (bytes_eq command (codes "run")) (Some (run first second)) _ tt
+    (choice (bytes_eq command (codes "transform")) (Some (transform first second)) _ tt
+    (choice (bytes_eq command (codes "expand")) (expand_of first second) None (pathed first (path_of second)) tt)))
+
 of_two : (command first second : List ℕ) → IsFit (with_two command first second)
 of_two command first second =
     choice (bytes_eq command (codes "same")) (Some (same first second)) _ tt
     (choice (bytes_eq command (codes "belongs")) (Some (belongs first second)) _ tt
     (choice (bytes_eq command (codes "stress")) (stress_of first second) _ (shaped (shape_of first) (stages_of second) (staged second))
-    (choice (bytes_eq command (codes "refine")) (Some (refine first second)) _ tt
-    (choice (bytes_eq command (codes "run")) (Some (run first second)) None tt tt))))
+    (of_two_later command first second)))
 
 fit : (words : List (List ℕ)) → IsFit (job_of words)
 fit [] = tt

@@ -29,6 +29,7 @@ Comes file old (as_unusable new line fault) = IsUnusable file old new line fault
 
 pub record AreOne (m n : List (List ℕ)) (p q : Program) : Type 0 where
   pub names : m ≡ n
+  pub name : p.name ≡ q.name
   pub params : p.params ≡ q.params
   pub body : tree p.body ≡ tree q.body
 
@@ -76,7 +77,7 @@ module _ (once : IsOnce) where
   pub agree : (file : Option (List ℕ)) (old : List (List ℕ)) (x y : Outcome) → Comes file old x → Comes file old y → Agree x y
   agree file old (as_taken m p) (as_taken n q) a b =
       let e = reads a.bytes b.bytes old m n p q a.text.numbers b.text.numbers (same_bytes file b.bytes a.bytes b.there a.there) a.text.read b.text.read in
-      record { names = e.names; params = e.params; body = e.body }
+      record { names = e.names; name = e.name; params = e.params; body = e.body }
   agree file old (as_taken m p) (as_refused g) a b =
       not_refused a.bytes b.bytes old m p a.text.numbers g (same_bytes file b.bytes a.bytes b.there a.there) a.text.read b.text
   agree file old (as_taken m p) (as_unusable n l g) a b =

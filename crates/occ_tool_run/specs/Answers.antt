@@ -23,7 +23,7 @@ use Rattle.occ_nform.specs.Written.{IsNormalText}
 use Rattle.occ_nform_program.specs.Counted.{HasCounts}
 use Rattle.occ_views.specs.declared.refined.Refined.{Refined as Refinement}
 use Rattle.occ_views.specs.Programs.{IsRefinement, IsDeadlockAnswer}
-use Rattle.occ_tool_words.specs.Words.{same, normalise, normal, belongs, stress, refine, deadlock, replay, run, job_of}
+use Rattle.occ_tool_words.specs.Words.{same, normalise, normal, belongs, stress, refine, deadlock, replay, run, transform, expand, job_of}
 use Rattle.occ_tool_run.specs.declared.answer.Answer.{Answer}
 use Rattle.occ_tool_run.specs.declared.answer.Answer.TheVariants.{Usage, Refused, Unusable, TooLong, RefusedTable, RefusedClaim, InterfacesDiffer, Compared, Written, Counted, Member, Stressed, Allowed, Sought}
 use Rattle.occ_tool_run.specs.declared.judge.Question.{Question}
@@ -31,6 +31,7 @@ use Rattle.occ_tool_run.specs.declared.judge.Question.TheVariants.{WhetherSame, 
 use Rattle.occ_tool_run.specs.Accepts.{IsAccepted, IsRefused, IsUnusable, IsThere}
 use Rattle.occ_tool_run.specs.Derivations.{Replays}
 use Rattle.occ_tool_run.specs.Runs.{IsRun}
+use Rattle.occ_tool_run.specs.Transforms.{IsExpandedTo, IsTransformed}
 use Rattle.occ_tool_run.specs.Files.{Files, most_bytes, most_table_bytes, order_of}
 use Rattle.occ_tool_run.specs.Texts.{status_of, text_of}
 
@@ -149,6 +150,17 @@ pub record Steps (one two : Option (List ℕ)) (answer : Answer) : Type 0 where
   pub there : two ≡ Some bytes
   pub judged : Takes First one [] (IsRun bytes) answer
 
+-- The answer to two files: of a program, and of orders that are to be followed from it. Both are there, and the program is judged
+-- first.
+pub record Transforms (one two : Option (List ℕ)) (answer : Answer) : Type 0 where
+  pub bytes : List ℕ
+  pub there : two ≡ Some bytes
+  pub judged : Takes First one [] (IsTransformed bytes) answer
+
+-- the answer to a file, the PAR of whose program at a path is to be expanded
+abbrev pub Expands : Option (List ℕ) → List ℕ → Answer → Type 0
+Expands file path answer = Takes First file [] (IsExpandedTo path) answer
+
 -- ---- a generated program
 
 -- the answer tells the figures of the normal text of the accepted program
@@ -175,6 +187,8 @@ pub data IsAnswer (files : Files) (words : List (List ℕ)) (answer : Answer) : 
   seeking : (program : List ℕ) → job_of words ≡ Some (deadlock program) → Seeks (files program) answer → IsAnswer files words answer
   replaying : (text : List ℕ) → job_of words ≡ Some (replay text) → Replays (files text) answer → IsAnswer files words answer
   running : (program text : List ℕ) → job_of words ≡ Some (run program text) → Steps (files program) (files text) answer → IsAnswer files words answer
+  transforming : (program text : List ℕ) → job_of words ≡ Some (transform program text) → Transforms (files program) (files text) answer → IsAnswer files words answer
+  expanding : (program path : List ℕ) → job_of words ≡ Some (expand program path) → Expands (files program) path answer → IsAnswer files words answer
 
 -- The words and the files have an answer with this status and this text.
 pub record Answers (files : Files) (words : List (List ℕ)) (status : ℕ) (text : List ℕ) : Type 0 where

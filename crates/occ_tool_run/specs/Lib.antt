@@ -3,7 +3,9 @@ pub mod Texts
 pub mod Accepts
 pub mod Derivations
 pub mod Runs
+pub mod Transforms
 pub mod Pairs
 pub mod Answers
 pub mod Ran
 pub mod Judged
+pub mod Transformed

@@ -33,7 +33,9 @@ use Rattle.occ_run_follow.specs.Texts.{followed_text}
 use Rattle.occ_script.specs.declared.fault.ScriptFault.{ScriptFault}
 use Rattle.occ_script.specs.declared.fault.ScriptFault.TheVariants as script
 use Rattle.occ_tool_run.specs.declared.answer.Answer.{Answer}
-use Rattle.occ_tool_run.specs.declared.answer.Answer.TheVariants.{Usage, Refused, Unusable, TooLong, RefusedTable, RefusedClaim, InterfacesDiffer, Compared, Written, Counted, Member, Stressed, Allowed, Sought, RefusedScript, Joined, Unjoined, RefusedSchedule, Stepped}
+use Rattle.occ_tool_run.specs.declared.answer.Answer.TheVariants.{Usage, Refused, Unusable, TooLong, RefusedTable, RefusedClaim, InterfacesDiffer, Compared, Written, Counted, Member, Stressed, Allowed, Sought, RefusedScript, Joined, Unjoined, RefusedSchedule, Stepped, RefusedOrders, RefusedOrder, RefusedPath}
+use Rattle.occ_tool_run.specs.declared.reason.Reason.{Reason}
+use Rattle.occ_tool_run.specs.declared.reason.Reason.TheVariants.{NoLaw, NoPath, NotPar, NotAccepted, NotApplicable}
 
 abbrev pub status_of_verdict : Verdict → ℕ
 status_of_verdict Same = 0
@@ -75,6 +77,9 @@ status_of (Joined steps) = 0
 status_of (Unjoined names line cause) = 1
 status_of (RefusedSchedule line) = 3
 status_of (Stepped names followed) = status_of_followed followed
+status_of (RefusedOrders fault) = 3
+status_of (RefusedOrder number reason) = 3
+status_of (RefusedPath reason) = 3
 
 abbrev pub place_text : Side → List ℕ
 place_text First = codes "FIRST"
@@ -163,13 +168,13 @@ table_refusal_text (table.Empty row) = row_refusal_text row (codes "Empty")
 table_refusal_text (table.Unreached row) = row_refusal_text row (codes "Unreached")
 table_refusal_text table.Memory = []
 
--- ---- a text that isn't a script
+-- ---- a text that isn't a script, or isn't orders
 
-abbrev pub script_refusal_text : ScriptFault → List ℕ
-script_refusal_text (script.Form line) = refusal_text First line (codes "Form")
-script_refusal_text (script.Version line) = refusal_text First line (codes "Version")
-script_refusal_text (script.Text fault) = refusal_text First (line_of fault) (fault_words fault)
-script_refusal_text script.Memory = []
+abbrev pub script_refusal_text : Side → ScriptFault → List ℕ
+script_refusal_text place (script.Form line) = refusal_text place line (codes "Form")
+script_refusal_text place (script.Version line) = refusal_text place line (codes "Version")
+script_refusal_text place (script.Text fault) = refusal_text place (line_of fault) (fault_words fault)
+script_refusal_text place script.Memory = []
 
 -- a fault that isn't out of memory
 abbrev pub ScriptFaultIsTold : ScriptFault → Type 0
@@ -204,6 +209,22 @@ CauseIsNamed names (rejected.NotAccepted step) = Unit {0}
 CauseIsNamed names (rejected.NotInstance step) = Unit {0}
 CauseIsNamed names rejected.WrongEnd = Unit {0}
 CauseIsNamed names rejected.Memory = ⊥
+
+-- ---- orders that can't be followed, and parts that can't be expanded
+
+abbrev pub reason_text : Reason → List ℕ
+reason_text NoLaw = codes "NoLaw"
+reason_text NoPath = codes "NoPath"
+reason_text NotPar = codes "NotPar"
+reason_text NotAccepted = codes "NotAccepted"
+reason_text NotApplicable = codes "NotApplicable"
+
+-- the number of the order, from 1, and the reason
+abbrev pub order_refusal_text : ℕ → Reason → List ℕ
+order_refusal_text number reason = codes "REFUSED ORDER " ++ decimal number ++ codes " " ++ reason_text reason ++ codes "\n"
+
+abbrev pub path_refusal_text : Reason → List ℕ
+path_refusal_text reason = codes "REFUSED PATH " ++ reason_text reason ++ codes "\n"
 
 -- ---- the answers that aren't refusals
 
@@ -255,11 +276,14 @@ text_of (Member is) = member_text is
 text_of (Stressed shape stages counts) = stress_text shape stages ++ counts_text counts
 text_of (Allowed names refined) = refined_text names refined
 text_of (Sought names found) = found_text names found
-text_of (RefusedScript fault) = script_refusal_text fault
+text_of (RefusedScript fault) = script_refusal_text First fault
 text_of (Joined steps) = figure_text (codes "JOINED") steps
 text_of (Unjoined names line cause) = rejection_text names line cause
 text_of (RefusedSchedule line) = refusal_text Second line (codes "Form")
 text_of (Stepped names followed) = followed_text names followed
+text_of (RefusedOrders fault) = script_refusal_text Second fault
+text_of (RefusedOrder number reason) = order_refusal_text number reason
+text_of (RefusedPath reason) = path_refusal_text reason
 
 abbrev pub RefinementIsNamed : List (List ℕ) → Refinement → Type 0
 RefinementIsNamed names Yes = Unit {0}
@@ -290,3 +314,6 @@ IsPrintable (Joined steps) = Unit {0}
 IsPrintable (Unjoined names line cause) = CauseIsNamed names cause
 IsPrintable (RefusedSchedule line) = Unit {0}
 IsPrintable (Stepped names followed) = FollowedIsNamed names followed
+IsPrintable (RefusedOrders fault) = ScriptFaultIsTold fault
+IsPrintable (RefusedOrder number reason) = Unit {0}
+IsPrintable (RefusedPath reason) = Unit {0}

@@ -1,6 +1,7 @@
 ghost use Rattle.std.specs.Prelude.{◌≡◌, ◌++◌, codes, IfOk, OnOk};
 ghost use Rattle.occ_tool_run.specs.Texts.{status_of, text_of, figure_text, counts_text, found_text, member_text, refined_text, shape_text, stress_text, FoundIsNamed, RefinementIsNamed, IsPrintable};
 
+use crate::reason::{Reason, order_refusal, path_refusal};
 use crate::refusal::{
     claim_refusal, refusal, script_refusal, table_refusal, too_long, usage_refusal,
 };
@@ -56,7 +57,7 @@ pub enum Answer {
         names: Names,
         verdict: Verdict,
     },
-    /// The normal text of the program.
+    /// The normal text of the program, or the script of what laws made of it.
     Written {
         text: Vec<u8>,
     },
@@ -108,6 +109,19 @@ pub enum Answer {
         names: Names,
         followed: Followed,
     },
+    /// The second text isn't orders. The fault is never out of memory.
+    RefusedOrders {
+        fault: ScriptFault,
+    },
+    /// The order of that number, from 1, can't be followed.
+    RefusedOrder {
+        order: u32,
+        reason: Reason,
+    },
+    /// The part at a path can't be expanded.
+    RefusedPath {
+        reason: Reason,
+    },
 }
 
 /// The status of an answer.
@@ -141,6 +155,8 @@ pub fn status(answer: &Answer) -> u8
             Followed::Stood(_) => 0,
             Followed::NoStep { .. } => 3,
         },
+        Answer::RefusedOrders { .. } | Answer::RefusedOrder { .. } => 3,
+        Answer::RefusedPath { .. } => 3,
     }
 }
 
@@ -176,11 +192,14 @@ pub fn text(alloc: Global, answer: Answer) -> Result<Vec<u8>, Memory>
         } => stress_figures(alloc, shape, stages, counts),
         Answer::Allowed { names, refined } => refined_lines(alloc, &names, refined),
         Answer::Sought { names, found } => found_lines(alloc, &names, found),
-        Answer::RefusedScript { fault } => script_refusal(alloc, fault),
+        Answer::RefusedScript { fault } => script_refusal(alloc, Side::First, fault),
         Answer::Joined { steps } => figure(alloc, b"JOINED", u64::from(steps)),
         Answer::Unjoined { names, line, cause } => rejection(alloc, &names, line, cause),
         Answer::RefusedSchedule { line } => claim_refusal(alloc, line),
         Answer::Stepped { names, followed } => followed_text(alloc, &names, followed),
+        Answer::RefusedOrders { fault } => script_refusal(alloc, Side::Second, fault),
+        Answer::RefusedOrder { order, reason } => order_refusal(alloc, order, reason),
+        Answer::RefusedPath { reason } => path_refusal(alloc, reason),
     }
 }
 

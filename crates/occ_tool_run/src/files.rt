@@ -2,17 +2,21 @@ ghost use Rattle.std.specs.Prelude.{◌≡◌, ◌≢◌, ◌<◌, ◌∷◌, []
 ghost use Rattle.occ_tool_run.specs.Files.{AsksFor, CountsStop};
 ghost use Rattle.occ_tool_run.specs.Texts.{IsPrintable};
 ghost use Rattle.occ_tool_run.specs.Derivations.{Replays};
-ghost use Rattle.occ_tool_run.specs.Answers.{Checks, Judges, Normalises, Seeks, Settles, Steps};
+ghost use Rattle.occ_tool_run.specs.Answers.{Checks, Expands, Judges, Normalises, Seeks, Settles, Steps, Transforms};
 
 use crate::answer::Answer;
 use crate::judge::{Question, judge};
-use crate::load::{Stop, load_both, load_script, load_table, load_text};
+use crate::load::{
+    MOST_BYTES, MOST_SCRIPT_BYTES, Stop, load_both, load_script, load_table, load_text,
+};
 use crate::member::belongs;
 use crate::normal::{check, normalise};
 use crate::replaying::replay;
 use crate::running::step;
 use crate::stuck::seek;
+use crate::transforming::{expand, transform};
 use occ_desk::Desk;
+use occ_script_path::Path;
 use std::alloc::Global;
 
 /// The answer to two files of whose programs this is asked.
@@ -35,7 +39,7 @@ pub fn compare_files<D: Desk>(
     ensures written { D.written desk.new ≡ D.written desk.old }
     ensures write_faults { D.write_faults desk.new ≡ D.write_faults desk.old }
 {
-    let (one, two) = load_both(alloc, desk, first, second)?;
+    let (one, two) = load_both(alloc, desk, first, second, MOST_BYTES)?;
     Ok(judge(alloc, question, &one, &two)?)
 }
 
@@ -109,7 +113,7 @@ pub fn belongs_file<D: Desk>(
     ensures written { D.written desk.new ≡ D.written desk.old }
     ensures write_faults { D.write_faults desk.new ≡ D.write_faults desk.old }
 {
-    let (one, two) = load_both(alloc, desk, program, text)?;
+    let (one, two) = load_both(alloc, desk, program, text, MOST_BYTES)?;
     Ok(belongs(alloc, &one, &two)?)
 }
 
@@ -131,7 +135,7 @@ pub fn run_files<D: Desk>(
     ensures written { D.written desk.new ≡ D.written desk.old }
     ensures write_faults { D.write_faults desk.new ≡ D.write_faults desk.old }
 {
-    let (one, two) = load_both(alloc, desk, program, text)?;
+    let (one, two) = load_both(alloc, desk, program, text, MOST_BYTES)?;
     Ok(step(alloc, &one, &two)?)
 }
 
@@ -150,4 +154,49 @@ pub fn replay_file<D: Desk>(alloc: Global, text: &str, desk: &mut D) -> Result<A
 {
     let loaded = load_script(alloc, desk, text)?;
     Ok(replay(alloc, &loaded)?)
+}
+
+/// The answer to two files: of a program, and of orders that are to be followed from it.
+pub fn transform_files<D: Desk>(
+    alloc: Global,
+    program: &str,
+    text: &str,
+    desk: &mut D,
+) -> Result<Answer, Stop>
+    requires reads_countable { D.read_faults desk.old < u64.MAX }
+    requires writes_countable { D.write_faults desk.old < u64.MAX }
+    ensures transforms { IfOk result (λ answer. IfSome (D.files desk.old) (λ files.
+        Transforms (files program.now) (files text.now) answer)) }
+    ensures printable { IfOk result IsPrintable }
+    ensures usage { IfOk result (λ answer. answer ≢ Answer.Usage) }
+    ensures asked { AsksFor (D.asked desk.old) (D.asked desk.new) (program.now ∷ text.now ∷ []) result }
+    ensures read_faults { CountsStop (D.read_faults desk.old) (D.read_faults desk.new) result }
+    ensures files { D.files desk.new ≡ D.files desk.old }
+    ensures written { D.written desk.new ≡ D.written desk.old }
+    ensures write_faults { D.write_faults desk.new ≡ D.write_faults desk.old }
+{
+    let (one, two) = load_both(alloc, desk, program, text, MOST_SCRIPT_BYTES)?;
+    Ok(transform(alloc, &one, &two)?)
+}
+
+/// The answer to a file and the path of a PAR of its program that is to be expanded.
+pub fn expand_file<D: Desk>(
+    alloc: Global,
+    program: &str,
+    path: &Path,
+    desk: &mut D,
+) -> Result<Answer, Stop>
+    requires reads_countable { D.read_faults desk.old < u64.MAX }
+    requires writes_countable { D.write_faults desk.old < u64.MAX }
+    ensures expands { IfOk result (λ answer. IfSome (D.files desk.old) (λ files. Expands (files program.now) path.now answer)) }
+    ensures printable { IfOk result IsPrintable }
+    ensures usage { IfOk result (λ answer. answer ≢ Answer.Usage) }
+    ensures asked { AsksFor (D.asked desk.old) (D.asked desk.new) (program.now ∷ []) result }
+    ensures read_faults { CountsStop (D.read_faults desk.old) (D.read_faults desk.new) result }
+    ensures files { D.files desk.new ≡ D.files desk.old }
+    ensures written { D.written desk.new ≡ D.written desk.old }
+    ensures write_faults { D.write_faults desk.new ≡ D.write_faults desk.old }
+{
+    let loaded = load_text(alloc, desk, program)?;
+    Ok(expand(alloc, &loaded, path)?)
 }

@@ -2,12 +2,16 @@ ghost use Rattle.std.specs.Prelude.{ℕ, ◌≡◌, ◌↔◌, List, [], ◌∷�
 ghost use Rattle.occ_tool_run.specs.Files.{Files};
 ghost use Rattle.occ_tool_run.specs.Answers.{Answers};
 
+use occ_engine_once::{
+    expansions_have_no_fault, expansions_have_one_fault, expansions_have_one_outcome,
+    followed_orders_have_one_outcome, orders_follow_or_stop, orders_stop_once,
+};
 use occ_nform::normal_texts_tell_programs_apart;
 use occ_nform_params::parameters_have_names;
 use occ_parse_reading::one_reading;
 use occ_replay_rules::scripts_have_one_answer;
 use occ_run_follow::one_following;
-use occ_script::one_script;
+use occ_script::{one_orders, one_script};
 use occ_verdict::{one_verdict, refined_both_ways};
 use occ_views::{one_deadlock, one_refinement};
 
@@ -25,6 +29,13 @@ pub fn one_answer()
     one_script();
     scripts_have_one_answer();
     one_following();
+    one_orders();
+    followed_orders_have_one_outcome();
+    orders_follow_or_stop();
+    orders_stop_once();
+    expansions_have_one_outcome();
+    expansions_have_no_fault();
+    expansions_have_one_fault();
 }
 
 /// Two files are answered with SAME exactly where each of them is answered to refine the other, whichever is given first.

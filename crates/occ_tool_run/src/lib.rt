@@ -10,12 +10,14 @@ mod load;
 mod measure;
 mod member;
 mod normal;
+mod reason;
 mod refusal;
 mod rejection;
 mod replaying;
 mod running;
 mod stuck;
 mod top;
+mod transforming;
 
 pub use law::{one_answer, same_where_both_refine};
 pub use top::run;

@@ -11,8 +11,8 @@ use thiserror::Error;
 /// How many bytes the text of a program or of a behaviour has at most.
 pub const MOST_BYTES: u64 = 65_536;
 
-/// How many bytes a script has at most.
-const MOST_SCRIPT_BYTES: u64 = 4_194_304;
+/// How many bytes a script or an orders text has at most.
+pub const MOST_SCRIPT_BYTES: u64 = 4_194_304;
 
 /// How many bytes a normal text has at most.
 const MOST_TABLE_BYTES: u64 = 67_108_864;
@@ -125,19 +125,21 @@ pub fn load_script<D: Desk>(alloc: Global, desk: &mut D, name: &str) -> Result<L
     load(alloc, desk, name, MOST_SCRIPT_BYTES)
 }
 
-/// Reads two files that are to hold texts of programs or behaviours, in order. The first that can't be read ends it.
+/// Reads two files in order: the first is to hold the text of a program, and the second may have so many bytes. The first that
+/// can't be read ends it.
 pub fn load_both<D: Desk>(
     alloc: Global,
     desk: &mut D,
     first: &str,
     second: &str,
+    most: u64,
 ) -> Result<(Loaded, Loaded), Stop>
     requires reads_countable { D.read_faults desk.old < u64.MAX }
     requires writes_countable { D.write_faults desk.old < u64.MAX }
     ensures first { IfOk result (λ loaded. IfSome (D.files desk.old) (λ files. IsLoaded most_bytes (files first.now) loaded.0)) }
-    ensures second { IfOk result (λ loaded. IfSome (D.files desk.old) (λ files. IsLoaded most_bytes (files second.now) loaded.1)) }
+    ensures second { IfOk result (λ loaded. IfSome (D.files desk.old) (λ files. IsLoaded most (files second.now) loaded.1)) }
     ensures first_short { IfOk result (λ loaded. IsShort most_bytes loaded.0) }
-    ensures second_short { IfOk result (λ loaded. IsShort most_bytes loaded.1) }
+    ensures second_short { IfOk result (λ loaded. IsShort most loaded.1) }
     ensures asked { AsksFor (D.asked desk.old) (D.asked desk.new) (first.now ∷ second.now ∷ []) result }
     ensures read_faults { CountsStop (D.read_faults desk.old) (D.read_faults desk.new) result }
     ensures files { D.files desk.new ≡ D.files desk.old }
@@ -145,6 +147,6 @@ pub fn load_both<D: Desk>(
     ensures write_faults { D.write_faults desk.new ≡ D.write_faults desk.old }
 {
     let one = load_text(alloc, desk, first)?;
-    let two = load_text(alloc, desk, second)?;
+    let two = load(alloc, desk, second, most)?;
     Ok((one, two))
 }

@@ -102,15 +102,15 @@ pub fn usage_refusal(
     Ok(text)
 }
 
-/// The line that refuses a script.
-pub fn script_refusal(alloc: Global, fault: ScriptFault) -> Result<Vec<u8>, Memory>
+/// The line that refuses a script, or orders.
+pub fn script_refusal(alloc: Global, place: Side, fault: ScriptFault) -> Result<Vec<u8>, Memory>
     requires { ScriptFaultIsTold fault }
-    ensures { IfOk result (λ text. text.items ≡ script_refusal_text fault) }
+    ensures { IfOk result (λ text. text.items ≡ script_refusal_text place fault) }
 {
     match fault {
-        ScriptFault::Form { line } => refusal_with(alloc, Side::First, line, b"Form"),
-        ScriptFault::Version { line } => refusal_with(alloc, Side::First, line, b"Version"),
-        ScriptFault::Text(fault) => refusal(alloc, Side::First, fault),
+        ScriptFault::Form { line } => refusal_with(alloc, place, line, b"Form"),
+        ScriptFault::Version { line } => refusal_with(alloc, place, line, b"Version"),
+        ScriptFault::Text(fault) => refusal(alloc, place, fault),
         ScriptFault::Memory => unreachable!(),
     }
 }

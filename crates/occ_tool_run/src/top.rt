@@ -7,7 +7,8 @@ ghost use Rattle.occ_tool_run.specs.Ran.{Ran, Asked};
 
 use crate::answer::{Answer, status, text};
 use crate::files::{
-    belongs_file, check_file, compare_files, deadlock_file, normalise_file, replay_file, run_files,
+    belongs_file, check_file, compare_files, deadlock_file, expand_file, normalise_file,
+    replay_file, run_files, transform_files,
 };
 use crate::judge::Question;
 use crate::load::Stop;
@@ -21,10 +22,10 @@ use std::alloc::Global;
 ///
 /// | status | comes exactly where | written |
 /// |---|---|---|
-/// | 0 | the programs mean the same; the second refines the first; the program can't be stuck; the normal text is written; the text is normal; the behaviour belongs to the program; the generated program is measured; the script joins its programs; the schedule was followed | the answer |
+/// | 0 | the programs mean the same; the second refines the first; the program can't be stuck; the normal text is written; the text is normal; the behaviour belongs to the program; the generated program is measured; the script joins its programs; the schedule was followed; the orders were followed; the PAR is expanded | the answer |
 /// | 1 | the programs differ; the second does more than the first; the program can be stuck; the behaviour doesn't belong to the program; the script doesn't join its programs | the answer |
 /// | 2 | the words don't fit | the line of usage |
-/// | 3 | a text is refused, or a step of a schedule isn't there | the refusal |
+/// | 3 | a text is refused, or a step of a schedule isn't there, or an order or the path of a PAR is refused | the refusal |
 /// | 4 | a read failed in this call | nothing |
 /// | 5 | a write failed in this call | a front of the answer |
 /// | 6 | memory wanted, before the first write | nothing |
@@ -119,5 +120,7 @@ fn find_answer<D: Desk>(alloc: Global, words: &[String], desk: &mut D) -> Result
         Command::Deadlock { program } => deadlock_file(alloc, program, desk),
         Command::Replay { text } => replay_file(alloc, text, desk),
         Command::Run { program, text } => run_files(alloc, program, text, desk),
+        Command::Transform { program, text } => transform_files(alloc, program, text, desk),
+        Command::Expand { program, path } => expand_file(alloc, program, &path, desk),
     }
 }

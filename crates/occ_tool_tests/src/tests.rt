@@ -43,7 +43,7 @@ fn desk_with(
     ensures reads { IfOk result (λ desk. desk.read_faults ≡ 0) }
     ensures writes { IfOk result (λ desk. desk.write_faults ≡ 0) }
 {
-    let mut desk = MemoryDesk::new(alloc, failing, piece, 200)?;
+    let mut desk = MemoryDesk::new(alloc, failing, piece, 1000)?;
     desk.add("A", first)?;
     desk.add("B", second)?;
     Ok(desk)
@@ -136,7 +136,8 @@ fn words_fit_or_are_answered_with_usage(rt: HostRuntime) -> Result<(), Fail> {
         (["occam", "same", "-A", "B"].as_slice(), 2, USAGE),
         (["occam", "--help"].as_slice(), 2, USAGE),
         (["occam", "help"].as_slice(), 2, USAGE),
-        (["occam", "transform", "A", "B"].as_slice(), 2, USAGE),
+        (["occam", "stress", "muxes", "49"].as_slice(), 2, USAGE),
+        (["occam", "expand", "A", "0"].as_slice(), 2, USAGE),
         (["occam"].as_slice(), 2, USAGE),
         ([].as_slice(), 2, USAGE),
     ] {
@@ -561,6 +562,61 @@ fn schedules_are_followed(rt: HostRuntime) -> Result<(), Fail> {
     ] {
         let words = ["occam", "run", "A", "B"].as_slice();
         let (answer, desk) = command(rt.alloc(), words, program, schedule)?;
+        assert_eq!(rt; answer, status);
+        assert_eq!(rt; desk.written(), text.as_bytes());
+    }
+    Ok(())
+}
+
+const ONE_SKIP: &str = "PROC p ()\n  SEQ\n    SKIP\n:\n";
+
+const TWO_OUTPUTS: &str =
+    "PROC two (WORD2 x, CHAN OF WORD2 a!, b!)\n  PAR\n    a ! x\n    b ! 3\n:\n";
+
+const DROPPED: &str =
+    "occam-script 2\nFROM\nPROC p ()\n  SEQ\n    SKIP\n:\nSTEP seq-skip FORWARD /\n  SEQ\nTO\nPROC p ()\n  SEQ\n:\n";
+
+const EXPANDED: &str =
+    "occam-script 2\nFROM\nPROC two (WORD2 x, CHAN OF WORD2 a!, CHAN OF WORD2 b!)\n  PAR\n    a ! x\n    b ! 3\n:\nSTEP io-alt FORWARD /0\n  ALT\n    a ! x\n      SKIP\nSTEP io-alt FORWARD /1\n  ALT\n    b ! 3\n      SKIP\nSTEP par-expand FORWARD /\n  ALT\n    a ! x\n      PAR\n        SKIP\n        ALT\n          b ! 3\n            SKIP\n    b ! 3\n      PAR\n        ALT\n          a ! x\n            SKIP\n        SKIP\nTO\nPROC two (WORD2 x, CHAN OF WORD2 a!, CHAN OF WORD2 b!)\n  ALT\n    a ! x\n      PAR\n        SKIP\n        ALT\n          b ! 3\n            SKIP\n    b ! 3\n      PAR\n        ALT\n          a ! x\n            SKIP\n        SKIP\n:\n";
+
+#[test]
+fn orders_are_followed(rt: HostRuntime) -> Result<(), Fail> {
+    for (orders, status, text) in [
+        ("occam-orders 2\nORDER seq-skip FORWARD /\n", 0, DROPPED),
+        (
+            "occam-orders 2\nORDER seq-jump FORWARD /\n",
+            3,
+            "REFUSED ORDER 1 NoLaw\n",
+        ),
+        (
+            "occam-orders 2\nORDER seq-one FORWARD /\n  y := 1\n",
+            3,
+            "REFUSED ORDER 1 NotAccepted\n",
+        ),
+        (
+            "occam-orders 2\nORDER seq-one FORWARD /\n  STOP\n",
+            3,
+            "REFUSED ORDER 1 NotApplicable\n",
+        ),
+        ("occam-orders 1\n", 3, "REFUSED SECOND 1 Version\n"),
+    ] {
+        let words = ["occam", "transform", "A", "B"].as_slice();
+        let (answer, desk) = command(rt.alloc(), words, ONE_SKIP, orders)?;
+        assert_eq!(rt; answer, status);
+        assert_eq!(rt; desk.written(), text.as_bytes());
+    }
+    Ok(())
+}
+
+#[test]
+fn a_par_is_expanded(rt: HostRuntime) -> Result<(), Fail> {
+    for (program, path, status, text) in [
+        (TWO_OUTPUTS, "/", 0, EXPANDED),
+        (ONE_SKIP, "/", 3, "REFUSED PATH NotPar\n"),
+        (ONE_SKIP, "/7", 3, "REFUSED PATH NoPath\n"),
+    ] {
+        let words = ["occam", "expand", "A", path];
+        let (answer, desk) = command(rt.alloc(), words.as_slice(), program, "")?;
         assert_eq!(rt; answer, status);
         assert_eq!(rt; desk.written(), text.as_bytes());
     }

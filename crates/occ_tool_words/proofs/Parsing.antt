@@ -10,9 +10,11 @@ use Rattle.clap.specs.Kinds.{Kinds, or_else}
 use Rattle.clap.specs.Faults.{turn_fault, walk_fault, entered_fault, fault_of, settle_fault, defaults_fault, check_fault, stray_fault}
 use Rattle.clap.specs.Simple.{App, Shape, built, names_of, rows_at, subcommand_of, entered}
 use Rattle.clap.proofs.OnLiterals.{clap_on_literals}
-use Rattle.occ_tool_words.specs.Words.{Job, same, normalise, normal, belongs, refine, deadlock, replay, run, is_plain, job_of, stress_of, with_one, with_two}
+use Rattle.occ_base.specs.declared.memory.Memory.{Memory}
+use Rattle.occ_tool_words.specs.declared.words.Command.{Command}
+use Rattle.occ_tool_words.specs.Words.{Job, same, normalise, normal, belongs, refine, deadlock, replay, run, is_plain, job, job_of, stress_of, with_one, with_two}
 use Rattle.occ_tool_words.specs.CommandLine.{line, job_found, job_named}
-use Rattle.std.proofs.Common.{String, Global, string_bytes}
+use Rattle.std.proofs.Common.{String, Global, string_bytes, Result, Ok, Err, IfOk}
 use Rattle.std.specs.Prelude.{Box}
 use Rattle.std.specs.Box.{box_value}
 use Rattle.std.proofs.lemmas.List.Folds.{list_all-map}
@@ -46,6 +48,8 @@ data Two : Type 0 where
   stresses : Two
   refines : Two
   steps : Two
+  transforms : Two
+  expands : Two
 
 abbrev one_named : One → Text
 one_named normalises = codes "normalise"
@@ -59,6 +63,8 @@ two_named judges = codes "belongs"
 two_named stresses = codes "stress"
 two_named refines = codes "refine"
 two_named steps = codes "run"
+two_named transforms = codes "transform"
+two_named expands = codes "expand"
 
 -- a word that names no command
 record IsOther (word : Text) : Type 0 where
@@ -71,6 +77,8 @@ record IsOther (word : Text) : Type 0 where
   not_deadlock : bytes_eq (codes "deadlock") word ≡ false
   not_replay : bytes_eq (codes "replay") word ≡ false
   not_run : bytes_eq (codes "run") word ≡ false
+  not_transform : bytes_eq (codes "transform") word ≡ false
+  not_expand : bytes_eq (codes "expand") word ≡ false
 
 data Naming (word : Text) : Type 0 where
   names_one : (v : One) → one_named v ≡ word → Naming word
@@ -100,17 +108,25 @@ naming word =
                     | inl e ↦ names_one replays (equal (codes "replay") word e)
                     | inr i ↦ elim (cases_Bool (bytes_eq (codes "run") word)) [
                       | inl e ↦ names_two steps (equal (codes "run") word e)
-                      | inr j ↦ names_none (record {
-                        not_same = a;
-                        not_normalise = b;
-                        not_normal = c;
-                        not_belongs = d;
-                        not_stress = f;
-                        not_refine = g;
-                        not_deadlock = h;
-                        not_replay = i;
-                        not_run = j;
-                      })
+                      | inr j ↦ elim (cases_Bool (bytes_eq (codes "transform") word)) [
+                        | inl e ↦ names_two transforms (equal (codes "transform") word e)
+                        | inr k ↦ elim (cases_Bool (bytes_eq (codes "expand") word)) [
+                          | inl e ↦ names_two expands (equal (codes "expand") word e)
+                          | inr l ↦ names_none (record {
+                            not_same = a;
+                            not_normalise = b;
+                            not_normal = c;
+                            not_belongs = d;
+                            not_stress = f;
+                            not_refine = g;
+                            not_deadlock = h;
+                            not_replay = i;
+                            not_run = j;
+                            not_transform = k;
+                            not_expand = l;
+                          })
+                        ]
+                      ]
                     ]
                   ]
                 ]
@@ -146,7 +162,8 @@ other_name word other =
     ∙ past_name (codes "normal") word (drop 3 names) other.not_normal ∙ past_name (codes "belongs") word (drop 4 names) other.not_belongs
     ∙ past_name (codes "stress") word (drop 5 names) other.not_stress ∙ past_name (codes "refine") word (drop 6 names) other.not_refine
     ∙ past_name (codes "deadlock") word (drop 7 names) other.not_deadlock ∙ past_name (codes "replay") word (drop 8 names) other.not_replay
-    ∙ past_name (codes "run") word [] other.not_run
+    ∙ past_name (codes "run") word (drop 9 names) other.not_run ∙ past_name (codes "transform") word (drop 10 names) other.not_transform
+    ∙ past_name (codes "expand") word [] other.not_expand
 
 stray : (name word : Text) (more : List Text) → is_plain word ≡ true → IsOther word → fault_of line (name ∷ word ∷ more) ≡ [] → ⊥
 unfolding walk_fault
@@ -238,6 +255,18 @@ enters_two refines = record {
 enters_two steps = record {
   walks = λ more. kept top.rules names (codes "run") [] more;
   passes = λ more. no_more_faults top names (codes "run") [] more;
+  fails = λ more. refl;
+  found = λ more. refl;
+}
+enters_two transforms = record {
+  walks = λ more. kept top.rules names (codes "transform") [] more;
+  passes = λ more. no_more_faults top names (codes "transform") [] more;
+  fails = λ more. refl;
+  found = λ more. refl;
+}
+enters_two expands = record {
+  walks = λ more. kept top.rules names (codes "expand") [] more;
+  passes = λ more. no_more_faults top names (codes "expand") [] more;
   fails = λ more. refl;
   found = λ more. refl;
 }
@@ -341,7 +370,9 @@ other_two word a b other =
     (passed (codes "belongs") word _ _ other.not_belongs
     (passed (codes "stress") word _ _ other.not_stress
     (passed (codes "refine") word _ _ other.not_refine
-    (passed (codes "run") word _ _ other.not_run refl))))
+    (passed (codes "run") word _ _ other.not_run
+    (passed (codes "transform") word _ _ other.not_transform
+    (passed (codes "expand") word _ _ other.not_expand refl))))))
 
 not_with_two : (v : One) (a b : Text) → with_two (one_named v) a b ≡ None
 not_with_two normalises a b = refl
@@ -355,6 +386,8 @@ not_with_one judges a = refl
 not_with_one stresses a = refl
 not_with_one refines a = refl
 not_with_one steps a = refl
+not_with_one transforms a = refl
+not_with_one expands a = refl
 
 not_fitting : (name word : Text) (rest : List Text) → IsOther word → job_of (name ∷ word ∷ rest) ≡ None
 not_fitting name word [] other = refl
@@ -410,6 +443,8 @@ two_is_plain judges = refl
 two_is_plain stresses = refl
 two_is_plain refines = refl
 two_is_plain steps = refl
+two_is_plain transforms = refl
+two_is_plain expands = refl
 
 not_plain_rest : (name word : Text) (rest : List Text) → is_plain word ≡ true → list_all is_plain (word ∷ rest) ≡ false → job_of (name ∷ word ∷ rest) ≡ None
 not_plain_rest name word [] plain e = refl
@@ -457,17 +492,22 @@ line_free : is_simple_and_free line ≡ true
 unfolding clap_on_literals
 line_free = refl
 
-pub accepted : (a : App) (words : List (String Global)) (m : ArgMatches) (r : Option Job) → a ≡ line
+-- a command that was found is what the words ask for
+pub as_asked : (r : Result Command Memory) (x y : Option Job) → x ≡ y → IfOk r (λ command. job command ≡ x) → IfOk r (λ command. job command ≡ y)
+as_asked (Ok command) x y e h = h ∙ e
+as_asked (Err m) x y e h = tt
+
+pub accepted : (a : App) (words : List (String Global)) (m : ArgMatches) → a ≡ line
     → list_all (λ w. is_plain (string_bytes w)) (drop 1 words) ≡ true
     → HasMatchesOf a (map string_bytes words) m
     → (is_simple_and_free a ≡ true → fault_of a (map string_bytes words) ≡ [])
-    → r ≡ option_and_then job_found (subcommand_rows_of m) → r ≡ job_of (map string_bytes words)
-accepted a words m r is plain matches fault found_is =
+    → option_and_then job_found (subcommand_rows_of m) ≡ job_of (map string_bytes words)
+accepted a words m is plain matches fault =
     let texts = map string_bytes words in
     let simple : is_simple a ≡ true = ap is_simple is ∙ line_simple in
     let free : is_simple_and_free a ≡ true = ap is_simple_and_free is ∙ line_free in
     let none : fault_of line texts ≡ [] = ap (λ b. fault_of b texts) (sym is) ∙ fault free in
-    found_is ∙ ap (λ o. option_and_then job_found o) ((matches simple).1 ∙ ap (λ b. subcommand_of b texts) is)
+    ap (λ o. option_and_then job_found o) ((matches simple).1 ∙ ap (λ b. subcommand_of b texts) is)
     ∙ decided texts (plain_words words ∙ plain) none
 
 pub refused : (a : App) (words : List (String Global)) (e : Error) → a ≡ line
@@ -494,12 +534,11 @@ module _ {Z : Type 0} where
       let r : rows ≡ rows_of (found_of (out-SubCommand (box_value b)).matches) = cc in
       ap₂ (λ (x : Text) (y : List Row). Some (x, y)) (sym n) (sym r)
 
-  pub found_named : (sub : Option (Box SubCommand Z)) (name : Text) (f : Found) (first second : Option Text) (r : Option Job)
+  pub found_named : (sub : Option (Box SubCommand Z)) (name : Text) (f : Found) (first second : Option Text)
       → Some name ≡ option_map (λ b. (out-SubCommand (box_value b)).name.now) sub
       → Some (rows_of f) ≡ option_map (λ p. p.1) (subcommand_rows sub)
       → first ≡ first_value f (codes "first") → second ≡ first_value f (codes "second")
-      → r ≡ job_named name first second
-      → r ≡ option_and_then job_found (subcommand_rows sub)
-  found_named sub name f first second r is rows a b e =
-      e ∙ ap₂ (job_named name) (a ∙ first_value-rows f (codes "first")) (b ∙ first_value-rows f (codes "second"))
+      → job_named name first second ≡ option_and_then job_found (subcommand_rows sub)
+  found_named sub name f first second is rows a b =
+      ap₂ (job_named name) (a ∙ first_value-rows f (codes "first")) (b ∙ first_value-rows f (codes "second"))
       ∙ sym (ap (λ o. option_and_then job_found o) (entry_is sub name (rows_of f) is rows))

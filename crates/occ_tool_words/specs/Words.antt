@@ -3,10 +3,11 @@ use Rattle.std.specs.Prelude.{ℕ, ◌+◌, ◌-◌, ◌*◌, ◌==◌, nat_le, 
 use Rattle.std.specs.Str.{bytes_eq}
 use Rattle.occ_gen.specs.declared.shape.Shape.{Shape}
 use Rattle.occ_gen.specs.declared.shape.Shape.TheVariants.{Buffers, Adders, Muxes}
+use Rattle.occ_script_path.specs.Texts.{path_of}
 use Rattle.occ_tool_words.specs.declared.words.Command.{Command}
-use Rattle.occ_tool_words.specs.declared.words.Command.TheVariants.{Usage, Same, Normalise, Normal, Belongs, Stress, Refine, Deadlock, Replay, Run}
+use Rattle.occ_tool_words.specs.declared.words.Command.TheVariants.{Usage, Same, Normalise, Normal, Belongs, Stress, Refine, Deadlock, Replay, Run, Transform, Expand}
 
--- a command with its words: those that name files as they stand, the kind of a chain, and how many stages it has
+-- a command with its words: those that name files as they stand, the kind of a chain and how many stages it has, and a path
 pub data Job : Type 0 where
   same : List ℕ → List ℕ → Job
   normalise : List ℕ → Job
@@ -17,6 +18,8 @@ pub data Job : Type 0 where
   deadlock : List ℕ → Job
   replay : List ℕ → Job
   run : List ℕ → List ℕ → Job
+  transform : List ℕ → List ℕ → Job
+  expand : List ℕ → List ℕ → Job
 
 abbrev pub job : Command → Option Job
 job Usage = None
@@ -29,6 +32,8 @@ job (Refine first second) = Some (refine first.now second.now)
 job (Deadlock program) = Some (deadlock program.now)
 job (Replay text) = Some (replay text.now)
 job (Run program text) = Some (run program.now text.now)
+job (Transform program text) = Some (transform program.now text.now)
+job (Expand program path) = Some (expand program.now path)
 
 -- the word isn't empty and doesn't begin with a hyphen
 abbrev pub is_plain : List ℕ → Bool
@@ -70,14 +75,24 @@ with_one command first =
     else (if bytes_eq command (codes "deadlock") then Some (deadlock first)
     else (if bytes_eq command (codes "replay") then Some (replay first) else None)))
 
+-- the second word writes a path
+abbrev pub expand_of : List ℕ → List ℕ → Option Job
+expand_of program word = option_map (expand program) (path_of word)
+
 -- a command that two words follow
+abbrev pub with_two_later : List ℕ → List ℕ → List ℕ → Option Job
+with_two_later command first second =
+    if bytes_eq command (codes "refine") then Some (refine first second)
+    else (if bytes_eq command (codes "run") then Some (run first second)
+    else (if bytes_eq command (codes "transform") then Some (transform first second)
+    else (if bytes_eq command (codes "expand") then expand_of first second else None)))
+
 abbrev pub with_two : List ℕ → List ℕ → List ℕ → Option Job
 with_two command first second =
     if bytes_eq command (codes "same") then Some (same first second)
     else (if bytes_eq command (codes "belongs") then Some (belongs first second)
     else (if bytes_eq command (codes "stress") then stress_of first second
-    else (if bytes_eq command (codes "refine") then Some (refine first second)
-    else (if bytes_eq command (codes "run") then Some (run first second) else None))))
+    else with_two_later command first second))
 
 -- The words fit where the second, after the program's own name, is a command, exactly that command's words follow, and
 -- no word after the first is empty or begins with a hyphen.
@@ -100,6 +115,8 @@ files_of (refine first second) = first ∷ second ∷ []
 files_of (deadlock program) = program ∷ []
 files_of (replay text) = text ∷ []
 files_of (run program text) = program ∷ text ∷ []
+files_of (transform program text) = program ∷ text ∷ []
+files_of (expand program path) = program ∷ []
 
 abbrev pub file_words_of : Option Job → List (List ℕ)
 file_words_of None = []

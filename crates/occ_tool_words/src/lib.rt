@@ -1,6 +1,7 @@
 //! The words of a command line: which command they ask for, and its words. The commands are `same A B`, `normalise A`,
-//! `normal T`, `belongs A T`, `refine A B`, `deadlock A`, `replay T`, `run A T` and `stress KIND N`, where `KIND` is `buffers`,
-//! `adders` or `muxes`, and `N` a number from 1 to 48; the other words name files.
+//! `normal T`, `belongs A T`, `transform A T`, `expand A PATH`, `refine A B`, `deadlock A`, `replay T`, `run A T` and
+//! `stress KIND N`, where `PATH` is a path, `KIND` is `buffers`, `adders` or `muxes`, and `N` a number from 1 to 48; the other
+//! words name files.
 #![tactic(auto)]
 
 mod stages;

@@ -1,6 +1,6 @@
 ghost use Rattle.std.specs.Prelude.{◌≡◌, ◌↔◌, map, drop, string_bytes, option_map, option_and_then, IfOk, IsTrue, true, false};
 ghost use Rattle.std.specs.List.{fold, list_all};
-ghost use Rattle.occ_tool_words.specs.Words.{is_plain, job, job_of, stress_of, with_one, with_two};
+ghost use Rattle.occ_tool_words.specs.Words.{expand_of, is_plain, job, job_of, stress_of, with_one, with_two, with_two_later};
 ghost use Rattle.occ_tool_words.specs.CommandLine.{bare_line as no_commands, line as whole_line, job_found, job_named, later_commands, one_word_line, two_word_line, with_command};
 ghost use Rattle.std.specs.Option.{option_copied};
 ghost use Rattle.clap.specs.Words.{app_of, subcommand_rows_of, kind_of};
@@ -11,10 +11,11 @@ use clap::error::ErrorKind;
 use clap::{Arg, ArgMatches, Error};
 use occ_base::Memory;
 use occ_gen::Shape;
+use occ_script_path::{Path, path};
 use std::alloc::{AllocError, Global};
 
 /// What a command line asks for.
-#[derive(Clone, Copy, Debug, PartialEq)]
+#[derive(Debug, Drop)]
 pub enum Command<'a> {
     /// Nothing: the words don't fit.
     Usage,
@@ -36,6 +37,10 @@ pub enum Command<'a> {
     Replay { text: &'a str },
     /// To follow the schedule in one file through the program in another, step by step.
     Run { program: &'a str, text: &'a str },
+    /// To follow the orders in one file from the program in another, law by law, and to write the script.
+    Transform { program: &'a str, text: &'a str },
+    /// To expand the PAR of two parts at a path of the program in a file, and to write the script.
+    Expand { program: &'a str, path: Path },
 }
 
 /// What the words of a command line ask for, the program's own name first.
@@ -46,7 +51,7 @@ pub fn command_in<'a>(alloc: Global, words: &'a [String]) -> Result<Command<'a>,
         return Ok(Command::Usage);
     }
     match command_line(alloc)?.try_get_matches_from(words) {
-        Ok(matches) => Ok(command_found(&matches)),
+        Ok(matches) => command_found(alloc, &matches),
         Err(error) => {
             if is_memory(&error) {
                 Err(Memory)
@@ -103,7 +108,9 @@ fn add_later<'a>(alloc: Global, line: clap::Command<'a>) -> Result<clap::Command
     let line = add_two(alloc, line, "refine")?;
     let line = add_one(alloc, line, "deadlock")?;
     let line = add_one(alloc, line, "replay")?;
-    add_two(alloc, line, "run")
+    let line = add_two(alloc, line, "run")?;
+    let line = add_two(alloc, line, "transform")?;
+    add_two(alloc, line, "expand")
 }
 
 /// The command line with no command yet.
@@ -155,25 +162,30 @@ fn two_words<'a>(alloc: Global, name: &'a str) -> Result<clap::Command<'a>, Allo
 }
 
 /// What the parse found.
-fn command_found<'a>(matches: &ArgMatches<'a>) -> Command<'a>
-    ensures { job result ≡ option_and_then job_found (subcommand_rows_of matches.now) }
+fn command_found<'a>(alloc: Global, matches: &ArgMatches<'a>) -> Result<Command<'a>, Memory>
+    ensures { IfOk result (λ command. job command ≡ option_and_then job_found (subcommand_rows_of matches.now)) }
 {
     let Some((name, found)) = matches.subcommand() else {
-        return Command::Usage;
+        return Ok(Command::Usage);
     };
-    command_named(name, found.get_str("first"), found.get_str("second"))
+    command_named(alloc, name, found.get_str("first"), found.get_str("second"))
 }
 
 /// The command of a name and the words that follow it.
-fn command_named<'a>(name: &str, first: Option<&'a str>, second: Option<&'a str>) -> Command<'a>
-    ensures { job result ≡ job_named name.now (option_copied first.entry) (option_copied second.entry) }
+fn command_named<'a>(
+    alloc: Global,
+    name: &str,
+    first: Option<&'a str>,
+    second: Option<&'a str>,
+) -> Result<Command<'a>, Memory>
+    ensures { IfOk result (λ command. job command ≡ job_named name.now (option_copied first.entry) (option_copied second.entry)) }
 {
     let Some(first) = first else {
-        return Command::Usage;
+        return Ok(Command::Usage);
     };
     match second {
-        None => command_of_one(name, first),
-        Some(second) => command_of_two(name, first, second),
+        None => Ok(command_of_one(name, first)),
+        Some(second) => command_of_two(alloc, name, first, second),
     }
 }
 
@@ -193,27 +205,53 @@ fn command_of_one<'a>(name: &str, first: &'a str) -> Command<'a>
     }
 }
 
-fn command_of_two<'a>(name: &str, first: &'a str, second: &'a str) -> Command<'a>
-    ensures { job result ≡ with_two name.now first.entry.now second.entry.now }
+fn command_of_two<'a>(
+    alloc: Global,
+    name: &str,
+    first: &'a str,
+    second: &'a str,
+) -> Result<Command<'a>, Memory>
+    ensures { IfOk result (λ command. job command ≡ with_two name.now first.entry.now second.entry.now) }
 {
     if name == "same" {
-        Command::Same { first, second }
+        Ok(Command::Same { first, second })
     } else if name == "belongs" {
-        Command::Belongs {
+        Ok(Command::Belongs {
             program: first,
             text: second,
-        }
+        })
     } else if name == "stress" {
-        stress_with(first, second)
-    } else if name == "refine" {
-        Command::Refine { first, second }
+        Ok(stress_with(first, second))
+    } else {
+        command_behind_stress(alloc, name, first, second)
+    }
+}
+
+/// The commands with two words that stand behind `stress`.
+fn command_behind_stress<'a>(
+    alloc: Global,
+    name: &str,
+    first: &'a str,
+    second: &'a str,
+) -> Result<Command<'a>, Memory>
+    ensures { IfOk result (λ command. job command ≡ with_two_later name.now first.entry.now second.entry.now) }
+{
+    if name == "refine" {
+        Ok(Command::Refine { first, second })
     } else if name == "run" {
-        Command::Run {
+        Ok(Command::Run {
             program: first,
             text: second,
-        }
+        })
+    } else if name == "transform" {
+        Ok(Command::Transform {
+            program: first,
+            text: second,
+        })
+    } else if name == "expand" {
+        expand_with(alloc, first, second)
     } else {
-        Command::Usage
+        Ok(Command::Usage)
     }
 }
 
@@ -228,4 +266,14 @@ fn stress_with<'a>(kind: &str, stages: &str) -> Command<'a>
         return Command::Usage;
     };
     Command::Stress { shape, stages }
+}
+
+/// The command `expand` with its two words.
+fn expand_with<'a>(alloc: Global, program: &'a str, place: &str) -> Result<Command<'a>, Memory>
+    ensures { IfOk result (λ command. job command ≡ expand_of program.entry.now place.now) }
+{
+    match path(alloc, place.as_bytes())? {
+        Some(path) => Ok(Command::Expand { program, path }),
+        None => Ok(Command::Usage),
+    }
 }
