@@ -1,0 +1,31 @@
+ghost use Rattle.std.specs.Prelude.{◌≡◌, ◌≤◌, [], length, IfOk};
+ghost use Rattle.occ_nform_table.specs.Normal.{text_read};
+ghost use Rattle.occ_draw_run.specs.Answers.{told};
+ghost use Rattle.occ_draw_run.specs.Replies.{told_by};
+
+use crate::refusal::fault_text;
+use crate::top::Reply;
+use occ_base::{Memory, Names};
+use occ_draw_text::dot_text;
+use occ_nform_read::read;
+use occ_nform_text::a_normal_text_is_its_tables;
+use std::alloc::Global;
+
+/// The picture of a normal text, or the line that refuses it.
+pub(crate) fn picture(alloc: Global, text: &[u8]) -> Result<Reply, Memory>
+    requires { length text.now ≤ 67108864 }
+    ensures { IfOk result (λ reply. told_by reply ≡ told (text_read [] text.now)) }
+{
+    a_normal_text_is_its_tables();
+    let mut names = Names::new(alloc);
+    match read(alloc, &mut names, text) {
+        Ok(table) => Ok(Reply {
+            status: 0,
+            text: dot_text(alloc, &names, &table)?,
+        }),
+        Err(fault) => Ok(Reply {
+            status: 3,
+            text: fault_text(alloc, fault)?,
+        }),
+    }
+}

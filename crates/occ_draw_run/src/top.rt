@@ -1,0 +1,134 @@
+ghost use Rattle.std.specs.Prelude.{◌≡◌, ◌≢◌, ◌≤◌, ◌<◌, ◌↔◌, ◌⊎◌, map, string_bytes, IfOk, IfSome, None, Some, Err};
+ghost use Rattle.occ_draw_run.specs.Answers.{Answers, Draws, file_word as word_of};
+ghost use Rattle.occ_draw_run.specs.Refusals.{usage_text};
+ghost use Rattle.occ_draw_run.specs.Ran.{Ran};
+ghost use Rattle.occ_draw_run.specs.declared.top.Stop.TheVariants.{Memory as NoMemory};
+ghost use Rattle.occ_draw_run.specs.Replies.{CountsStop, told_by};
+
+use crate::picture::picture;
+use crate::refusal::line_refusal;
+use crate::word::file_word;
+use occ_base::Memory;
+use occ_desk::{Desk, ReadError, send};
+use std::alloc::Global;
+use thiserror::Error;
+
+/// How many bytes a normal text has at most.
+const MOST_BYTES: u64 = 67_108_864;
+
+/// Runs the command: the words of a command line, the program's own name first, over a desk, to which the picture of the normal
+/// text in the one file that the words name is written, as a text of the DOT language. The result is the status of the process:
+///
+/// | status | comes exactly where | written |
+/// |---|---|---|
+/// | 0 | the text is a normal one | its picture |
+/// | 2 | there isn't exactly one word, or it is empty or begins with `-` | the line of usage |
+/// | 3 | the text isn't a normal one | the line that refuses it, as the command `normal` does |
+/// | 4 | a read failed in this call | nothing |
+/// | 5 | a write failed in this call | a front of the answer |
+/// | 6 | out of memory, before the first write | nothing |
+///
+/// 4 and 5 yield to no other status, and each other yields to 4, 5 and 6. Where the desk tells its files, `Ran` says
+/// which answer the words and the files have.
+pub fn draw<D: Desk>(alloc: Global, words: &[String], desk: &mut D) -> u8
+    requires reads_countable { D.read_faults desk.old < u64.MAX }
+    requires writes_countable { D.write_faults desk.old < u64.MAX }
+
+    ensures answer { IfSome (D.files desk.old) (λ files.
+        Ran files (map string_bytes words.now) result (D.written desk.old) (D.written desk.new)) }
+    ensures read_fault { (result ≡ 4) ↔ (D.read_faults desk.old < D.read_faults desk.new) }
+    ensures write_fault { (result ≡ 5) ↔ (D.write_faults desk.old < D.write_faults desk.new) }
+
+    ensures status { result ≤ 6 }
+    ensures usage { result ≡ 2 → word_of (map string_bytes words.now) ≡ None }
+    ensures unfit { word_of (map string_bytes words.now) ≡ None → (result ≡ 2) ⊎ ((result ≡ 5) ⊎ (result ≡ 6)) }
+    ensures nothing { (result ≡ 4) ⊎ (result ≡ 6) → D.written desk.new ≡ D.written desk.old }
+    ensures files { D.files desk.new ≡ D.files desk.old }
+{
+    match make_reply(alloc, words, desk) {
+        Ok(reply) => match send(desk, reply.text.as_slice()) {
+            Ok(()) => reply.status,
+            Err(_) => 5,
+        },
+        Err(Stop::Read) => 4,
+        Err(Stop::Memory) => 6,
+    }
+}
+
+/// An answer as it is written, with its status.
+#[derive(Drop)]
+pub(crate) struct Reply {
+    pub(crate) status: u8,
+    pub(crate) text: Vec<u8>,
+}
+
+/// Why there is no answer.
+#[derive(Clone, Copy, Debug, PartialEq, Eq, Error)]
+pub(crate) enum Stop {
+    /// A read failed.
+    #[error("the file can't be read")]
+    Read,
+    /// Out of memory.
+    #[error("out of memory")]
+    Memory,
+}
+
+impl From<Memory> for Stop {
+    ghost from_gives = { λ _ e. e ≡ NoMemory };
+
+    fn from(_cause: Memory) -> Stop {
+        Stop::Memory
+    }
+}
+
+/// The reply to a command line. It only reads.
+fn make_reply<D: Desk>(alloc: Global, words: &[String], desk: &mut D) -> Result<Reply, Stop>
+    requires reads_countable { D.read_faults desk.old < u64.MAX }
+    requires writes_countable { D.write_faults desk.old < u64.MAX }
+    ensures answers { IfOk result (λ reply. IfSome (D.files desk.old) (λ files. Answers files (map string_bytes words.now) (told_by reply))) }
+    ensures status { IfOk result (λ reply. reply.status ≤ 3) }
+    ensures usage { IfOk result (λ reply. reply.status ≡ 2 → word_of (map string_bytes words.now) ≡ None) }
+    ensures unfit { word_of (map string_bytes words.now) ≡ None → IfOk result (λ reply. reply.status ≡ 2) }
+    ensures readable { word_of (map string_bytes words.now) ≡ None → result ≢ Err Stop.Read }
+    ensures read_faults { CountsStop (D.read_faults desk.old) (D.read_faults desk.new) result }
+    ensures files { D.files desk.new ≡ D.files desk.old }
+    ensures written { D.written desk.new ≡ D.written desk.old }
+    ensures write_faults { D.write_faults desk.new ≡ D.write_faults desk.old }
+{
+    match file_word(words) {
+        Some(name) => draw_file(alloc, name, desk),
+        None => Ok(Reply {
+            status: 2,
+            text: usage(alloc)?,
+        }),
+    }
+}
+
+fn usage(alloc: Global) -> Result<Vec<u8>, Memory>
+    ensures { IfOk result (λ text. text.items ≡ usage_text) }
+{
+    Ok(Vec::from_slice(alloc, b"USAGE draw T\n")?)
+}
+
+/// The reply to the file of that name.
+fn draw_file<D: Desk>(alloc: Global, name: &str, desk: &mut D) -> Result<Reply, Stop>
+    requires reads_countable { D.read_faults desk.old < u64.MAX }
+    requires writes_countable { D.write_faults desk.old < u64.MAX }
+    ensures draws { IfOk result (λ reply. IfSome (D.files desk.old) (λ files. Draws (files name.now) (told_by reply))) }
+    ensures status { IfOk result (λ reply. (reply.status ≡ 0) ⊎ (reply.status ≡ 3)) }
+    ensures read_faults { CountsStop (D.read_faults desk.old) (D.read_faults desk.new) result }
+    ensures files { D.files desk.new ≡ D.files desk.old }
+    ensures written { D.written desk.new ≡ D.written desk.old }
+    ensures write_faults { D.write_faults desk.new ≡ D.write_faults desk.old }
+{
+    let mut text = Vec::new(alloc);
+    match desk.read(name, MOST_BYTES, &mut text) {
+        Ok(()) => Ok(picture(alloc, text.as_slice())?),
+        Err(ReadError::TooLong) => Ok(Reply {
+            status: 3,
+            text: line_refusal(alloc, 1, b" Limit Bytes\n")?,
+        }),
+        Err(ReadError::Failed) => Err(Stop::Read),
+        Err(ReadError::Memory) => Err(Stop::Memory),
+    }
+}

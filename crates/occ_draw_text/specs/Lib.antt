@@ -1,0 +1,6 @@
+pub mod Spans
+pub mod Starting
+pub mod Edges
+pub mod Adding
+pub mod Strings
+pub mod Pictures
