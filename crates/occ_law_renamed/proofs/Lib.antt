@@ -2,7 +2,7 @@ mod Names
 mod Usage
 mod Composed
 mod Lists
-mod States
+pub mod States
 mod Sequence
 mod Choice
 mod Parallel

@@ -1,5 +1,5 @@
 mod Places
 mod Symbols
-mod Lines
-mod Texts
-mod Moving
+pub mod Lines
+pub mod Texts
+pub mod Moving

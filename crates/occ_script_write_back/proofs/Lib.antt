@@ -3,9 +3,9 @@ mod Numerals
 mod Saying
 mod Bodies
 mod Scripts
-mod Staying
+pub mod Staying
 mod Steps
 mod OneByOne
 mod Programs
-mod Formed
+pub mod Formed
 mod Whole

@@ -1,0 +1,12 @@
+pub mod Renamed
+pub mod Known
+pub mod Counts
+pub mod Tables
+pub mod Staying
+pub mod Front
+pub mod Grown
+pub mod Behind
+pub mod Joining
+pub mod Covered
+pub mod Reaching
+pub mod Printed
