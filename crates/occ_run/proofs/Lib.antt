@@ -15,3 +15,4 @@ pub mod Applying
 pub mod Refusing
 pub mod Listing
 pub mod Listed
+pub mod Holding

@@ -5,7 +5,7 @@ use Rattle.std.proofs.Math.Logic.{∥∥₁_elim, ∥∥₁_map}
 use Rattle.std.proofs.lemmas.Bool.{lt-ltb, ltb-true}
 use Rattle.std.proofs.lemmas.Grind.{merely}
 use Rattle.occ_behaviour.specs.States.{is_state}
-use Rattle.occ_member_runs.proofs.Holding.{holds_state}
+use Rattle.occ_run.proofs.Holding.{holds_state}
 use Rattle.occ_run_laws.proofs.KeptSettled.{begun_kept}
 use Rattle.occ_run_steps.specs.Settled.{begun, settled}
 use Rattle.occ_syntax.specs.Tree.{Tree}

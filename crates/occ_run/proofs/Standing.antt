@@ -9,7 +9,7 @@ use Rattle.occ_base.specs.declared.event.Event.{Event}
 use Rattle.occ_base.specs.declared.names.Name.{Name}
 use Rattle.occ_base.specs.declared.width.Width.{Width}
 use Rattle.occ_behaviour.specs.States.{is_state}
-use Rattle.occ_member_runs.proofs.Holding.{holds_state}
+use Rattle.occ_run.proofs.Holding.{holds_state}
 use Rattle.occ_syntax.specs.Meaning.{ended, ends, fails, meaning, refusing}
 use Rattle.occ_syntax.specs.Same.{HasTrace}
 use Rattle.occ_syntax.specs.Scopes.{Environment, IsState, Values, among, environment, same_event, values, variable_width}

@@ -47,7 +47,7 @@ pub enum Control<'a> {
 }
 
 /// Whether nothing is left to be done.
-pub(crate) fn is_over(control: &Control) -> bool
+pub fn is_over(control: &Control) -> bool
     ensures { result ≡ is_done (left control.now) }
 {
     match control {

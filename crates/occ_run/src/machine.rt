@@ -1,3 +1,4 @@
+ghost use Rattle.std.specs.Prelude.{◌≡◌};
 ghost use Rattle.occ_run_steps.specs.Kept.{Kept};
 ghost use Rattle.occ_syntax.specs.Scopes.{IsState, environment, values};
 ghost use Rattle.occ_run.specs.View.{control as left};
@@ -20,4 +21,29 @@ pub struct Point<'a> {
 pub struct Machine<'a> {
     pub(crate) point: Point<'a>,
     pub(crate) trace: Vec<Event>,
+}
+
+impl<'a> Point<'a> {
+    /// The parameters and their values.
+    pub fn place(&self) -> &Place
+        ensures { result.now ≡ self.now.place }
+    {
+        &self.place
+    }
+
+    /// What is left to be done.
+    pub fn control(&self) -> &Control<'a>
+        ensures { result.now ≡ self.now.control }
+    {
+        &self.control
+    }
+}
+
+impl<'a> Machine<'a> {
+    /// Where the machine stands, without the events so far.
+    pub fn into_point(self) -> Point<'a>
+        ensures { result ≡ self.entry.point }
+    {
+        self.point
+    }
 }

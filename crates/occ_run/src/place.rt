@@ -22,8 +22,29 @@ pub struct Place {
 }
 
 impl Place {
+    /// The allocator of the place.
+    pub fn alloc(&self) -> Global
+        ensures { result ≡ self.now.alloc }
+    {
+        self.alloc
+    }
+
+    /// The names in scope, the innermost first.
+    pub fn scope(&self) -> &[(Name, Kind)]
+        ensures { result.now ≡ self.now.scope.items }
+    {
+        self.scope.as_slice()
+    }
+
+    /// The values of the variables. A later one of a name doesn't count.
+    pub fn state(&self) -> &[(Name, u8)]
+        ensures { result.now ≡ self.now.state.items }
+    {
+        self.state.as_slice()
+    }
+
     /// The place within a VAR, whose variable has that value.
-    pub(crate) fn with_variable(&self, name: Name, width: Width, value: u8) -> Result<Place, Memory>
+    pub fn with_variable(&self, name: Name, width: Width, value: u8) -> Result<Place, Memory>
         requires { can_declare (environment self.now.scope.items) name.0 width ≡ true }
         ensures scope { IfOk result (λ inner. inner.scope.items ≡ (name, Var width) ∷ self.now.scope.items) }
         ensures state { IfOk result (λ inner. inner.state.items ≡ (name, value) ∷ self.now.state.items) }
@@ -42,11 +63,7 @@ impl Place {
     }
 
     /// The place within CHANs in a row, the first outermost.
-    pub(crate) fn within(
-        &self,
-        first: (Name, Width),
-        more: &[(Name, Width)],
-    ) -> Result<Place, Memory>
+    pub fn within(&self, first: (Name, Width), more: &[(Name, Width)]) -> Result<Place, Memory>
         requires { can_connect (environment self.now.scope.items) (first ∷ more.now) ≡ true }
         ensures scope { IfOk result (λ inner. environment inner.scope.items
             ≡ with_channels (environment self.now.scope.items) (first ∷ more.now)) }

@@ -57,7 +57,7 @@ fn state_of(place: &Place) -> Result<State, Memory>
 }
 
 /// The value of a variable in a list of values; 0 where it isn't there.
-fn held(state: &[(Name, u8)], name: Name) -> u8
+pub fn held(state: &[(Name, u8)], name: Name) -> u8
     ensures { result ≡ values state.now name.0 }
 {
     let mut rest = state;

@@ -9,7 +9,7 @@ use std::alloc::Global;
 use std::rc::Rc;
 
 /// The steps in the body of a VAR as the outside sees them: the variable, which has that value, keeps it to itself.
-pub(crate) fn of_variable<'a>(
+pub fn of_variable<'a>(
     alloc: Global,
     name: Name,
     value: u8,
@@ -74,7 +74,7 @@ fn changes_but(alloc: Global, name: Name, changes: &[(Name, u8)]) -> Result<Vec<
 }
 
 /// The steps that aren't on one of the channels.
-pub(crate) fn off_channels<'a>(
+pub fn off_channels<'a>(
     alloc: Global,
     first: (Name, Width),
     more: &[(Name, Width)],

@@ -7,7 +7,7 @@ use Rattle.occ_base.specs.declared.names.Name.{Name}
 use Rattle.occ_behaviour.specs.Members.{AreNamed}
 use Rattle.occ_behaviour.specs.States.{is_state}
 use Rattle.occ_meaning.specs.Foundation.{AreWithin, Does}
-use Rattle.occ_member_runs.proofs.Holding.{holds_state}
+use Rattle.occ_run.proofs.Holding.{holds_state}
 use Rattle.occ_run.specs.declared.answer.Stand.{Stand}
 use Rattle.occ_run.specs.declared.answer.Stand.TheVariants.{Ended, Stuck, Stable, Moving}
 use Rattle.occ_run.specs.Configurations.{Configuration, followed, started, steps_of}
