@@ -1,0 +1,3 @@
+mod Served
+mod Levels
+pub mod Read
