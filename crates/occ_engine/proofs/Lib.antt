@@ -6,3 +6,4 @@ pub mod Keeping
 pub mod Reaching
 pub mod Expanding
 pub mod Granting
+pub mod Stepping

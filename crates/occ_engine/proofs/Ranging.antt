@@ -54,7 +54,7 @@ joined_number direction.Forward n S old new j = (low n S j.place old new j.sides
 joined_number direction.Backward n S old new j = (low n S j.place new old j.sides, high n S j.place new old j.sides)
 
 -- of moves one by one
-first_move : (S : List (Name × Kind)) (p q : Tree) (move : Move) (moves : List Move) → Moves S p (move ∷ moves) q → IsMove S p move × Moves S (put move.path p move.part) moves q
+pub first_move : (S : List (Name × Kind)) (p q : Tree) (move : Move) (moves : List Move) → Moves S p (move ∷ moves) q → IsMove S p move × Moves S (put move.path p move.part) moves q
 first_move S p q move moves (and_move a b m rest here further) = (here, further)
 
 tabled : (S : List (Name × Kind)) (p q : Tree) (steps : List Done) → Moves S p (moves_of steps) q → AllByRecursion IsTabled steps

@@ -5,3 +5,4 @@ pub mod Moved
 pub mod Outcomes
 pub mod Wishes
 pub mod Granted
+pub mod Followed

@@ -8,6 +8,7 @@ mod fault;
 mod following;
 mod moving;
 mod outcome;
+mod steps;
 mod wishes;
 
 pub use applying::apply;
@@ -15,3 +16,4 @@ pub use expansion::expand;
 pub use fault::{ApplyFault, EngineFault};
 pub use following::transform;
 pub use outcome::{Dones, Outcome};
+pub use steps::follow_steps;
