@@ -1,0 +1,60 @@
+-- The names of a program that was read are those of the table that reading left.
+use Rattle.std.proofs.Common.{◌≡◌, ℕ, List, [], refl, sym, subst, ◌∙◌}
+use Rattle.std.proofs.lemmas.List.{append-nil}
+use Rattle.occ_lex_symbols.specs.Symbols.{Extends}
+use Rattle.occ_lex_symbols.proofs.Interned.{extends_trans}
+use Rattle.occ_parse.specs.Known.{NamesAreKnown}
+use Rattle.occ_parse.proofs.Declared.{known_from}
+use Rattle.occ_parse.proofs.Knowing.{lines_known, params_known}
+use Rattle.occ_parse_reading.specs.declared.bound.Bound.{Bound}
+use Rattle.occ_parse_reading.specs.Drafts.{header_below, header_params}
+use Rattle.occ_parse_reading.specs.Reading.{IsRead, names_in}
+use Rattle.occ_parse_rules.specs.Places.{Place}
+use Rattle.occ_parse_rules.specs.Unrolled.{params_named, slot_process}
+use Rattle.occ_parse_sound.specs.Programs.{param_scope}
+use Rattle.occ_parse_unroll.specs.Elements.{elements, params_places, program_places, with_elements}
+use Rattle.occ_parse_unroll.specs.Numbers.{number_in}
+use Rattle.occ_parse_unroll.proofs.Elements.{places_extend}
+use Rattle.occ_script_again.proofs.Below.{program_low}
+use Rattle.occ_script_again.proofs.Numbers.{AreSame, IsSame, back_of, front_of, params_same, process_of_lines}
+use Rattle.occ_script_again.proofs.Settled.{places_same}
+use Rattle.occ_syntax.specs.declared.scope.Program.{Program}
+use Rattle.occ_syntax.specs.View.{tree}
+
+module _ (b : Bound) (text : List ℕ) (old new : List (List ℕ)) (p : Program) (lines : List ℕ)
+    (r : IsRead b text old new p.name p.params (tree p.body) lines) where
+  abbrev names : List (List ℕ)
+  names = names_in text old
+
+  abbrev all : List Place
+  all = program_places (header_params r.draft) (header_below r.draft)
+
+  abbrev inner : List Place
+  inner = (elements (header_below r.draft)).first (param_scope (header_params r.draft)) (λ i. 0)
+
+  pub grown : Extends names new
+  grown = subst (Extends names) (sym r.table) (places_extend names all)
+
+  -- what the lines speak of has one number in each longer table
+  numbers_stay : (t : List (List ℕ)) → Extends new t → AreSame (number_in new) (number_in t) all
+  numbers_stay t e =
+      let f = r.draft in
+      let ps = header_params f in
+      let below = header_below f in
+      let whole = with_elements names ps below in
+      let low = program_low _ ps below (params_known b text old names f r.laid_out refl ps refl) (lines_known b text old names f r.laid_out refl below refl) in
+      let here : Extends whole new = ([], r.table ∙ sym (append-nil whole)) in
+      places_same names new t all low here (extends_trans whole new t here e)
+
+  params_stay : (t : List (List ℕ)) → Extends new t → p.params ≡ params_named (number_in t) (header_params r.draft)
+  params_stay t e =
+      r.params_are ∙ params_same (number_in new) (number_in t) (header_params r.draft)
+      (front_of (IsSame (number_in new) (number_in t)) (params_places (header_params r.draft)) inner (numbers_stay t e))
+
+  body_stays : (t : List (List ℕ)) → Extends new t → tree p.body ≡ slot_process (number_in t) (param_scope (header_params r.draft)) (header_below r.draft)
+  body_stays t e =
+      r.body_is ∙ process_of_lines (number_in new) (number_in t) (param_scope (header_params r.draft)) (header_below r.draft)
+      (back_of (IsSame (number_in new) (number_in t)) (params_places (header_params r.draft)) inner (numbers_stay t e))
+
+  pub names_known : NamesAreKnown new p
+  names_known = known_from b text old new r.draft r.laid_out grown p params_stay body_stays

@@ -1,0 +1,5 @@
+mod Paths
+mod Said
+mod Known
+mod Plain
+mod Made
