@@ -1,0 +1,6 @@
+mod Views
+mod Left
+mod Below
+mod Built
+mod Counted
+mod Named
