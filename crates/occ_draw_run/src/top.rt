@@ -1,9 +1,9 @@
 ghost use Rattle.std.specs.Prelude.{◌≡◌, ◌≢◌, ◌≤◌, ◌<◌, ◌↔◌, ◌⊎◌, map, string_bytes, IfOk, IfSome, None, Some, Err};
 ghost use Rattle.occ_draw_run.specs.Answers.{Answers, Draws, file_word as word_of};
 ghost use Rattle.occ_draw_run.specs.Refusals.{usage_text};
-ghost use Rattle.occ_draw_run.specs.Ran.{Ran};
+ghost use Rattle.occ_draw_run.specs.Ran.{Asked, Ran};
 ghost use Rattle.occ_draw_run.specs.declared.top.Stop.TheVariants.{Memory as NoMemory};
-ghost use Rattle.occ_draw_run.specs.Replies.{CountsStop, told_by};
+ghost use Rattle.occ_draw_run.specs.Replies.{AsksFor, CountsStop, told_by};
 
 use crate::picture::picture;
 use crate::refusal::line_refusal;
@@ -29,13 +29,15 @@ const MOST_BYTES: u64 = 67_108_864;
 /// | 6 | out of memory, before the first write | nothing |
 ///
 /// 4 and 5 yield to no other status, and each other yields to 4, 5 and 6. Where the desk tells its files, `Ran` says
-/// which answer the words and the files have.
+/// which answer the words and the files have. Where it tells the names that were asked for, the named file alone is added
+/// to them, or none where memory runs out before it is read.
 pub fn draw<D: Desk>(alloc: Global, words: &[String], desk: &mut D) -> u8
     requires reads_countable { D.read_faults desk.old < u64.MAX }
     requires writes_countable { D.write_faults desk.old < u64.MAX }
 
     ensures answer { IfSome (D.files desk.old) (λ files.
         Ran files (map string_bytes words.now) result (D.written desk.old) (D.written desk.new)) }
+    ensures asked { Asked (word_of (map string_bytes words.now)) result (D.asked desk.old) (D.asked desk.new) }
     ensures read_fault { (result ≡ 4) ↔ (D.read_faults desk.old < D.read_faults desk.new) }
     ensures write_fault { (result ≡ 5) ↔ (D.write_faults desk.old < D.write_faults desk.new) }
 
@@ -90,6 +92,7 @@ fn make_reply<D: Desk>(alloc: Global, words: &[String], desk: &mut D) -> Result<
     ensures usage { IfOk result (λ reply. reply.status ≡ 2 → word_of (map string_bytes words.now) ≡ None) }
     ensures unfit { word_of (map string_bytes words.now) ≡ None → IfOk result (λ reply. reply.status ≡ 2) }
     ensures readable { word_of (map string_bytes words.now) ≡ None → result ≢ Err Stop.Read }
+    ensures asked { AsksFor (word_of (map string_bytes words.now)) (D.asked desk.old) (D.asked desk.new) result }
     ensures read_faults { CountsStop (D.read_faults desk.old) (D.read_faults desk.new) result }
     ensures files { D.files desk.new ≡ D.files desk.old }
     ensures written { D.written desk.new ≡ D.written desk.old }
@@ -116,6 +119,7 @@ fn draw_file<D: Desk>(alloc: Global, name: &str, desk: &mut D) -> Result<Reply, 
     requires writes_countable { D.write_faults desk.old < u64.MAX }
     ensures draws { IfOk result (λ reply. IfSome (D.files desk.old) (λ files. Draws (files name.now) (told_by reply))) }
     ensures status { IfOk result (λ reply. (reply.status ≡ 0) ⊎ (reply.status ≡ 3)) }
+    ensures asked { AsksFor (Some name.now) (D.asked desk.old) (D.asked desk.new) result }
     ensures read_faults { CountsStop (D.read_faults desk.old) (D.read_faults desk.new) result }
     ensures files { D.files desk.new ≡ D.files desk.old }
     ensures written { D.written desk.new ≡ D.written desk.old }
