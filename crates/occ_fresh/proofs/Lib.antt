@@ -1,0 +1,4 @@
+pub mod Growing
+pub mod Spelled
+pub mod Numerals
+pub mod Placed
