@@ -70,7 +70,7 @@ some_is h = cc
 pub none_not_some : {A B : Type 0} {a : A} → None ≡ Some a → B
 none_not_some h = absurd (cc)
 
-kind_holds : (P : Kind → Type 0) (params : List (Name × Kind)) → AllByRecursion (λ (p : Name × Kind). P p.1) params → (c : ℕ) (kind : Kind) → environment params c ≡ Some kind → P kind
+pub kind_holds : (P : Kind → Type 0) (params : List (Name × Kind)) → AllByRecursion (λ (p : Name × Kind). P p.1) params → (c : ℕ) (kind : Kind) → environment params c ≡ Some kind → P kind
 kind_holds P [] h c kind e = none_not_some e
 kind_holds P (p ∷ params) h c kind e = go (c == p.0.0) e (kind_holds P params h.1 c kind)
   where

@@ -61,19 +61,22 @@ list_chain less before (x ∷ xs) h =
     (here.0, list_chain less (Some x) xs here.1)
 
 accept_chain : (params : List (Name × Kind)) (offers : List (Event × ℕ)) (all : List (List Event)) (before : Option (List Event)) (sets : List (List Event))
-    → AreFine (accept_marks params offers all before sets) → Chain (set_less params) before sets × AllByRecursion (λ set. list_any (contains params set) all ≡ false) sets
+    → AreFine (accept_marks params offers all before sets)
+    → Chain (set_less params) before sets × AllByRecursion (λ set. list_any (contains params set) all ≡ false) sets × AllByRecursion (λ set. is_offered params offers set ≡ true) sets
 unfolding accept_marks
-accept_chain params offers all before [] h = (tt, tt)
+accept_chain params offers all before [] h = (tt, tt, tt)
 accept_chain params offers all before (set ∷ sets) h =
     let here = accepted_fine (follows (set_less params) before set) (is_offered params offers set && not (list_any (contains params set) all)) (accept_marks params offers all (Some set) sets) h in
     let rest = accept_chain params offers all (Some set) sets here.2 in
-    ((here.0, rest.0), (not-true (list_any (contains params set) all) (and_parts (is_offered params offers set) (not (list_any (contains params set) all)) here.1).1, rest.1))
+    let both = and_parts (is_offered params offers set) (not (list_any (contains params set) all)) here.1 in
+    ((here.0, rest.0), (not-true (list_any (contains params set) all) both.1, rest.1), (both.0, rest.2))
 
 -- ---- the lines of a row
 pub record IsTidy (params : List (Name × Kind)) (row : TableRow) : Type 0 where
   pub ends : Chain (λ s u. nat_lt (state_place params s) (state_place params u)) None row.ends
   pub accepts : Chain (set_less params) None row.accepts
   pub least : AllByRecursion (λ set. list_any (contains params set) row.accepts ≡ false) row.accepts
+  pub offered : AllByRecursion (λ set. is_offered params row.offers set ≡ true) row.accepts
   pub offers : Chain (λ (o p : Event × ℕ). nat_lt (rank params o.0) (rank params p.0)) None row.offers
 
 tidy : (params : List (Name × Kind)) (row : TableRow) → AreFine (row_marks params row) → IsTidy params row
@@ -86,6 +89,7 @@ tidy params row h =
       ends = list_chain (λ s u. nat_lt (state_place params s) (state_place params u)) None row.ends two.0;
       accepts = sets.0;
       least = sets.1;
+      offered = sets.2;
       offers = list_chain (λ o p. nat_lt (rank params o.0) (rank params p.0)) None row.offers one.1;
     }
 

@@ -3,14 +3,10 @@ use Rattle.std.proofs.Common.{◌≡◌, ℕ, zero, suc, ◌<◌, Bool, true, Li
 use Rattle.std.proofs.lemmas.Bool.{and_from, and_parts, or_cases, or_left, or_right, false≢true}
 use Rattle.std.specs.List.{list_all, list_any, AllByRecursion}
 use Rattle.occ_nform_table.specs.declared.table.TableRow.{TableRow}
-use Rattle.occ_nform_table.specs.Judging.{follows}
 use Rattle.occ_nform_table.specs.Behaviours.{row_at}
+pub use Rattle.occ_nform_unique.specs.Lists.{Chain, In}
 
 -- ---- membership
-abbrev pub In : {A : Type 0} → A → List A → Type 0
-In x [] = ⊥
-In x (y ∷ ys) = (x ≡ y) ⊎ In x ys
-
 pub in_all : {A : Type 0} (P : A → Type 0) (xs : List A) (x : A) → AllByRecursion P xs → In x xs → P x
 in_all P [] x h k = absurd k
 in_all P (y ∷ ys) x h (inl e) = subst P (sym e) h.0
@@ -62,10 +58,6 @@ same_rows (row ∷ rows) (other ∷ others) e h =
 pub record IsStrict {A : Type 0} (less : A → A → Bool) : Type 0 where
   pub never : (x : A) → less x x ≡ true → ⊥
   pub onward : (x y z : A) → less x y ≡ true → less y z ≡ true → less x z ≡ true
-
-abbrev pub Chain : {A : Type 0} → (A → A → Bool) → Option A → List A → Type 0
-Chain less before [] = Unit {0}
-Chain less before (x ∷ xs) = (follows less before x ≡ true) × Chain less (Some x) xs
 
 pub chain_less : {A : Type 0} (less : A → A → Bool) → IsStrict less → (x : A) (xs : List A) → Chain less (Some x) xs → (y : A) → In y xs → less x y ≡ true
 chain_less less s x [] h y k = absurd k

@@ -62,7 +62,7 @@ module _ (params : List (Name × Kind)) where
   abbrev OffersRise : Option (Event × ℕ) → List (Event × ℕ) → Type 0
   OffersRise before offers = Chain (λ (o p : Event × ℕ). nat_lt (rank params o.0) (rank params p.0)) before offers
 
-  offered : (before : Option (Event × ℕ)) (offers : List (Event × ℕ)) → OffersRise before offers → (o : Event × ℕ) → In o offers → next_row offers o.0 ≡ Some o.1
+  pub offered : (before : Option (Event × ℕ)) (offers : List (Event × ℕ)) → OffersRise before offers → (o : Event × ℕ) → In o offers → next_row offers o.0 ≡ Some o.1
   unfolding next_row
   offered before [] h o k = absurd k
   offered before (p ∷ offers) h o (inl e) = ap (λ b. if b then Some p.1 else next_row offers o.0) (subst (λ f. same_event p.0 f ≡ true) (ap (λ (q : Event × ℕ). q.0) (sym e)) (event_itself p.0)) ∙ ap (λ (q : Event × ℕ). Some q.1) (sym e)
@@ -92,33 +92,33 @@ goes_somewhere (Some m) test h = (m, refl)
 
 -- ---- behaviours behind an offer
 module _ (params : List (Name × Kind)) (rows : List TableRow) (i m : ℕ) (e : Event) (next : next_row (row_at rows i).offers e ≡ Some m) where
-  fails_behind : (trace : List Event) (X : EventSet) → row_fails rows i (e ∷ trace) X ≡ row_fails rows m trace X
+  pub fails_behind : (trace : List Event) (X : EventSet) → row_fails rows i (e ∷ trace) X ≡ row_fails rows m trace X
   unfolding row_fails
   fails_behind trace X = ap (λ o. goes_on o (λ n. row_fails rows n trace X)) next
 
-  ends_behind : (trace : List Event) (place : ℕ) → row_ends params rows i (e ∷ trace) place ≡ row_ends params rows m trace place
+  pub ends_behind : (trace : List Event) (place : ℕ) → row_ends params rows i (e ∷ trace) place ≡ row_ends params rows m trace place
   unfolding row_ends
   ends_behind trace place = ap (λ o. goes_on o (λ n. row_ends params rows n trace place)) next
 
-fails_first : (rows : List TableRow) (i : ℕ) (e : Event) (trace : List Event) (X : EventSet) → row_fails rows i (e ∷ trace) X ≡ true → (m : ℕ) × (next_row (row_at rows i).offers e ≡ Some m)
+pub fails_first : (rows : List TableRow) (i : ℕ) (e : Event) (trace : List Event) (X : EventSet) → row_fails rows i (e ∷ trace) X ≡ true → (m : ℕ) × (next_row (row_at rows i).offers e ≡ Some m)
 unfolding row_fails
 fails_first rows i e trace X h = goes_somewhere (next_row (row_at rows i).offers e) (λ n. row_fails rows n trace X) h
 
-ends_first : (params : List (Name × Kind)) (rows : List TableRow) (i : ℕ) (e : Event) (trace : List Event) (place : ℕ) → row_ends params rows i (e ∷ trace) place ≡ true
+pub ends_first : (params : List (Name × Kind)) (rows : List TableRow) (i : ℕ) (e : Event) (trace : List Event) (place : ℕ) → row_ends params rows i (e ∷ trace) place ≡ true
     → (m : ℕ) × (next_row (row_at rows i).offers e ≡ Some m)
 unfolding row_ends
 ends_first params rows i e trace place h = goes_somewhere (next_row (row_at rows i).offers e) (λ n. row_ends params rows n trace place) h
 
-fails_now : (rows : List TableRow) (i : ℕ) (X : EventSet) → row_fails rows i [] X ≡ list_any (list_all (λ e. not (X e))) (row_at rows i).accepts
+pub fails_now : (rows : List TableRow) (i : ℕ) (X : EventSet) → row_fails rows i [] X ≡ list_any (list_all (λ e. not (X e))) (row_at rows i).accepts
 unfolding row_fails
 fails_now rows i X = refl
 
-ends_now : (params : List (Name × Kind)) (rows : List TableRow) (i place : ℕ) → row_ends params rows i [] place ≡ list_any (λ state. state_place params state == place) (row_at rows i).ends
+pub ends_now : (params : List (Name × Kind)) (rows : List TableRow) (i place : ℕ) → row_ends params rows i [] place ≡ list_any (λ state. state_place params state == place) (row_at rows i).ends
 unfolding row_ends
 ends_now params rows i place = refl
 
 -- ---- a row that isn't empty has a behaviour
-data HasOne (params : List (Name × Kind)) (rows : List TableRow) (i : ℕ) : Type 0 where
+pub data HasOne (params : List (Name × Kind)) (rows : List TableRow) (i : ℕ) : Type 0 where
   an_end : (place : ℕ) → place < 2 ^ bits_of_scope params → row_ends params rows i [] place ≡ true → HasOne params rows i
   a_failure : row_fails rows i [] (λ e. false) ≡ true → HasOne params rows i
 
@@ -126,7 +126,7 @@ refuses_nothing : (set : List Event) → list_all (λ (e : Event). not false) se
 refuses_nothing [] = refl
 refuses_nothing (e ∷ set) = refuses_nothing set
 
-has_one : (params : List (Name × Kind)) (rows : List TableRow) (i : ℕ) → AllByRecursion (λ state. is_state params state ≡ true) (row_at rows i).ends → is_empty_row (row_at rows i) ≡ false → HasOne params rows i
+pub has_one : (params : List (Name × Kind)) (rows : List TableRow) (i : ℕ) → AllByRecursion (λ state. is_state params state ≡ true) (row_at rows i).ends → is_empty_row (row_at rows i) ≡ false → HasOne params rows i
 has_one params rows i forms full = go (row_at rows i).ends (row_at rows i).accepts refl refl forms full
   where
     go : (ends : List (List (Name × ℕ))) (accepts : List (List Event)) → (row_at rows i).ends ≡ ends → (row_at rows i).accepts ≡ accepts

@@ -13,7 +13,7 @@ use Rattle.occ_nform_unique.proofs.Events.{IsProper, same_rank}
 
 module _ (params : List (Name × Kind)) (proper : IsProper params) where
   -- an event of a set
-  ranked : (set : List Event) (e : Event) → has_event params set e ≡ true → (f : Event) × In f set × (rank params e ≡ rank params f)
+  pub ranked : (set : List Event) (e : Event) → has_event params set e ≡ true → (f : Event) × In f set × (rank params e ≡ rank params f)
   ranked set e h = let found = any_in (λ f. rank params e == rank params f) set h in (found.0, found.1, eqb-true (rank params e) (rank params found.0) found.2)
 
   within_ranked : (set : List Event) (e f : Event) → In f set → rank params e ≡ rank params f → has_event params set e ≡ true
@@ -80,7 +80,7 @@ module _ (params : List (Name × Kind)) (proper : IsProper params) where
         subst (λ g. In g b) (sym (same_rank params proper e found.0 (test_in (in_interface (environment params)) a e ha u) (test_in (in_interface (environment params)) b found.0 hb found.1) found.2)) found.1
 
     -- a set that lies within another is it, unless the other contains it
-    is_whole : list_all (has_event params b) a ≡ true → contains params b a ≡ false → a ≡ b
+    pub is_whole : list_all (has_event params b) a ≡ true → contains params b a ≡ false → a ≡ b
     is_whole h least = go (cases_lt (length a) (length b))
       where
         go : (length a < length b) ⊎ (length b ≤ length a) → a ≡ b
@@ -100,11 +100,11 @@ module _ (params : List (Name × Kind)) (proper : IsProper params) where
   abbrev pub refuses : List (List Event) → EventSet → Bool
   refuses sets X = list_any (list_all (λ e. not (X e))) sets
 
-  abbrev outside : List Event → EventSet
+  abbrev pub outside : List Event → EventSet
   outside set = λ e. in_interface (environment params) e && not (has_event params set e)
 
   -- a row can refuse all of the interface outside a set exactly where an acceptance lies within it
-  refuse_outside : (set : List Event) (sets : List (List Event)) (a : List Event) → In a sets → list_all (has_event params set) a ≡ true → refuses sets (outside set) ≡ true
+  pub refuse_outside : (set : List Event) (sets : List (List Event)) (a : List Event) → In a sets → list_all (has_event params set) a ≡ true → refuses sets (outside set) ≡ true
   refuse_outside set sets a u h = in_any (list_all (λ e. not (outside set e))) sets a u (test_all (λ e. not (outside set e)) a (λ e v. go (in_interface (environment params) e) (has_event params set e) (test_in (has_event params set) a e h v)))
     where
       go : (s t : Bool) → t ≡ true → not (s && not t) ≡ true
@@ -127,7 +127,7 @@ module _ (params : List (Name × Kind)) (proper : IsProper params) where
       go true false e k = k
       go false t e k = absurd (false≢true e)
 
-  within_itself : (set : List Event) → list_all (has_event params set) set ≡ true
+  pub within_itself : (set : List Event) → list_all (has_event params set) set ≡ true
   within_itself set = test_all (has_event params set) set (λ e u. within_ranked set e e u refl)
 
   -- lists of sets of which none contains another, and by which the same is refused, have the same sets

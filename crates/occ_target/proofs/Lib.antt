@@ -3,4 +3,4 @@ mod Left
 mod Below
 mod Built
 mod Counted
-mod Named
+pub mod Named

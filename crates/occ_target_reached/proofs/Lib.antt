@@ -1,0 +1,4 @@
+mod Acting
+mod Ends
+mod Whole
+mod Reached

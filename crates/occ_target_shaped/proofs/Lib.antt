@@ -1,0 +1,7 @@
+mod Fresh
+pub mod Groups
+pub mod Grouping
+mod Chosen
+pub mod Made
+pub mod Processes
+pub mod Shaped
