@@ -1,6 +1,6 @@
 mod Direct
-mod Keeping
-mod Putting
+pub mod Keeping
+pub mod Putting
 mod Moving
 mod Standing
-mod Given
+pub mod Given

@@ -1,26 +1,22 @@
 -- What orders and expansions make is written moves.
-use Rattle.std.proofs.Common.{◌≡◌, ℕ, ◌<◌, ◌≤◌, true, List, [], ◌∷◌, length, None, refl, sym, subst, arith}
-use Rattle.std.specs.List.{AllByRecursion}
+use Rattle.std.proofs.Common.{◌≡◌, ℕ, ◌≤◌, true, List, [], ◌∷◌, length, None, refl}
 use Rattle.occ_base.specs.declared.names.Name.{Name}
 use Rattle.occ_engine.specs.Moved.{moves_of, orders_of}
-use Rattle.occ_engine_known.specs.Known.{IsKnownPart, LeadToKnown, MovesAreKnown, NamesAreBelow}
+use Rattle.occ_engine_known.specs.Known.{LeadToKnown, MovesAreKnown, NamesAreBelow}
 use Rattle.occ_engine_rules.specs.Expansion.{IsExpanded}
 use Rattle.occ_engine_rules.specs.Moves.{Move, Moves}
 use Rattle.occ_engine_rules.specs.Orders.{Follows, Order}
 use Rattle.occ_engine_written.specs.First.{AreWritten, IsFirstProgram, IsShortPath}
-use Rattle.occ_engine_written.proofs.Known.{grown, names_known}
-use Rattle.occ_engine_written.proofs.Plain.{by_itself, header_marked, name_plain}
+use Rattle.occ_engine_written.proofs.Printed.{KeptLaw, NameLaw, Table, names_below, printable}
 use Rattle.occ_engine_written.proofs.Said.{AreSaid, expansion_said, orders_said}
 use Rattle.occ_lex_symbols.specs.Symbols.{Extends}
-use Rattle.occ_lex_symbols.proofs.Interned.{extends_same, extends_trans, longer}
+use Rattle.occ_lex_symbols.proofs.Interned.{extends_same, longer}
 use Rattle.occ_meaning.specs.Context.{put}
-use Rattle.occ_parse_forms.specs.Lines.{IsMarked}
 use Rattle.occ_parse_reading.specs.declared.bound.Bound.{Bound}
 use Rattle.occ_parse_reading.specs.declared.bound.Bound.TheVariants as bound
 use Rattle.occ_parse_reading.specs.Limits.{is_limited}
-use Rattle.occ_parse_reading.specs.Reading.{IsRead, names_in}
+use Rattle.occ_parse_reading.specs.Reading.{IsRead}
 use Rattle.occ_parse_rules.specs.Places.{Place}
-use Rattle.occ_parse_unroll.specs.Numbers.{number_in}
 use Rattle.occ_print.specs.Lines.{part_lines}
 use Rattle.occ_print_back.specs.Back.{deepest}
 use Rattle.occ_print_back.specs.Placed.{IsTable}
@@ -34,37 +30,27 @@ use Rattle.occ_syntax.specs.declared.scope.Kind.{Kind}
 use Rattle.occ_syntax.specs.declared.scope.Program.{Program}
 use Rattle.occ_syntax.specs.Scopes.{environment}
 use Rattle.occ_syntax.specs.Tree.{Tree}
-use Rattle.occ_syntax.specs.Types.{scope_kept, types_kept}
+use Rattle.occ_syntax.specs.Types.{scope_kept}
 use Rattle.occ_syntax.specs.Usage.{Keeps}
 use Rattle.occ_syntax.specs.View.{tree}
 
-abbrev Table : Type 0
-Table = List (List ℕ)
-
 -- ---- the laws that this stands on
 
-abbrev EmptyLaw : Type 0
+abbrev pub EmptyLaw : Type 0
 EmptyLaw = (P : ℕ → Place) → IsTable [] P
 
-abbrev ProgramsLaw : Type 0
+abbrev pub ProgramsLaw : Type 0
 ProgramsLaw = (b : Bound) (text : List ℕ) (old new : Table) (P : ℕ → Place) (name : Name) (params : List (Name × Kind)) (body : Tree) (numbers : List ℕ)
     → IsTable old P → IsRead b text old new name params body numbers → Grows old P new
 
 abbrev OrdersLaw : Type 0
 OrdersLaw = (text : List ℕ) (old new : Table) (P : ℕ → Place) (orders : List Read) → IsTable old P → IsOrders text old new orders → Grows old P new
 
-abbrev LevelsLaw : Type 0
+abbrev pub LevelsLaw : Type 0
 LevelsLaw = (b : Bound) (text : List ℕ) (old new : Table) (name : Name) (params : List (Name × Kind)) (body : Tree) (numbers : List ℕ)
     → is_limited b ≡ true → IsRead b text old new name params body numbers → deepest (part_lines 1 body) ≤ 64
 
-abbrev NameLaw : Type 0
-NameLaw = (b : Bound) (text : List ℕ) (old new : Table) (name : Name) (params : List (Name × Kind)) (body : Tree) (numbers : List ℕ)
-    → IsRead b text old new name params body numbers → name.0 < length new
-
-abbrev KeptLaw : Type 0
-KeptLaw = (n : ℕ) (S : List (Name × Kind)) (p : Tree) → scope_kept S ≡ true → types_kept p (environment S) ≡ true → NamesAreBelow n S p → IsKnownPart n S p
-
-abbrev StayLaw : Type 0
+abbrev pub StayLaw : Type 0
 StayLaw = (m n : ℕ) (S : List (Name × Kind)) (p : Tree) → m ≤ n → NamesAreBelow m S p → NamesAreBelow n S p
 
 abbrev FollowLaw : Type 0
@@ -84,35 +70,20 @@ ExpandMovesLaw = (S : List (Name × Kind)) (p q : Tree) (path : List ℕ) (moves
 -- ---- a program that was read
 
 -- each name by itself
-here : ℕ → Place
+abbrev pub here : ℕ → Place
 here x = record { name = x; element = None }
 
 module _ (names : Table) (from : Program) (first : IsFirstProgram names from) where
-  places_of : EmptyLaw → ProgramsLaw → Grows [] here names
+  pub places_of : EmptyLaw → ProgramsLaw → Grows [] here names
   places_of empty law = law bound.Program first.text [] names here from.name from.params (tree from.body) first.lines (empty here) first.read
 
-  names_below : NamesAreBelow (length names) from.params (tree from.body)
-  names_below = let known = names_known bound.Program first.text [] names from first.lines first.read in record { scope_names = known.params; declared = known.body }
+  pub below_names : NamesAreBelow (length names) from.params (tree from.body)
+  below_names = names_below bound.Program first.text [] names from first.lines first.read
 
-  -- it can be printed from each table of places that begins with the one that reading left
-  module _ (all : Table) (P : ℕ → Place) (table : IsTable all P) (e : Extends names all) where
-    text_names : Extends (names_in first.text []) all
-    text_names = extends_trans (names_in first.text []) names all (grown bound.Program first.text [] names from first.lines first.read) e
-
-    printable : NameLaw → KeptLaw → NamesAreBelow (length all) from.params (tree from.body) → IsPrintable all P from.name.0 from.params (tree from.body)
-    printable name kept below =
-        let r = first.read in
-        let known = kept (length all) from.params (tree from.body) first.accepted.typed.scope first.accepted.typed.types below in
-        let low = name bound.Program first.text [] names from.name from.params (tree from.body) first.lines r in
-        let plain = name_plain first.text [] all r.draft r.laid_out text_names in
-        record {
-          table = table;
-          known = record { name_is = omega (arith, low, longer names all e); params_are = known.scope_known; body_is = known.known };
-          plain = subst (λ (n : Name). (P n.0).element ≡ None) (sym r.name_is) (by_itself all P table _ plain);
-          marked = subst (AllByRecursion (λ (q : Name × Kind). IsMarked q.1)) (sym r.params_are) (header_marked first.text [] all r.draft r.laid_out text_names (number_in names));
-          scope = first.accepted.typed.scope;
-          types = first.accepted.typed.types;
-        }
+  pub first_printable : (all : Table) (P : ℕ → Place) → IsTable all P → Extends names all → NameLaw → KeptLaw → NamesAreBelow (length all) from.params (tree from.body)
+      → IsPrintable all P from.name.0 from.params (tree from.body)
+  first_printable all P table e name kept below =
+      printable bound.Program first.text [] names from first.lines first.read all P table e name kept first.accepted.typed below
 
 -- ---- steps
 
@@ -120,17 +91,17 @@ named_steps : (n : ℕ) (S : List (Name × Kind)) (p : Tree) (steps : List Done)
 named_steps n S p [] h m = tt
 named_steps n S p (s ∷ ss) h m = (record { said = h.0; known = m.0.known }, named_steps n S (put s.path p (tree s.part)) ss h.1 m.1)
 
-written : LevelsLaw → (names all : Table) (P : ℕ → Place) (from to : Program) (steps : List Done) → IsFirstProgram names from
-    → IsPrintable all P from.name.0 from.params (tree from.body) → AreSaid steps → LeadToKnown (length all) from.params (tree from.body) (moves_of steps) (tree to.body)
+pub written : LevelsLaw → (names all : Table) (P : ℕ → Place) (from to : Program) (steps : List Done) → IsFirstProgram names from
+    → IsPrintable all P from.name.0 from.params (tree from.body) → AreNamedSteps (length all) steps
     → Moves from.params (tree from.body) (moves_of steps) (tree to.body) → to.name ≡ from.name → to.params ≡ from.params → AreWritten all from steps to
-written levels names all P from to steps first printed said known moves name params = (
+written levels names all P from to steps first printed named moves name params = (
   P,
   record {
     from_is = printed;
     accepted = first.accepted;
     narrow = first.narrow;
     levels = levels bound.Program first.text [] names from.name from.params (tree from.body) first.lines refl first.read;
-    named = named_steps (length all) from.params (tree from.body) steps said known.moves_are;
+    named = named;
     moves = record { name = name; params = params; moves = moves };
   },
 )
@@ -142,11 +113,11 @@ followed_written empty programs ordered levels name kept stay follow moved text 
     let before = places_of names from first empty programs in
     let after = ordered text names new before.0 orders before.1.table read in
     let e = after.1.extends in
-    let below = stay (length names) (length new) from.params (tree from.body) (longer names new e) (names_below names from first) in
+    let below = stay (length names) (length new) from.params (tree from.body) (longer names new e) (below_names names from first) in
     let a = first.accepted in
     let lead = follow text names new orders from.params (tree from.body) (tree to.body) (moves_of steps) read a.typed.scope a.keeps below f in
-    written levels names new after.0 from to steps first (printable names from first new after.0 after.1.table e name kept below)
-    (orders_said text names new orders from.params (tree from.body) (tree to.body) steps read f) lead
+    written levels names new after.0 from to steps first (first_printable names from first new after.0 after.1.table e name kept below)
+    (named_steps (length new) from.params (tree from.body) steps (orders_said text names new orders from.params (tree from.body) (tree to.body) steps read f) lead.moves_are)
     (moved from.params (tree from.body) (tree to.body) (orders_of orders) (moves_of steps) f) same_name same_params
 
 pub expanded_written : EmptyLaw → ProgramsLaw → LevelsLaw → NameLaw → KeptLaw → ExpandLaw → ExpandMovesLaw
@@ -154,10 +125,10 @@ pub expanded_written : EmptyLaw → ProgramsLaw → LevelsLaw → NameLaw → Ke
     → IsExpanded from.params (tree from.body) path (moves_of steps) (tree to.body) → to.name ≡ from.name → to.params ≡ from.params → AreWritten names from steps to
 expanded_written empty programs levels name kept expand moved names path from to steps first short is same_name same_params =
     let before = places_of names from first empty programs in
-    let below = names_below names from first in
+    let below = below_names names from first in
     let a = first.accepted in
     let lead = expand (length names) from.params (tree from.body) (tree to.body) path (moves_of steps) a.typed.scope a.keeps below is in
     written levels names names before.0 from to steps first
-    (printable names from first names before.0 before.1.table (extends_same names) name kept below)
-    (expansion_said from.params (tree from.body) (tree to.body) path steps short is) lead
+    (first_printable names from first names before.0 before.1.table (extends_same names) name kept below)
+    (named_steps (length names) from.params (tree from.body) steps (expansion_said from.params (tree from.body) (tree to.body) path steps short is) lead.moves_are)
     (moved from.params (tree from.body) (tree to.body) path (moves_of steps) is) same_name same_params

@@ -1,5 +1,5 @@
 -- The header of a program that was read: its name is a name by itself, and its channels have marks.
-use Rattle.std.proofs.Common.{◌≡◌, ℕ, ◌<◌, true, nat_lt, List, [], ◌∷◌, length, get_or, map, Option, Some, None, refl, sym, ap, subst, ◌∙◌, arith}
+use Rattle.std.proofs.Common.{◌≡◌, ℕ, ◌<◌, true, false, nat_lt, List, [], ◌∷◌, length, get_or, map, Option, Some, None, refl, sym, ap, subst, ◌∙◌, arith}
 use Rattle.std.specs.List.{AllByRecursion, list_all}
 use Rattle.std.proofs.lemmas.Bool.{and_from, and_parts, lt-ltb, ltb-true}
 use Rattle.occ_base.specs.declared.names.Name.{Name}
@@ -15,10 +15,13 @@ use Rattle.occ_parse_forms.specs.declared.form.Param.{Param}
 use Rattle.occ_parse_forms.specs.Lines.{AreParams, IsMarked, param_front}
 use Rattle.occ_parse_forms.specs.Shape.{header}
 use Rattle.occ_parse_layout.specs.declared.placed.Frame.TheVariants as frame
+use Rattle.occ_parse_layout.specs.Layout.{least_bad}
 use Rattle.occ_parse_layout.specs.Whole.{IsProgram}
 use Rattle.occ_parse_layout.proofs.Framed.{whole_of}
+use Rattle.occ_parse_reading.specs.declared.bound.Bound.{Bound}
 use Rattle.occ_parse_reading.specs.declared.bound.Bound.TheVariants as bound
 use Rattle.occ_parse_reading.specs.Drafts.{header_name, header_params}
+use Rattle.occ_parse_reading.specs.Limits.{frame_of}
 use Rattle.occ_parse_reading.specs.Reading.{IsLaidOut, names_in}
 use Rattle.occ_parse_rules.specs.Forest.{Forest, lines_at}
 use Rattle.occ_parse_rules.specs.Places.{Place, places}
@@ -62,12 +65,17 @@ params_marked N before (g ∷ groups) (p ∷ ps) h =
     all-append (λ (e : Name × Kind). IsMarked e.1) (named N p.kind p.declared) (params_named N ps) (all_of_kind N p.kind (places p.declared) h.0.1)
     (params_marked N (Some (param_front p)) groups ps h.1)
 
-module _ (text : List ℕ) (old t : List (List ℕ)) (f : Forest) (laid : IsLaidOut bound.Program text old f) (e : Extends (names_in text old) t) where
+whole_program : (b : Bound) (f : Forest) → least_bad (frame_of b) false (lines_at 0 f) ≡ None → IsProgram f
+whole_program bound.Program f h = whole_of frame.Program (lines_at 0 f) f refl refl h
+whole_program bound.First f h = whole_of frame.Program (lines_at 0 f) f refl refl h
+whole_program bound.Script f h = whole_of frame.Plain (lines_at 0 f) f refl refl h
+
+module _ (b : Bound) (text : List ℕ) (old t : List (List ℕ)) (f : Forest) (laid : IsLaidOut b text old f) (e : Extends (names_in text old) t) where
   abbrev program : IsProgram f
-  program = whole_of frame.Program (lines_at 0 f) f refl refl laid.good
+  program = whole_program b f laid.good
 
   header_said : IsLineOf t (header program.name program.params)
-  header_said = (subst (EachLine (IsLineOf t)) program.whole (lines_are_of bound.Program text old t f laid e)).0
+  header_said = (subst (EachLine (IsLineOf t)) program.whole (lines_are_of b text old t f laid e)).0
 
   pub name_plain : is_plain t (header_name f).0 ≡ true
   name_plain =

@@ -2,11 +2,14 @@
 //! left. These are laws, and no code: each is a function without a body of its own whose contract is the law.
 #![tactic(auto)]
 
+ghost use Rattle.std.specs.List.{AllByRecursion};
 ghost use Rattle.std.specs.Prelude.{ℕ, ◌≡◌, List, Some};
 ghost use Rattle.occ_engine.specs.Moved.{moves_of, orders_of};
 ghost use Rattle.occ_engine_rules.specs.Expansion.{IsExpanded};
+ghost use Rattle.occ_engine_rules.specs.Moves.{Moves};
 ghost use Rattle.occ_engine_rules.specs.Orders.{Follows};
 ghost use Rattle.occ_engine_written.specs.First.{AreWritten, IsFirstProgram, IsShortPath};
+ghost use Rattle.occ_fresh.specs.Growth.{GrowsByNames};
 ghost use Rattle.occ_parse.specs.Known.{NamesAreKnown};
 ghost use Rattle.occ_parse_reading.specs.declared.bound.Bound.{Bound};
 ghost use Rattle.occ_parse_reading.specs.Reading.{IsRead};
@@ -14,6 +17,8 @@ ghost use Rattle.occ_script.specs.declared.script.Order.{Order};
 ghost use Rattle.occ_script.specs.Orders.{IsOrders};
 ghost use Rattle.occ_script_path.specs.Texts.{path_of};
 ghost use Rattle.occ_script_write.specs.declared.writing.Done.{Done};
+ghost use Rattle.occ_script_write.specs.Text.{IsWritable};
+ghost use Rattle.occ_script_write_back.specs.Said.{IsSaid};
 ghost use Rattle.occ_syntax.specs.declared.scope.Program.{Program};
 ghost use Rattle.occ_syntax.specs.View.{tree};
 
@@ -66,6 +71,22 @@ pub fn expansions_are_written()
     expansions_make_moves();
     kept_parts_have_known_names();
     expansions_have_known_names();
+    read_programs_have_known_names();
+    read_programs_print_within_levels();
+}
+
+/// Moves from a program that was read are written from a table that has grown from the one that reading left by names of the language,
+/// where the names of their parts stand in it, and their lines can be read.
+pub fn known_moves_are_written()
+    ensures { (names new : List (List ℕ)) (from to : Program) (steps : List Done) → IsFirstProgram names from → GrowsByNames names new
+        → AllByRecursion (IsWritable new) steps → AllByRecursion IsSaid steps
+        → Moves from.params (tree from.body) (moves_of steps) (tree to.body)
+        → to.name ≡ from.name → to.params ≡ from.params → AreWritten new from steps to }
+{
+    names_stay_below();
+    no_names_are_places();
+    programs_leave_places();
+    kept_parts_have_known_names();
     read_programs_have_known_names();
     read_programs_print_within_levels();
 }

@@ -100,7 +100,7 @@ module _ (names : List (List ℕ)) (P : ℕ → Place) (table : IsTable names P)
 
 -- ---- the names of tokens and of lines
 
-name_grown : (names : List (List ℕ)) (P : ℕ → Place) → IsTable names P → (text : List ℕ) → kind_of text ≡ Some token.Name → nat_le (length text) 32 ≡ true
+pub name_grown : (names : List (List ℕ)) (P : ℕ → Place) → IsTable names P → (text : List ℕ) → kind_of text ≡ Some token.Name → nat_le (length text) 32 ≡ true
     → Grows names P (with_text names text)
 name_grown names P table text kind short =
     text_grown names P table text (λ x. record { name = x; element = None })
