@@ -1,0 +1,4 @@
+mod Left
+mod Programs
+mod Parts
+mod Steps
