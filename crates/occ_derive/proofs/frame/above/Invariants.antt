@@ -1,0 +1,6 @@
+use Rattle.occ_fresh.specs.Growth.{GrowsByNames}
+use Rattle.occ_derive.proofs.frame.above.Given as goal
+
+-- the table has grown by the names that were tried
+abbrev pub invariant-loop-number : goal.invariant-loop-number
+invariant-loop-number l = GrowsByNames l.fn.names l.names

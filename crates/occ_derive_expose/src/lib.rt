@@ -1,0 +1,19 @@
+//! Where a part begins: steps that bring what a part does first to its head, through SEQ, PAR and declared channels; and steps
+//! that give the declared names of a program names of their own.
+#![tactic(auto)]
+
+mod after;
+mod around;
+mod beside;
+mod build;
+mod exposing;
+mod fresh;
+mod head;
+mod hidden;
+mod leave;
+mod meet;
+mod naming;
+mod repeated;
+
+pub use exposing::expose;
+pub use naming::apart;

@@ -1,0 +1,100 @@
+//! A PAR of two ALTs.
+
+use crate::build::par_of_two;
+use occ_base::{Memory, Name};
+use occ_derive_trail::{Lost, Trail, alt_of, law, seq_of_two};
+use occ_syntax::{Expr, Exprs, Guard, NameList, Op, Proc, Wait};
+use std::alloc::Global;
+
+/// The ALT of all that the two can do first: what the first does alone, what the second does alone, and where they meet.
+pub(crate) fn meet(
+    trail: &mut Trail,
+    left: Vec<(Guard, Proc)>,
+    right: Vec<(Guard, Proc)>,
+) -> Result<Proc, Lost> {
+    let whole = expanded(trail.alloc(), left.as_slice(), right.as_slice())?;
+    trail.forward(law::PAR_EXPAND, &whole)?;
+    Ok(whole)
+}
+
+fn expanded(
+    alloc: Global,
+    left: &[(Guard, Proc)],
+    right: &[(Guard, Proc)],
+) -> Result<Proc, Memory> {
+    let mut made = Vec::new(alloc);
+    for (guard, part) in left {
+        let part = par_of_two(alloc, part.copy(alloc)?, alt_copy(alloc, right)?)?;
+        made.push((guard.copy(alloc)?, part))?;
+    }
+    for (guard, part) in right {
+        let part = par_of_two(alloc, alt_copy(alloc, left)?, part.copy(alloc)?)?;
+        made.push((guard.copy(alloc)?, part))?;
+    }
+    for branch in left {
+        meetings(alloc, &mut made, branch, right)?;
+    }
+    alt_of(alloc, made)
+}
+
+fn alt_copy(alloc: Global, branches: &[(Guard, Proc)]) -> Result<Proc, Memory> {
+    let mut made = Vec::new(alloc);
+    for (guard, part) in branches {
+        made.push((guard.copy(alloc)?, part.copy(alloc)?))?;
+    }
+    alt_of(alloc, made)
+}
+
+// Where a branch communicates with each of others.
+fn meetings(
+    alloc: Global,
+    made: &mut Vec<(Guard, Proc)>,
+    branch: &(Guard, Proc),
+    others: &[(Guard, Proc)],
+) -> Result<(), Memory> {
+    let (guard, part) = branch;
+    for (other, beside) in others {
+        if let Some((var, value)) = passed(&guard.wait, &other.wait) {
+            let first = assignment(alloc, var, value)?;
+            let both = par_of_two(alloc, part.copy(alloc)?, beside.copy(alloc)?)?;
+            made.push((
+                together(alloc, guard, other)?,
+                seq_of_two(alloc, first, both)?,
+            ))?;
+        }
+    }
+    Ok(())
+}
+
+// What one outputs and the other inputs on one channel: the variable that takes the value, and the value.
+fn passed<'a>(left: &'a Wait, right: &'a Wait) -> Option<(Name, &'a Expr)> {
+    match left {
+        Wait::Skip => None,
+        Wait::Put { chan, value } => match right {
+            Wait::Get { chan: other, var } if chan == other => Some((*var, value)),
+            _ => None,
+        },
+        Wait::Get { chan, var } => match right {
+            Wait::Put { chan: other, value } if chan == other => Some((*var, value)),
+            _ => None,
+        },
+    }
+}
+
+fn assignment(alloc: Global, var: Name, value: &Expr) -> Result<Proc, Memory> {
+    let mut vars = NameList::new(alloc);
+    vars.push(var)?;
+    let mut values = Exprs::new(alloc);
+    values.push(value.copy(alloc)?)?;
+    Ok(Proc::Assign { vars, values })
+}
+
+// The guard that is ready where both conditions hold.
+fn together(alloc: Global, left: &Guard, right: &Guard) -> Result<Guard, Memory> {
+    let first = Box::new(alloc, left.condition.copy(alloc)?)?;
+    let second = Box::new(alloc, right.condition.copy(alloc)?)?;
+    Ok(Guard {
+        condition: Expr::Two(Op::And, first, second),
+        wait: Wait::Skip,
+    })
+}

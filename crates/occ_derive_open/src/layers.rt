@@ -1,0 +1,85 @@
+use crate::row::seq_with;
+use occ_base::{Name, Width};
+use occ_derive_trail::{Lost, Trail, var_of};
+use occ_syntax::Proc;
+use std::alloc::Global;
+
+/// What stands directly round the first part of a process.
+#[derive(Drop)]
+pub(crate) enum Layer {
+    /// A SEQ, with the parts that follow the first.
+    Seq(Vec<Proc>),
+    /// A declared variable.
+    Var(Name, Width),
+}
+
+impl Layer {
+    /// The layer round a process.
+    pub(crate) fn round(self, alloc: Global, inner: Proc) -> Result<Proc, Lost> {
+        match self {
+            Layer::Seq(rest) => seq_with(alloc, inner, rest),
+            Layer::Var(name, width) => Ok(var_of(alloc, name, width, inner)?),
+        }
+    }
+}
+
+/// What stands round a process, each time as the first part, from outside in. The trail stands at the process.
+#[derive(Drop)]
+pub(crate) struct Layers {
+    list: Vec<Layer>,
+}
+
+impl Layers {
+    /// Nothing stands round it.
+    pub(crate) fn new(alloc: Global) -> Layers {
+        Layers {
+            list: Vec::new(alloc),
+        }
+    }
+
+    /// Goes on with the first part of a process.
+    pub(crate) fn push(&mut self, trail: &mut Trail, layer: Layer) -> Result<(), Lost> {
+        match self.list.push(layer) {
+            Ok(()) => {}
+            Err(_cause) => return Err(Lost::Memory),
+        }
+        trail.enter(0)?;
+        Ok(())
+    }
+
+    /// Goes back to what stands directly round the process.
+    pub(crate) fn pop(&mut self, trail: &mut Trail) -> Option<Layer> {
+        let layer = self.list.pop()?;
+        trail.leave();
+        Some(layer)
+    }
+
+    /// How many they are.
+    pub(crate) fn count(&self) -> usize {
+        self.list.len()
+    }
+
+    /// The width of a variable that is declared there; None where it isn't.
+    pub(crate) fn width_of(&self, name: Name) -> Option<Width> {
+        for layer in self.list.as_slice() {
+            if let Layer::Var(other, width) = layer {
+                if *other == name {
+                    return Some(*width);
+                }
+            }
+        }
+        None
+    }
+
+    /// All of them round a process.
+    pub(crate) fn close(mut self, trail: &mut Trail, inner: Proc) -> Result<Proc, Lost> {
+        let alloc = trail.alloc();
+        let mut part = inner;
+        for _ in 0..self.count() {
+            if let Some(layer) = self.pop(trail) {
+                part = layer.round(alloc, part)?;
+            }
+        }
+        Ok(part)
+    }
+}

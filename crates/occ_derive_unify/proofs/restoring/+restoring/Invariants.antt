@@ -1,0 +1,14 @@
+use Rattle.occ_derive_unify.proofs.restoring.+restoring.Given as goal
+
+-- each call has one less to go
+abbrev pub decreases-restored : goal.decreases-restored
+decreases-restored l = l.depth
+
+abbrev pub decreases-each_choice : goal.decreases-each_choice
+decreases-each_choice l = l.depth
+
+abbrev pub decreases-beneath : goal.decreases-beneath
+decreases-beneath l = l.depth
+
+abbrev pub decreases-unseen_part : goal.decreases-unseen_part
+decreases-unseen_part l = l.depth
