@@ -11,13 +11,18 @@ use Rattle.occ_node.specs.declared.world.World.{World}
 use Rattle.occ_compare.specs.Interface.{HasNodes, IsOfInterface}
 use Rattle.occ_norm.specs.Root.{IsRoot}
 use Rattle.occ_norm.proofs.Rooted.{all_nodes, of_interface}
-use Rattle.occ_nform_table.specs.Tables.{IsInterface, are_params}
 use Rattle.occ_nform_table.specs.Normal.{Parts, text_read}
 use Rattle.occ_nform.specs.declared.figures.Counts.{Counts}
 use Rattle.occ_nform.specs.Counts.{greatest, heights_of, offers_in}
 use Rattle.occ_nform.specs.Written.{IsNormalText, IsRootOf}
 use Rattle.occ_base.specs.declared.memory.Memory.{Memory}
 use Rattle.occ_nform_program.specs.Counted.{HasCounts, counts_of}
+use Rattle.occ_nform_program.specs.Tabled.{IsTableOf}
+use Rattle.occ_nform.proofs.Written.{stands_for}
+use Rattle.occ_nform_number.specs.Tabulated.{IsTabulated}
+use Rattle.occ_nform_table.specs.Behaviours.{Stands}
+use Rattle.occ_nform_table.specs.declared.table.Table.{Table}
+use Rattle.occ_nform_table.specs.Tables.{IsInterface, IsNormal, are_params}
 
 record_is : (a : Root) (params : List (Name × Kind)) → a.params ≡ params → a ≡ record { params = params; states = a.states }
 record_is a params e = λ i. record { params = e i; states = a.states }
@@ -66,3 +71,15 @@ pub counted : (r : Result Counts Memory) (t : Parts) (P : Counts → Type 0) →
     → IfOk r (λ c. c.rows ≡ length t.rows) → IfOk r (λ c. c.offers ≡ capped (offers_in t.rows)) → IfOk r (λ c. c.height ≡ greatest (heights_of [] t.rows)) → IfOk r (λ c. c.states ≡ length t.states) → IfOk r P
 counted (Ok c) t P f a b h s = f c (counts_are t c a b h s)
 counted (Err e) t P f a b h s = tt
+
+-- the table of a root is that of each program whose behaviours the root has
+pub table_made : (names : List (List ℕ)) (params : List (Name × Kind)) → bits_of_scope params ≤ 16 → (w : World) (r : Root) → r.params ≡ params → (p : Tree)
+    → HasNodes w r.states → IsRootOf w r.params p r.states → (made : Result Table Memory) → IfOk made (λ t. t.params ≡ r.params)
+    → IfOk made (λ t. IsNormal (record { names = names; params = t.params; rows = t.rows; states = t.states })) → IfOk made (λ t. IsTabulated w r t.rows t.states)
+    → IfOk made (IsTableOf names params p)
+table_made names params few w r e p has of (Ok t) same normal tabulated = record {
+  params_are = same ∙ e;
+  normal = normal;
+  stands = subst (λ ps. Stands ps t.rows t.states p) e (stands_for w r t.rows t.states p (subst (λ ps. bits_of_scope ps ≤ 16) (sym e) few) has tabulated of);
+}
+table_made names params few w r e p has of (Err m) same normal tabulated = tt

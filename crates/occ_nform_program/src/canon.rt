@@ -3,10 +3,12 @@ ghost use Rattle.occ_syntax.specs.View.{tree};
 ghost use Rattle.occ_nform_table.specs.Tables.{IsInterface, are_params};
 ghost use Rattle.occ_nform.specs.Written.{IsNormalText};
 ghost use Rattle.occ_nform_program.specs.Counted.{HasCounts};
+ghost use Rattle.occ_nform_program.specs.Tabled.{IsTableOf};
 
 use occ_base::{Memory, Names};
 use occ_nform::{Counts, bound_rows, count, table_text, write};
 use occ_nform_number::tabulate;
+use occ_nform_table::Table;
 use occ_node::World;
 use occ_norm::normalise;
 use occ_usage::Accepted;
@@ -22,6 +24,17 @@ pub fn normal_text(alloc: Global, names: &Names, accepted: &Accepted) -> Result<
     let mut world = World::new(alloc)?;
     let root = normalise(alloc, accepted, &mut world)?;
     write(alloc, names, &mut world, &root)
+}
+
+/// The normal table of a program: that of its normal text.
+pub fn normal_table(alloc: Global, names: &Names, accepted: &Accepted) -> Result<Table, Memory>
+    requires interface { IsInterface names.now accepted.now.program.params }
+    requires params { are_params names.now [] accepted.now.program.params ≡ true }
+    ensures { IfOk result (λ t. IsTableOf names.now accepted.now.program.params (tree accepted.now.program.body) t) }
+{
+    let mut world = World::new(alloc)?;
+    let root = normalise(alloc, accepted, &mut world)?;
+    tabulate(alloc, names, &mut world, &root)
 }
 
 /// The figures of the normal text of a program.

@@ -3,4 +3,4 @@
 
 mod canon;
 
-pub use canon::{measured, normal_text};
+pub use canon::{measured, normal_table, normal_text};

@@ -4,8 +4,8 @@ use Rattle.std.specs.Prelude.{option_and_then, option_map}
 use Rattle.occ_engine_written.specs.First.{IsShortPath}
 use Rattle.occ_gen.specs.declared.shape.Shape.{Shape}
 use Rattle.occ_script_path.specs.Texts.{path_of}
-use Rattle.occ_tool_words.specs.Words.{Job, belongs, deadlock, expand, expand_of, is_plain, job_of, normal, normalise, refine, replay, run, same, shape_of, stages_of, stress, stress_of, transform, with_one, with_two, with_two_later}
-use Rattle.occ_tool_run.specs.Answers.{Expands, IsAnswer, Transforms, checking, comparison, expanding, membership, normalisation, refinement, replaying, running, seeking, stressing, transforming, usage}
+use Rattle.occ_tool_words.specs.Words.{Job, belongs, deadlock, derive, expand, expand_of, is_plain, job_of, normal, normalise, refine, replay, run, same, shape_of, stages_of, stress, stress_of, transform, with_one, with_two, with_two_later}
+use Rattle.occ_tool_run.specs.Answers.{Derives, Expands, IsAnswer, Transforms, checking, comparison, normalisation_by_laws, expanding, membership, normalisation, refinement, replaying, running, seeking, stressing, transforming, usage}
 use Rattle.occ_tool_run.specs.Derivations.{Replays}
 use Rattle.occ_tool_run.specs.Files.{Files}
 
@@ -29,6 +29,7 @@ transform_asked files words answer program orders j (transforming a b k h) =
     let second : b ≡ orders = cc in
     subst (λ x. Transforms (files x) (files orders) answer) first (subst (λ x. Transforms (files a) (files x) answer) second h)
 transform_asked files words answer program orders j (expanding a way k h) = let bad : Some (transform program orders) ≡ Some (expand a way) = sym j ∙ k in absurd cc
+transform_asked files words answer program orders j (normalisation_by_laws a k h) = let bad : Some (transform program orders) ≡ Some (derive a) = sym j ∙ k in absurd cc
 
 pub expand_asked : (files : Files) (words : List (List ℕ)) (answer : _) (program path : List ℕ) → job_of words ≡ Some (expand program path)
     → IsAnswer files words answer → Expands (files program) path answer
@@ -48,6 +49,26 @@ expand_asked files words answer program path j (expanding a way k h) =
     let first : a ≡ program = cc in
     let second : way ≡ path = cc in
     subst (λ x. Expands (files x) path answer) first (subst (λ x. Expands (files a) x answer) second h)
+expand_asked files words answer program path j (normalisation_by_laws a k h) = let bad : Some (expand program path) ≡ Some (derive a) = sym j ∙ k in absurd cc
+
+pub derive_asked : (files : Files) (words : List (List ℕ)) (answer : _) (program : List ℕ) → job_of words ≡ Some (derive program)
+    → IsAnswer files words answer → Derives (files program) answer
+derive_asked files words answer program j (usage k h) = let bad : Some (derive program) ≡ None = sym j ∙ k in absurd cc
+derive_asked files words answer program j (comparison a b k h) = let bad : Some (derive program) ≡ Some (same a b) = sym j ∙ k in absurd cc
+derive_asked files words answer program j (normalisation a k h) = let bad : Some (derive program) ≡ Some (normalise a) = sym j ∙ k in absurd cc
+derive_asked files words answer program j (checking a k h) = let bad : Some (derive program) ≡ Some (normal a) = sym j ∙ k in absurd cc
+derive_asked files words answer program j (membership a b k h) = let bad : Some (derive program) ≡ Some (belongs a b) = sym j ∙ k in absurd cc
+derive_asked files words answer program j (stressing shape n k h) = let bad : Some (derive program) ≡ Some (stress shape n) = sym j ∙ k in absurd cc
+derive_asked files words answer program j (refinement a b k h) = let bad : Some (derive program) ≡ Some (refine a b) = sym j ∙ k in absurd cc
+derive_asked files words answer program j (seeking a k h) = let bad : Some (derive program) ≡ Some (deadlock a) = sym j ∙ k in absurd cc
+derive_asked files words answer program j (replaying a k h) = let bad : Some (derive program) ≡ Some (replay a) = sym j ∙ k in absurd cc
+derive_asked files words answer program j (running a b k h) = let bad : Some (derive program) ≡ Some (run a b) = sym j ∙ k in absurd cc
+derive_asked files words answer program j (transforming a b k h) = let bad : Some (derive program) ≡ Some (transform a b) = sym j ∙ k in absurd cc
+derive_asked files words answer program j (expanding a way k h) = let bad : Some (derive program) ≡ Some (expand a way) = sym j ∙ k in absurd cc
+derive_asked files words answer program j (normalisation_by_laws a k h) =
+    let e : Some (derive program) ≡ Some (derive a) = sym j ∙ k in
+    let first : a ≡ program = cc in
+    subst (λ x. Derives (files x) answer) first h
 
 pub replay_asked : (files : Files) (words : List (List ℕ)) (answer : _) (script : List ℕ) → job_of words ≡ Some (replay script)
     → IsAnswer files words answer → Replays (files script) answer
@@ -66,6 +87,7 @@ replay_asked files words answer script j (replaying a k h) =
 replay_asked files words answer script j (running a b k h) = let bad : Some (replay script) ≡ Some (run a b) = sym j ∙ k in absurd cc
 replay_asked files words answer script j (transforming a b k h) = let bad : Some (replay script) ≡ Some (transform a b) = sym j ∙ k in absurd cc
 replay_asked files words answer script j (expanding a way k h) = let bad : Some (replay script) ≡ Some (expand a way) = sym j ∙ k in absurd cc
+replay_asked files words answer script j (normalisation_by_laws a k h) = let bad : Some (replay script) ≡ Some (derive a) = sym j ∙ k in absurd cc
 
 -- ---- the path of an expansion is one that a word writes
 
@@ -85,6 +107,7 @@ HasShortPath (Some (stress shape stages)) = Unit {0}
 HasShortPath (Some (refine first second)) = Unit {0}
 HasShortPath (Some (deadlock program)) = Unit {0}
 HasShortPath (Some (run program text)) = Unit {0}
+HasShortPath (Some (derive program)) = Unit {0}
 HasShortPath None = Unit {0}
 
 record IsShortJob (job : Option Job) : Type 0 where
@@ -107,7 +130,8 @@ module _ (law : PathLaw) where
   one_short : (command first : List ℕ) → IsShortJob (with_one command first)
   one_short command first =
       either _ (Some (normalise first)) _ (record { short = tt }) (either _ (Some (normal first)) _ (record { short = tt })
-      (either _ (Some (deadlock first)) _ (record { short = tt }) (either _ (Some (replay first)) None (record { short = tt }) (record { short = tt }))))
+      (either _ (Some (deadlock first)) _ (record { short = tt }) (either _ (Some (replay first)) _ (record { short = tt })
+      (either _ (Some (derive first)) None (record { short = tt }) (record { short = tt })))))
 
   later_short : (command first second : List ℕ) → IsShortJob (with_two_later command first second)
   later_short command first second =

@@ -1,10 +1,13 @@
 -- A script that was printed is joined.
 use Rattle.std.proofs.Common.{◌≡◌, ℕ, ◌≤◌, List, [], length, Option, Some, refl, sym, ap, subst, ◌∙◌, arith}
 use Rattle.std.specs.Prelude.{codes}
+use Rattle.std.specs.List.{AllByRecursion}
 use Rattle.occ_engine.specs.Moved.{moves_of, orders_of}
 use Rattle.occ_engine_rules.specs.Expansion.{IsExpanded}
+use Rattle.occ_engine_rules.specs.Moves.{Moves}
 use Rattle.occ_engine_rules.specs.Orders.{Follows}
 use Rattle.occ_engine_written.specs.First.{AreWritten, IsFirstProgram, IsShortPath}
+use Rattle.occ_fresh.specs.Growth.{GrowsByNames}
 use Rattle.occ_parse_rules.specs.Places.{Place}
 use Rattle.occ_script.specs.declared.fault.ScriptFault.{ScriptFault}
 use Rattle.occ_script.specs.declared.script.Order.{Order}
@@ -14,19 +17,21 @@ use Rattle.occ_script.specs.Refusals.{IsScriptFault}
 use Rattle.occ_script.specs.Scripts.{IsScript}
 use Rattle.occ_script_joined.specs.Joined.{AreWrittenMoves, IsJoined as IsJoinedScript}
 use Rattle.occ_script_write.specs.declared.writing.Done.{Done}
-use Rattle.occ_script_write.specs.Text.{script_text}
+use Rattle.occ_script_write.specs.Text.{IsWritable, script_text}
+use Rattle.occ_script_write_back.specs.Said.{IsSaid}
 use Rattle.occ_syntax.specs.declared.scope.Program.{Program}
 use Rattle.occ_syntax.specs.View.{tree}
 use Rattle.occ_tool_joined.specs.Joined.{IsJoined, IsPrintedNarrow}
-use Rattle.occ_tool_joined.proofs.Asked.{PathLaw, expand_asked, path_asked, replay_asked, transform_asked}
+use Rattle.occ_tool_joined.proofs.Asked.{PathLaw, derive_asked, expand_asked, path_asked, replay_asked, transform_asked}
 use Rattle.occ_tool_joined.proofs.Replayed.{IsDerived, OneLaw, replay_joined}
 use Rattle.occ_tool_run.specs.Accepts.{IsAccepted}
 use Rattle.occ_tool_run.specs.Answers.{Answers, Takes, accepted, refused, unusable}
 use Rattle.occ_tool_run.specs.Derivations.{Replays}
+use Rattle.occ_tool_run.specs.Derived as normal
 use Rattle.occ_tool_run.specs.Files.{Files, most_script_bytes}
 use Rattle.occ_tool_run.specs.Texts.{figure_text, status_of, text_of}
 use Rattle.occ_tool_run.specs.Transforms.{IsExpandedTo, IsScriptOf, IsTransformed, blocked, expanded, faulty_orders, followed_orders, no_par, no_part, stopped_orders, too_long_orders}
-use Rattle.occ_tool_words.specs.Words.{expand, job_of, replay, transform}
+use Rattle.occ_tool_words.specs.Words.{derive, expand, job_of, replay, transform}
 use Rattle.occ_behaviour.specs.declared.behaviour.Side.TheVariants.{First}
 
 abbrev Table : Type 0
@@ -47,6 +52,10 @@ OrdersLaw = (text : List ℕ) (names new : Table) (orders : List Order) (from to
 abbrev pub ExpandLaw : Type 0
 ExpandLaw = (names : Table) (path : List ℕ) (from to : Program) (steps : List Done) → IsFirstProgram names from → IsShortPath path
     → IsExpanded from.params (tree from.body) path (moves_of steps) (tree to.body) → to.name ≡ from.name → to.params ≡ from.params → AreWritten names from steps to
+
+abbrev pub KnownLaw : Type 0
+KnownLaw = (names new : Table) (from to : Program) (steps : List Done) → IsFirstProgram names from → GrowsByNames names new → AllByRecursion (IsWritable new) steps
+    → AllByRecursion IsSaid steps → Moves from.params (tree from.body) (moves_of steps) (tree to.body) → to.name ≡ from.name → to.params ≡ from.params → AreWritten new from steps to
 
 -- ---- what was printed
 
@@ -148,6 +157,14 @@ expand_printed law file path names p answer text narrow short a z e (blocked b i
 expand_printed law file path names p answer text narrow short a z e (expanded steps to x s) =
     printed file names names p to steps answer text a s e (law names path p to steps (first_program file names p narrow a) short x s.name s.params)
 
+derive_printed : KnownLaw → (file : Option (List ℕ)) (names : Table) (p : Program) (answer : _) (text : List ℕ) → IsPrintedNarrow file → IsAccepted file [] names p
+    → status_of answer ≡ 0 → text ≡ text_of answer → normal.IsDerived names p answer → IsPrinted file text
+derive_printed law file names p answer text narrow a z e (normal.long body n c is) = absurd (refusing answer 3 z (ap status_of is) (omega arith))
+derive_printed law file names p answer text narrow a z e (normal.unfinished body n c is) = absurd (refusing answer 3 z (ap status_of is) (omega arith))
+derive_printed law file names p answer text narrow a z e (normal.derived new steps to n c moves k s) =
+    printed file names new p to steps answer text a s e
+    (law names new p to steps (first_program file names p narrow a) k.grown k.written k.said moves s.name s.params)
+
 -- the program is accepted, and the rest decides
 transform_taken : OrdersLaw → (file : Option (List ℕ)) (bytes : List ℕ) (answer : _) (text : List ℕ) → IsPrintedNarrow file → status_of answer ≡ 0 → text ≡ text_of answer
     → Takes First file [] (IsTransformed bytes) answer → IsPrinted file text
@@ -160,6 +177,12 @@ expand_taken : ExpandLaw → (file : Option (List ℕ)) (path : List ℕ) (answe
 expand_taken law file path answer text narrow short z e (refused fault r is) = absurd (refusing answer 3 z (ap status_of is) (omega arith))
 expand_taken law file path answer text narrow short z e (unusable new line fault u is) = absurd (refusing answer 3 z (ap status_of is) (omega arith))
 expand_taken law file path answer text narrow short z e (accepted new p a h) = expand_printed law file path new p answer text narrow short a z e h
+
+derive_taken : KnownLaw → (file : Option (List ℕ)) (answer : _) (text : List ℕ) → IsPrintedNarrow file → status_of answer ≡ 0
+    → text ≡ text_of answer → Takes First file [] normal.IsDerived answer → IsPrinted file text
+derive_taken law file answer text narrow z e (refused fault r is) = absurd (refusing answer 3 z (ap status_of is) (omega arith))
+derive_taken law file answer text narrow z e (unusable new line fault u is) = absurd (refusing answer 3 z (ap status_of is) (omega arith))
+derive_taken law file answer text narrow z e (accepted new p a h) = derive_printed law file new p answer text narrow a z e h
 
 -- ---- the whole
 
@@ -180,3 +203,12 @@ expanded_joined one law expansion paths files later words again program path scr
     let z : status_of a.answer ≡ 0 = sym a.status_is in
     join law one (files program) text later again script
     (expand_taken expansion (files program) path a.answer text narrow (path_asked paths words program path j) z a.text_is t) short k e
+
+pub derived_joined : OneLaw → PrintedLaw → KnownLaw → (files later : Files) (words again : Table) (program script text : List ℕ)
+    → job_of words ≡ Some (derive program) → Answers files words 0 text → IsPrintedNarrow (files program) → length text ≤ most_script_bytes
+    → job_of again ≡ Some (replay script) → later script ≡ Some text → IsJoined later again (files program) text
+derived_joined one law known files later words again program script text j a narrow short k e =
+    let t = derive_asked files words a.answer program j a.is in
+    let z : status_of a.answer ≡ 0 = sym a.status_is in
+    join law one (files program) text later again script
+    (derive_taken known (files program) a.answer text narrow z a.text_is t) short k e

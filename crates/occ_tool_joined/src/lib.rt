@@ -1,4 +1,4 @@
-//! What `transform` and `expand` print, `replay` joins. There is no code: each law is the contract of a function without a body of its
+//! What `transform`, `expand` and `derive` print, `replay` joins. There is no code: each law is the contract of a function without a body of its
 //! own.
 #![tactic(auto)]
 
@@ -6,10 +6,11 @@ ghost use Rattle.std.specs.Prelude.{ℕ, ◌≡◌, ◌≤◌, List, Some, lengt
 ghost use Rattle.occ_tool_joined.specs.Joined.{IsJoined, IsPrintedNarrow};
 ghost use Rattle.occ_tool_run.specs.Answers.{Answers};
 ghost use Rattle.occ_tool_run.specs.Files.{Files, most_script_bytes};
-ghost use Rattle.occ_tool_words.specs.Words.{expand, job_of, replay, transform};
+ghost use Rattle.occ_tool_words.specs.Words.{derive, expand, job_of, replay, transform};
 
 use occ_engine_written::{
-    expansions_are_written, followed_orders_are_written, paths_of_texts_are_short,
+    expansions_are_written, followed_orders_are_written, known_moves_are_written,
+    paths_of_texts_are_short,
 };
 use occ_replay_rules::scripts_have_one_answer;
 use occ_script_numbered::printed_moves_are_joined;
@@ -39,4 +40,16 @@ pub fn expanded_scripts_are_joined()
     scripts_have_one_answer();
     printed_moves_are_joined();
     expansions_are_written();
+}
+
+/// The same of words that ask for the derivation of a normal program.
+pub fn derived_scripts_are_joined()
+    ensures { (files later : Files) (words again : List (List ℕ)) (program script text : List ℕ)
+        → job_of words ≡ Some (derive program) → Answers files words 0 text
+        → IsPrintedNarrow (files program) → length text ≤ most_script_bytes
+        → job_of again ≡ Some (replay script) → later script ≡ Some text → IsJoined later again (files program) text }
+{
+    scripts_have_one_answer();
+    printed_moves_are_joined();
+    known_moves_are_written();
 }

@@ -7,10 +7,10 @@ use Rattle.occ_tool_run.specs.declared.load.Stop.{Stop}
 use Rattle.occ_tool_run.specs.declared.load.Stop.TheVariants.{Read, Memory}
 use Rattle.occ_tool_run.specs.declared.answer.Answer.{Answer}
 use Rattle.occ_gen.specs.declared.shape.Shape.{Shape}
-use Rattle.occ_tool_words.specs.Words.{same, normalise, normal, belongs, stress, refine, deadlock, job_of, replay, run, transform, expand}
+use Rattle.occ_tool_words.specs.Words.{same, normalise, normal, belongs, stress, refine, deadlock, job_of, replay, run, transform, expand, derive}
 use Rattle.occ_tool_run.specs.Files.{Files, AsksFront, AsksFor, IsLoaded}
 use Rattle.occ_tool_run.specs.Texts.{status_of, text_of}
-use Rattle.occ_tool_run.specs.Answers.{IsAnswer, comparison, normalisation, checking, membership, stressing, refinement, seeking, Answers, Settles, Normalises, Checks, Judges, Steps, Stresses, Seeks, replaying, running, Transforms, Expands, transforming, expanding}
+use Rattle.occ_tool_run.specs.Answers.{IsAnswer, comparison, normalisation, checking, membership, stressing, refinement, seeking, Answers, Settles, Normalises, Checks, Judges, Steps, Stresses, Seeks, replaying, running, Transforms, Expands, transforming, expanding, Derives, normalisation_by_laws}
 use Rattle.occ_tool_run.specs.Derivations.{Replays}
 use Rattle.occ_tool_run.specs.declared.judge.Question.TheVariants.{WhetherSame, WhetherRefined}
 use Rattle.occ_tool_run.specs.Ran.{Ran, answered, cut_short}
@@ -200,3 +200,9 @@ pub asked_expand : {E : Type 0} (told : Option Files) (words : List (List ℕ)) 
 asked_expand None words a path (Ok answer) is s = tt
 asked_expand (Some files) words a path (Ok answer) is s = expanding a path (sym is) s
 asked_expand told words a path (Err e) is s = tt
+
+pub asked_derive : {E : Type 0} (told : Option Files) (words : List (List ℕ)) (a : List ℕ) (r : Result Answer E) → Some (derive a) ≡ job_of words
+    → IfOk r (λ answer. IfSome told (λ files. Derives (files a) answer)) → IfOk r (λ answer. IfSome told (λ files. IsAnswer files words answer))
+asked_derive None words a (Ok answer) is s = tt
+asked_derive (Some files) words a (Ok answer) is s = normalisation_by_laws a (sym is) s
+asked_derive told words a (Err e) is s = tt

@@ -16,3 +16,4 @@ pub mod Scheduled
 pub mod OneReplay
 pub mod OneTransform
 pub mod Engine
+pub mod Deriving

@@ -22,7 +22,7 @@ use Rattle.occ_gen.specs.declared.shape.Shape.{Shape}
 use Rattle.occ_gen.specs.Programs.{program_text}
 use Rattle.occ_nform.specs.Written.{IsNormalText}
 use Rattle.occ_nform_program.specs.Counted.{HasCounts, counts_of}
-use Rattle.occ_tool_words.specs.Words.{Job, same, normalise, normal, belongs, stress, refine, deadlock, replay, run, transform, expand, job_of}
+use Rattle.occ_tool_words.specs.Words.{Job, same, normalise, normal, belongs, stress, refine, deadlock, replay, run, transform, expand, derive, job_of}
 use Rattle.occ_tool_run.specs.declared.answer.Answer.{Answer}
 use Rattle.occ_tool_run.specs.declared.answer.Answer.TheVariants.{Usage, Refused, Unusable, TooLong, RefusedTable, RefusedClaim, InterfacesDiffer, Compared, Counted, Member, Stressed, Allowed, Sought, RefusedSchedule, Stepped}
 use Rattle.occ_tool_run.specs.declared.judge.Question.{Question}
@@ -38,7 +38,7 @@ use Rattle.occ_tool_run.specs.Transforms.{IsExpandedTo, IsTransformed}
 use Rattle.occ_tool_run.specs.Texts.{status_of, text_of}
 use Rattle.occ_tool_run.specs.Accepts.{IsAccepted}
 use Rattle.occ_tool_run.specs.Answers.{Takes, TakesBoth, Turned, refused_behind, unusable_behind, accepted_behind, Compares, apart, compared, Refines, other, allowed, Replies, Settles, IsSought, Seeks, IsNormalised, Normalises, IsChecked, too_long_table, faulty_table, normal_table, Checks}
-use Rattle.occ_tool_run.specs.Answers.{IsJudged, too_long_claim, faulty_claim, judged_claim, Judges, IsStressed, Stresses, IsAnswer, usage, comparison, normalisation, checking, membership, stressing, refinement, seeking, replaying, running, transforming, expanding, Answers, Steps, Transforms, Expands}
+use Rattle.occ_tool_run.specs.Answers.{IsJudged, too_long_claim, faulty_claim, judged_claim, Judges, IsStressed, Stresses, IsAnswer, usage, comparison, normalisation, checking, membership, stressing, refinement, seeking, replaying, running, transforming, expanding, normalisation_by_laws, Answers, Steps, Transforms, Expands, Derives, IsDetermined}
 use Rattle.occ_tool_run.proofs.Once.{AreAlike, IsOnce, IsOneText, alike, same_bytes}
 use Rattle.occ_tool_run.proofs.OneReplay.{IsOneScript, replays_alike}
 use Rattle.occ_tool_run.proofs.OneTransform.{IsOneOutcome, expanded_alike, transformed_alike}
@@ -97,6 +97,7 @@ Does files (Some (replay x)) a = Replays (files x) a
 Does files (Some (run x y)) a = Steps (files x) (files y) a
 Does files (Some (transform x y)) a = Transforms (files x) (files y) a
 Does files (Some (expand x path)) a = Expands (files x) path a
+Does files (Some (derive x)) a = Derives (files x) a
 
 pub does : (files : Files) (words : List (List ℕ)) (a : Answer) → IsAnswer files words a → Does files (job_of words) a
 does files words a (usage none e) = let P : Option Job → Type 0 = λ j. Does files j a in subst P (sym none) e
@@ -111,6 +112,7 @@ does files words a (replaying x is s) = let P : Option Job → Type 0 = λ j. Do
 does files words a (running x y is s) = let P : Option Job → Type 0 = λ j. Does files j a in subst P (sym is) s
 does files words a (transforming x y is s) = let P : Option Job → Type 0 = λ j. Does files j a in subst P (sym is) s
 does files words a (expanding x path is s) = let P : Option Job → Type 0 = λ j. Does files j a in subst P (sym is) s
+does files words a (normalisation_by_laws x is s) = let P : Option Job → Type 0 = λ j. Does files j a in subst P (sym is) s
 
 -- what follows stands on the reading of a text being one, on the verdict being one, on the normal text being one, on scripts being
 -- read and answered in one way, and on orders and expansions having one outcome
@@ -295,23 +297,24 @@ module _ (once : IsOnce) (only : IsOneVerdict) (single : IsOneText) (scripts : I
 
   -- ---- command lines
 
-  does_alike : (files : Files) (j : Option Job) (a b : Answer) → Does files j a → Does files j b → AreAlike a b
-  does_alike files None a b s t = alike a b Usage Usage s refl t
-  does_alike files (Some (same x y)) a b s t = settles_alike WhetherSame (files x) (files y) a b s t
-  does_alike files (Some (refine x y)) a b s t = settles_alike WhetherRefined (files x) (files y) a b s t
-  does_alike files (Some (deadlock x)) a b s t = takes_alike once First (files x) [] IsSought IsSought a b (λ m n p q y d. sought_alike m n p q a b d) s t
-  does_alike files (Some (normalise x)) a b s t = takes_alike once First (files x) [] IsNormalised IsNormalised a b (λ m n p q y d. normalised_alike (files x) m n p q a b y d) s t
-  does_alike files (Some (normal x)) a b s t = checks_alike (files x) a b s t
-  does_alike files (Some (replay x)) a b s t = replays_alike scripts (files x) a b s t
-  does_alike files (Some (run x y)) a b s t = steps_alike (files x) (files y) a b s t
-  does_alike files (Some (transform x y)) a b s t = transforms_alike (files x) (files y) a b s t
-  does_alike files (Some (expand x path)) a b s t =
+  does_alike : (files : Files) (j : Option Job) (a b : Answer) → IsDetermined j → Does files j a → Does files j b → AreAlike a b
+  does_alike files None a b fixed s t = alike a b Usage Usage s refl t
+  does_alike files (Some (same x y)) a b fixed s t = settles_alike WhetherSame (files x) (files y) a b s t
+  does_alike files (Some (refine x y)) a b fixed s t = settles_alike WhetherRefined (files x) (files y) a b s t
+  does_alike files (Some (deadlock x)) a b fixed s t = takes_alike once First (files x) [] IsSought IsSought a b (λ m n p q y d. sought_alike m n p q a b d) s t
+  does_alike files (Some (normalise x)) a b fixed s t = takes_alike once First (files x) [] IsNormalised IsNormalised a b (λ m n p q y d. normalised_alike (files x) m n p q a b y d) s t
+  does_alike files (Some (normal x)) a b fixed s t = checks_alike (files x) a b s t
+  does_alike files (Some (replay x)) a b fixed s t = replays_alike scripts (files x) a b s t
+  does_alike files (Some (run x y)) a b fixed s t = steps_alike (files x) (files y) a b s t
+  does_alike files (Some (transform x y)) a b fixed s t = transforms_alike (files x) (files y) a b s t
+  does_alike files (Some (expand x path)) a b fixed s t =
       takes_alike once First (files x) [] (IsExpandedTo path) (IsExpandedTo path) a b (λ m n p q y d. expanded_alike outcome path m n p q d a b) s t
-  does_alike files (Some (belongs x y)) a b s t = judges_alike (files x) (files y) a b s t
-  does_alike files (Some (stress shape n)) a b s t =
+  does_alike files (Some (belongs x y)) a b fixed s t = judges_alike (files x) (files y) a b s t
+  does_alike files (Some (stress shape n)) a b fixed s t =
       takes_alike once First (Some (program_text shape n)) [] (IsStressed shape n) (IsStressed shape n) a b (λ j k p q y d. stressed_alike (Some (program_text shape n)) shape n j k p q a b y d) s t
+  does_alike files (Some (derive x)) a b fixed s t = absurd fixed
 
-  pub one_answer : (files : Files) (words : List (List ℕ)) (s t : ℕ) (a b : List ℕ) → Answers files words s a → Answers files words t b → (s ≡ t) × (a ≡ b)
-  one_answer files words s t a b x y =
-      let e = does_alike files (job_of words) x.answer y.answer (does files words x.answer x.is) (does files words y.answer y.is) in
+  pub one_answer : (files : Files) (words : List (List ℕ)) (s t : ℕ) (a b : List ℕ) → IsDetermined (job_of words) → Answers files words s a → Answers files words t b → (s ≡ t) × (a ≡ b)
+  one_answer files words s t a b fixed x y =
+      let e = does_alike files (job_of words) x.answer y.answer fixed (does files words x.answer x.is) (does files words y.answer y.is) in
       (x.status_is ∙ e.status ∙ sym y.status_is, x.text_is ∙ e.text ∙ sym y.text_is)

@@ -4,7 +4,7 @@ use Rattle.std.specs.Str.{bytes_eq}
 use Rattle.std.proofs.lemmas.Bool.{and_parts, leb-true}
 use Rattle.occ_gen.specs.declared.shape.Shape.{Shape}
 use Rattle.occ_script_path.specs.Texts.{path_of}
-use Rattle.occ_tool_words.specs.Words.{Job, same, normalise, normal, belongs, stress, refine, deadlock, replay, run, transform, expand, expand_of, digit_of, in_range, is_plain, job_of, shape_of, stages_of, stress_of, two_digits, with_one, with_two, with_two_later}
+use Rattle.occ_tool_words.specs.Words.{Job, same, normalise, normal, belongs, stress, refine, deadlock, replay, run, transform, expand, derive, expand_of, digit_of, in_range, is_plain, job_of, shape_of, stages_of, stress_of, two_digits, with_one, with_two, with_two_later}
 
 abbrev pub InRange : ℕ → Type 0
 InRange n = (1 ≤ n) × (n ≤ 48)
@@ -26,6 +26,7 @@ IsFit (Some (replay a)) = Unit {0}
 IsFit (Some (run a b)) = Unit {0}
 IsFit (Some (transform a b)) = Unit {0}
 IsFit (Some (expand a path)) = Unit {0}
+IsFit (Some (derive a)) = Unit {0}
 
 -- either of two
 choice : (b : Bool) (x y : Option Job) → IsFit x → IsFit y → IsFit (if b then x else y)
@@ -69,7 +70,8 @@ of_one command first =
     choice (bytes_eq command (codes "normalise")) (Some (normalise first)) _ tt
     (choice (bytes_eq command (codes "normal")) (Some (normal first)) _ tt
     (choice (bytes_eq command (codes "deadlock")) (Some (deadlock first)) _ tt
-    (choice (bytes_eq command (codes "replay")) (Some (replay first)) None tt tt)))
+    (choice (bytes_eq command (codes "replay")) (Some (replay first)) _ tt
+    (choice (bytes_eq command (codes "derive")) (Some (derive first)) None tt tt))))
 
 pathed : (first : List ℕ) (o : Option (List ℕ)) → IsFit (option_map (expand first) o)
 pathed first None = tt

@@ -23,13 +23,14 @@ use Rattle.occ_nform.specs.Written.{IsNormalText}
 use Rattle.occ_nform_program.specs.Counted.{HasCounts}
 use Rattle.occ_views.specs.declared.refined.Refined.{Refined as Refinement}
 use Rattle.occ_views.specs.Programs.{IsRefinement, IsDeadlockAnswer}
-use Rattle.occ_tool_words.specs.Words.{same, normalise, normal, belongs, stress, refine, deadlock, replay, run, transform, expand, job_of}
+use Rattle.occ_tool_words.specs.Words.{Job, same, normalise, normal, belongs, stress, refine, deadlock, replay, run, transform, expand, derive, job_of}
 use Rattle.occ_tool_run.specs.declared.answer.Answer.{Answer}
 use Rattle.occ_tool_run.specs.declared.answer.Answer.TheVariants.{Usage, Refused, Unusable, TooLong, RefusedTable, RefusedClaim, InterfacesDiffer, Compared, Written, Counted, Member, Stressed, Allowed, Sought}
 use Rattle.occ_tool_run.specs.declared.judge.Question.{Question}
 use Rattle.occ_tool_run.specs.declared.judge.Question.TheVariants.{WhetherSame, WhetherRefined}
 use Rattle.occ_tool_run.specs.Accepts.{IsAccepted, IsRefused, IsUnusable, IsThere}
 use Rattle.occ_tool_run.specs.Derivations.{Replays}
+use Rattle.occ_tool_run.specs.Derived.{IsDerived}
 use Rattle.occ_tool_run.specs.Runs.{IsRun}
 use Rattle.occ_tool_run.specs.Transforms.{IsExpandedTo, IsTransformed}
 use Rattle.occ_tool_run.specs.Files.{Files, most_bytes, most_table_bytes, order_of}
@@ -161,6 +162,10 @@ pub record Transforms (one two : Option (List ℕ)) (answer : Answer) : Type 0 w
 abbrev pub Expands : Option (List ℕ) → List ℕ → Answer → Type 0
 Expands file path answer = Takes First file [] (IsExpandedTo path) answer
 
+-- the answer to a file, whose program's normal program is to be derived
+abbrev pub Derives : Option (List ℕ) → Answer → Type 0
+Derives file answer = Takes First file [] IsDerived answer
+
 -- ---- a generated program
 
 -- the answer tells the figures of the normal text of the accepted program
@@ -189,6 +194,12 @@ pub data IsAnswer (files : Files) (words : List (List ℕ)) (answer : Answer) : 
   running : (program text : List ℕ) → job_of words ≡ Some (run program text) → Steps (files program) (files text) answer → IsAnswer files words answer
   transforming : (program text : List ℕ) → job_of words ≡ Some (transform program text) → Transforms (files program) (files text) answer → IsAnswer files words answer
   expanding : (program path : List ℕ) → job_of words ≡ Some (expand program path) → Expands (files program) path answer → IsAnswer files words answer
+  normalisation_by_laws : (program : List ℕ) → job_of words ≡ Some (derive program) → Derives (files program) answer → IsAnswer files words answer
+
+-- all that words can ask for has one answer but a derivation, whose steps are free
+abbrev pub IsDetermined : Option Job → Type 0
+IsDetermined (Some (derive program)) = ⊥
+IsDetermined asked = Unit {0}
 
 -- The words and the files have an answer with this status and this text.
 pub record Answers (files : Files) (words : List (List ℕ)) (status : ℕ) (text : List ℕ) : Type 0 where

@@ -4,6 +4,7 @@ pub mod Accepts
 pub mod Derivations
 pub mod Runs
 pub mod Transforms
+pub mod Derived
 pub mod Pairs
 pub mod Answers
 pub mod Ran

@@ -33,7 +33,7 @@ use Rattle.occ_run_follow.specs.Texts.{followed_text}
 use Rattle.occ_script.specs.declared.fault.ScriptFault.{ScriptFault}
 use Rattle.occ_script.specs.declared.fault.ScriptFault.TheVariants as script
 use Rattle.occ_tool_run.specs.declared.answer.Answer.{Answer}
-use Rattle.occ_tool_run.specs.declared.answer.Answer.TheVariants.{Usage, Refused, Unusable, TooLong, RefusedTable, RefusedClaim, InterfacesDiffer, Compared, Written, Counted, Member, Stressed, Allowed, Sought, RefusedScript, Joined, Unjoined, RefusedSchedule, Stepped, RefusedOrders, RefusedOrder, RefusedPath}
+use Rattle.occ_tool_run.specs.declared.answer.Answer.TheVariants.{Usage, Refused, Unusable, TooLong, RefusedTable, RefusedClaim, InterfacesDiffer, Compared, Written, Counted, Member, Stressed, Allowed, Sought, RefusedScript, Joined, Unjoined, RefusedSchedule, Stepped, RefusedOrders, RefusedOrder, RefusedPath, Long, Unfinished}
 use Rattle.occ_tool_run.specs.declared.reason.Reason.{Reason}
 use Rattle.occ_tool_run.specs.declared.reason.Reason.TheVariants.{NoLaw, NoPath, NotPar, NotAccepted, NotApplicable}
 
@@ -80,6 +80,8 @@ status_of (Stepped names followed) = status_of_followed followed
 status_of (RefusedOrders fault) = 3
 status_of (RefusedOrder number reason) = 3
 status_of (RefusedPath reason) = 3
+status_of Long = 3
+status_of Unfinished = 3
 
 abbrev pub place_text : Side → List ℕ
 place_text First = codes "FIRST"
@@ -284,6 +286,8 @@ text_of (Stepped names followed) = followed_text names followed
 text_of (RefusedOrders fault) = script_refusal_text Second fault
 text_of (RefusedOrder number reason) = order_refusal_text number reason
 text_of (RefusedPath reason) = path_refusal_text reason
+text_of Long = codes "REFUSED FIRST 1 Long\n"
+text_of Unfinished = codes "REFUSED FIRST 1 Unfinished\n"
 
 abbrev pub RefinementIsNamed : List (List ℕ) → Refinement → Type 0
 RefinementIsNamed names Yes = Unit {0}
@@ -317,3 +321,5 @@ IsPrintable (Stepped names followed) = FollowedIsNamed names followed
 IsPrintable (RefusedOrders fault) = ScriptFaultIsTold fault
 IsPrintable (RefusedOrder number reason) = Unit {0}
 IsPrintable (RefusedPath reason) = Unit {0}
+IsPrintable Long = Unit {0}
+IsPrintable Unfinished = Unit {0}

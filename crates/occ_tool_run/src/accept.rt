@@ -1,3 +1,5 @@
+//! Files as programs: accepted, or refused, and why.
+
 ghost use Rattle.std.specs.Prelude.{◌≡◌, ◌≢◌, ◌≤◌, [], IfOk, IfErr, length, slice_index_or};
 ghost use Rattle.occ_syntax.specs.View.{tree};
 ghost use Rattle.occ_syntax.specs.Usage.{KeepsUsage};

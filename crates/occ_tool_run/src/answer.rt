@@ -1,3 +1,5 @@
+//! Answers, their statuses and their texts.
+
 ghost use Rattle.std.specs.Prelude.{◌≡◌, ◌++◌, codes, IfOk, OnOk};
 ghost use Rattle.occ_tool_run.specs.Texts.{status_of, text_of, figure_text, counts_text, found_text, member_text, refined_text, shape_text, stress_text, FoundIsNamed, RefinementIsNamed, IsPrintable};
 
@@ -122,6 +124,10 @@ pub enum Answer {
     RefusedPath {
         reason: Reason,
     },
+    /// The normal program of the program has more than 4,096 controls.
+    Long,
+    /// No derivation of the normal program was found.
+    Unfinished,
 }
 
 /// The status of an answer.
@@ -157,6 +163,7 @@ pub fn status(answer: &Answer) -> u8
         },
         Answer::RefusedOrders { .. } | Answer::RefusedOrder { .. } => 3,
         Answer::RefusedPath { .. } => 3,
+        Answer::Long | Answer::Unfinished => 3,
     }
 }
 
@@ -200,6 +207,8 @@ pub fn text(alloc: Global, answer: Answer) -> Result<Vec<u8>, Memory>
         Answer::RefusedOrders { fault } => script_refusal(alloc, Side::Second, fault),
         Answer::RefusedOrder { order, reason } => order_refusal(alloc, order, reason),
         Answer::RefusedPath { reason } => path_refusal(alloc, reason),
+        Answer::Long => Ok(Vec::from_slice(alloc, b"REFUSED FIRST 1 Long\n")?),
+        Answer::Unfinished => Ok(Vec::from_slice(alloc, b"REFUSED FIRST 1 Unfinished\n")?),
     }
 }
 

@@ -2,7 +2,7 @@ ghost use Rattle.std.specs.Prelude.{◌≡◌, ◌≢◌, ◌<◌, ◌∷◌, []
 ghost use Rattle.occ_tool_run.specs.Files.{AsksFor, CountsStop};
 ghost use Rattle.occ_tool_run.specs.Texts.{IsPrintable};
 ghost use Rattle.occ_tool_run.specs.Derivations.{Replays};
-ghost use Rattle.occ_tool_run.specs.Answers.{Checks, Expands, Judges, Normalises, Seeks, Settles, Steps, Transforms};
+ghost use Rattle.occ_tool_run.specs.Answers.{Checks, Derives, Expands, Judges, Normalises, Seeks, Settles, Steps, Transforms};
 
 use crate::answer::Answer;
 use crate::judge::{Question, judge};
@@ -14,6 +14,7 @@ use crate::normal::{check, normalise};
 use crate::replaying::replay;
 use crate::running::step;
 use crate::stuck::seek;
+use crate::to_normal::derive;
 use crate::transforming::{expand, transform};
 use occ_desk::Desk;
 use occ_script_path::Path;
@@ -199,4 +200,21 @@ pub fn expand_file<D: Desk>(
 {
     let loaded = load_text(alloc, desk, program)?;
     Ok(expand(alloc, &loaded, path)?)
+}
+
+/// The answer to a file whose program's normal program is to be derived.
+pub fn derive_file<D: Desk>(alloc: Global, program: &str, desk: &mut D) -> Result<Answer, Stop>
+    requires reads_countable { D.read_faults desk.old < u64.MAX }
+    requires writes_countable { D.write_faults desk.old < u64.MAX }
+    ensures derives { IfOk result (λ answer. IfSome (D.files desk.old) (λ files. Derives (files program.now) answer)) }
+    ensures printable { IfOk result IsPrintable }
+    ensures usage { IfOk result (λ answer. answer ≢ Answer.Usage) }
+    ensures asked { AsksFor (D.asked desk.old) (D.asked desk.new) (program.now ∷ []) result }
+    ensures read_faults { CountsStop (D.read_faults desk.old) (D.read_faults desk.new) result }
+    ensures files { D.files desk.new ≡ D.files desk.old }
+    ensures written { D.written desk.new ≡ D.written desk.old }
+    ensures write_faults { D.write_faults desk.new ≡ D.write_faults desk.old }
+{
+    let loaded = load_text(alloc, desk, program)?;
+    Ok(derive(alloc, &loaded)?)
 }

@@ -1,3 +1,5 @@
+//! Questions about two programs, and their answers.
+
 ghost use Rattle.std.specs.Prelude.{◌≡◌, ◌≢◌, ◌↔◌, ℕ, List, [], Option, IfOk, IsTrue};
 ghost use Rattle.std.specs.declared.cmp.Ordering.TheVariants.{Less, Equal, Greater};
 ghost use Rattle.occ_behaviour.specs.declared.behaviour.Side.TheVariants.{First, Second};

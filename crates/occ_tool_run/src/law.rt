@@ -1,6 +1,7 @@
 ghost use Rattle.std.specs.Prelude.{ℕ, ◌≡◌, ◌↔◌, List, [], ◌∷◌, codes};
 ghost use Rattle.occ_tool_run.specs.Files.{Files};
-ghost use Rattle.occ_tool_run.specs.Answers.{Answers};
+ghost use Rattle.occ_tool_run.specs.Answers.{Answers, IsDetermined};
+ghost use Rattle.occ_tool_words.specs.Words.{job_of};
 
 use occ_engine_once::{
     expansions_have_no_fault, expansions_have_one_fault, expansions_have_one_outcome,
@@ -15,10 +16,10 @@ use occ_script::{one_orders, one_script};
 use occ_verdict::{one_verdict, refined_both_ways};
 use occ_views::{one_deadlock, one_refinement};
 
-/// A command line over the same files has one answer, with one status and one text.
+/// A command line over the same files has one answer, with one status and one text; but the steps of `derive` are free.
 pub fn one_answer()
     ensures { (files : Files) (words : List (List ℕ)) (s t : ℕ) (a b : List ℕ)
-        → Answers files words s a → Answers files words t b → (s ≡ t) × (a ≡ b) }
+        → IsDetermined (job_of words) → Answers files words s a → Answers files words t b → (s ≡ t) × (a ≡ b) }
 {
     one_reading();
     parameters_have_names();

@@ -1,23 +1,24 @@
 //! The top call: the words of a command line, the files that they name, and the answer.
 #![tactic(auto)]
 
-mod accept;
-mod answer;
+pub mod accept;
+pub mod answer;
 mod files;
-mod judge;
+pub mod judge;
 mod law;
-mod load;
+pub mod load;
 mod measure;
 mod member;
 mod normal;
 mod reason;
-mod refusal;
+pub mod refusal;
 mod rejection;
 mod replaying;
 mod running;
 mod stuck;
+mod to_normal;
 mod top;
-mod transforming;
+pub mod transforming;
 
 pub use law::{one_answer, same_where_both_refine};
 pub use top::run;

@@ -1,3 +1,5 @@
+//! Files as they are read.
+
 ghost use Rattle.std.specs.Prelude.{◌≡◌, ◌≤◌, ◌<◌, ◌∷◌, [], length, IfOk, IfSome};
 ghost use Rattle.occ_tool_run.specs.Files.{IsLoaded, IsShort, AsksFor, CountsStop, most_bytes, most_script_bytes, most_table_bytes, loaded_bytes, text_order};
 ghost use Rattle.occ_tool_run.specs.declared.load.Stop.TheVariants.{Memory as NoMemory};

@@ -1,3 +1,5 @@
+//! The lines that refuse texts.
+
 ghost use Rattle.std.specs.Prelude.{◌≡◌, ◌≢◌, ◌++◌, ◌∷◌, decimal, codes, IfOk};
 ghost use Rattle.occ_tool_run.specs.Texts.{place_text, line_of, fault_words, refusal_text, refused_at_text, words_of_usage, mark_text, line_fault_text, limit_text, row_refusal_text, script_refusal_text, table_refusal_text, FaultIsNamed, ScriptFaultIsTold};
 
@@ -20,7 +22,7 @@ pub fn refusal(alloc: Global, place: Side, fault: ParseFault) -> Result<Vec<u8>,
 }
 
 /// The line of a refusal with these words for the fault.
-fn refusal_with(alloc: Global, place: Side, line: u32, words: &[u8]) -> Result<Vec<u8>, Memory>
+pub fn refusal_with(alloc: Global, place: Side, line: u32, words: &[u8]) -> Result<Vec<u8>, Memory>
     ensures { IfOk result (λ text. text.items ≡ refusal_text place line words.now) }
 {
     let mut text = refused_at(alloc, place, line)?;

@@ -7,8 +7,8 @@ ghost use Rattle.occ_tool_run.specs.Ran.{Ran, Asked};
 
 use crate::answer::{Answer, status, text};
 use crate::files::{
-    belongs_file, check_file, compare_files, deadlock_file, expand_file, normalise_file,
-    replay_file, run_files, transform_files,
+    belongs_file, check_file, compare_files, deadlock_file, derive_file, expand_file,
+    normalise_file, replay_file, run_files, transform_files,
 };
 use crate::judge::Question;
 use crate::load::Stop;
@@ -122,5 +122,6 @@ fn find_answer<D: Desk>(alloc: Global, words: &[String], desk: &mut D) -> Result
         Command::Run { program, text } => run_files(alloc, program, text, desk),
         Command::Transform { program, text } => transform_files(alloc, program, text, desk),
         Command::Expand { program, path } => expand_file(alloc, program, &path, desk),
+        Command::Derive { program } => derive_file(alloc, program, desk),
     }
 }

@@ -179,7 +179,7 @@ fn refuse_path(fault: EngineFault) -> Result<Answer, Memory>
 }
 
 /// The script of what an engine made of an accepted program.
-fn script(
+pub fn script(
     alloc: Global,
     names: &Names,
     accepted: &Accepted,

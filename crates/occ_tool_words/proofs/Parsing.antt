@@ -41,6 +41,7 @@ data One : Type 0 where
   checks : One
   sticks : One
   replays : One
+  derives : One
 
 data Two : Type 0 where
   compares : Two
@@ -56,6 +57,7 @@ one_named normalises = codes "normalise"
 one_named checks = codes "normal"
 one_named sticks = codes "deadlock"
 one_named replays = codes "replay"
+one_named derives = codes "derive"
 
 abbrev two_named : Two → Text
 two_named compares = codes "same"
@@ -79,6 +81,7 @@ record IsOther (word : Text) : Type 0 where
   not_run : bytes_eq (codes "run") word ≡ false
   not_transform : bytes_eq (codes "transform") word ≡ false
   not_expand : bytes_eq (codes "expand") word ≡ false
+  not_derive : bytes_eq (codes "derive") word ≡ false
 
 data Naming (word : Text) : Type 0 where
   names_one : (v : One) → one_named v ≡ word → Naming word
@@ -112,19 +115,23 @@ naming word =
                         | inl e ↦ names_two transforms (equal (codes "transform") word e)
                         | inr k ↦ elim (cases_Bool (bytes_eq (codes "expand") word)) [
                           | inl e ↦ names_two expands (equal (codes "expand") word e)
-                          | inr l ↦ names_none (record {
-                            not_same = a;
-                            not_normalise = b;
-                            not_normal = c;
-                            not_belongs = d;
-                            not_stress = f;
-                            not_refine = g;
-                            not_deadlock = h;
-                            not_replay = i;
-                            not_run = j;
-                            not_transform = k;
-                            not_expand = l;
-                          })
+                          | inr l ↦ elim (cases_Bool (bytes_eq (codes "derive") word)) [
+                            | inl e ↦ names_one derives (equal (codes "derive") word e)
+                            | inr m ↦ names_none (record {
+                              not_same = a;
+                              not_normalise = b;
+                              not_normal = c;
+                              not_belongs = d;
+                              not_stress = f;
+                              not_refine = g;
+                              not_deadlock = h;
+                              not_replay = i;
+                              not_run = j;
+                              not_transform = k;
+                              not_expand = l;
+                              not_derive = m;
+                            })
+                          ]
                         ]
                       ]
                     ]
@@ -163,7 +170,7 @@ other_name word other =
     ∙ past_name (codes "stress") word (drop 5 names) other.not_stress ∙ past_name (codes "refine") word (drop 6 names) other.not_refine
     ∙ past_name (codes "deadlock") word (drop 7 names) other.not_deadlock ∙ past_name (codes "replay") word (drop 8 names) other.not_replay
     ∙ past_name (codes "run") word (drop 9 names) other.not_run ∙ past_name (codes "transform") word (drop 10 names) other.not_transform
-    ∙ past_name (codes "expand") word [] other.not_expand
+    ∙ past_name (codes "expand") word (drop 11 names) other.not_expand ∙ past_name (codes "derive") word [] other.not_derive
 
 stray : (name word : Text) (more : List Text) → is_plain word ≡ true → IsOther word → fault_of line (name ∷ word ∷ more) ≡ [] → ⊥
 unfolding walk_fault
@@ -222,6 +229,12 @@ enters_one sticks = record {
 enters_one replays = record {
   walks = λ more. kept top.rules names (codes "replay") [] more;
   passes = λ more. no_more_faults top names (codes "replay") [] more;
+  fails = λ more. refl;
+  found = λ more. refl;
+}
+enters_one derives = record {
+  walks = λ more. kept top.rules names (codes "derive") [] more;
+  passes = λ more. no_more_faults top names (codes "derive") [] more;
   fails = λ more. refl;
   found = λ more. refl;
 }
@@ -362,7 +375,8 @@ other_one word a other =
     passed (codes "normalise") word _ _ other.not_normalise
     (passed (codes "normal") word _ _ other.not_normal
     (passed (codes "deadlock") word _ _ other.not_deadlock
-    (passed (codes "replay") word _ _ other.not_replay refl)))
+    (passed (codes "replay") word _ _ other.not_replay
+    (passed (codes "derive") word _ _ other.not_derive refl))))
 
 other_two : (word a b : Text) → IsOther word → with_two word a b ≡ None
 other_two word a b other =
@@ -379,6 +393,7 @@ not_with_two normalises a b = refl
 not_with_two checks a b = refl
 not_with_two sticks a b = refl
 not_with_two replays a b = refl
+not_with_two derives a b = refl
 
 not_with_one : (v : Two) (a : Text) → with_one (two_named v) a ≡ None
 not_with_one compares a = refl
@@ -436,6 +451,7 @@ one_is_plain normalises = refl
 one_is_plain checks = refl
 one_is_plain sticks = refl
 one_is_plain replays = refl
+one_is_plain derives = refl
 
 two_is_plain : (v : Two) → is_plain (two_named v) ≡ true
 two_is_plain compares = refl

@@ -18,7 +18,8 @@ command_line command = if command.1 == 1 then one_word_line command.0 else two_w
 
 abbrev pub later_commands : List (List ℕ × ℕ)
 later_commands =
-    (codes "refine", 2) ∷ (codes "deadlock", 1) ∷ (codes "replay", 1) ∷ (codes "run", 2) ∷ (codes "transform", 2) ∷ (codes "expand", 2) ∷ []
+    (codes "refine", 2) ∷ (codes "deadlock", 1) ∷ (codes "replay", 1) ∷ (codes "run", 2) ∷ (codes "transform", 2) ∷ (codes "expand", 2)
+    ∷ (codes "derive", 1) ∷ []
 
 -- the commands, and how many words each takes
 abbrev pub commands : List (List ℕ × ℕ)

@@ -5,7 +5,7 @@ use Rattle.occ_gen.specs.declared.shape.Shape.{Shape}
 use Rattle.occ_gen.specs.declared.shape.Shape.TheVariants.{Buffers, Adders, Muxes}
 use Rattle.occ_script_path.specs.Texts.{path_of}
 use Rattle.occ_tool_words.specs.declared.words.Command.{Command}
-use Rattle.occ_tool_words.specs.declared.words.Command.TheVariants.{Usage, Same, Normalise, Normal, Belongs, Stress, Refine, Deadlock, Replay, Run, Transform, Expand}
+use Rattle.occ_tool_words.specs.declared.words.Command.TheVariants.{Usage, Same, Normalise, Normal, Belongs, Stress, Refine, Deadlock, Replay, Run, Transform, Expand, Derive}
 
 -- a command with its words: those that name files as they stand, the kind of a chain and how many stages it has, and a path
 pub data Job : Type 0 where
@@ -20,6 +20,7 @@ pub data Job : Type 0 where
   run : List ℕ → List ℕ → Job
   transform : List ℕ → List ℕ → Job
   expand : List ℕ → List ℕ → Job
+  derive : List ℕ → Job
 
 abbrev pub job : Command → Option Job
 job Usage = None
@@ -34,6 +35,7 @@ job (Replay text) = Some (replay text.now)
 job (Run program text) = Some (run program.now text.now)
 job (Transform program text) = Some (transform program.now text.now)
 job (Expand program path) = Some (expand program.now path)
+job (Derive program) = Some (derive program.now)
 
 -- the word isn't empty and doesn't begin with a hyphen
 abbrev pub is_plain : List ℕ → Bool
@@ -73,7 +75,8 @@ with_one command first =
     if bytes_eq command (codes "normalise") then Some (normalise first)
     else (if bytes_eq command (codes "normal") then Some (normal first)
     else (if bytes_eq command (codes "deadlock") then Some (deadlock first)
-    else (if bytes_eq command (codes "replay") then Some (replay first) else None)))
+    else (if bytes_eq command (codes "replay") then Some (replay first)
+    else (if bytes_eq command (codes "derive") then Some (derive first) else None))))
 
 -- the second word writes a path
 abbrev pub expand_of : List ℕ → List ℕ → Option Job
@@ -117,6 +120,7 @@ files_of (replay text) = text ∷ []
 files_of (run program text) = program ∷ text ∷ []
 files_of (transform program text) = program ∷ text ∷ []
 files_of (expand program path) = program ∷ []
+files_of (derive program) = program ∷ []
 
 abbrev pub file_words_of : Option Job → List (List ℕ)
 file_words_of None = []

@@ -1,10 +1,10 @@
 //! The words of a command line: which command they ask for, and its words. The commands are `same A B`, `normalise A`,
-//! `normal T`, `belongs A T`, `transform A T`, `expand A PATH`, `refine A B`, `deadlock A`, `replay T`, `run A T` and
-//! `stress KIND N`, where `PATH` is a path, `KIND` is `buffers`, `adders` or `muxes`, and `N` a number from 1 to 48; the other
+//! `normal T`, `belongs A T`, `transform A T`, `expand A PATH`, `derive A`, `refine A B`, `deadlock A`, `replay T`, `run A T`
+//! and `stress KIND N`, where `PATH` is a path, `KIND` is `buffers`, `adders` or `muxes`, and `N` a number from 1 to 48; the other
 //! words name files.
 #![tactic(auto)]
 
 mod stages;
 mod words;
 
-pub use words::{Command, command_in};
+pub use words::{Command, command_in, is_plain_word};

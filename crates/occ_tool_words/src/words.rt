@@ -41,6 +41,8 @@ pub enum Command<'a> {
     Transform { program: &'a str, text: &'a str },
     /// To expand the PAR of two parts at a path of the program in a file, and to write the script.
     Expand { program: &'a str, path: Path },
+    /// To derive the normal program from the program in a file, law by law, and to write the script.
+    Derive { program: &'a str },
 }
 
 /// What the words of a command line ask for, the program's own name first.
@@ -80,7 +82,7 @@ fn are_plain(words: &[String]) -> bool
 }
 
 /// Whether a word isn't empty and doesn't begin with `-`.
-fn is_plain_word(word: &str) -> bool
+pub fn is_plain_word(word: &str) -> bool
     ensures { result ≡ is_plain word.now }
 {
     match word.as_bytes() {
@@ -110,7 +112,8 @@ fn add_later<'a>(alloc: Global, line: clap::Command<'a>) -> Result<clap::Command
     let line = add_one(alloc, line, "replay")?;
     let line = add_two(alloc, line, "run")?;
     let line = add_two(alloc, line, "transform")?;
-    add_two(alloc, line, "expand")
+    let line = add_two(alloc, line, "expand")?;
+    add_one(alloc, line, "derive")
 }
 
 /// The command line with no command yet.
@@ -200,6 +203,8 @@ fn command_of_one<'a>(name: &str, first: &'a str) -> Command<'a>
         Command::Deadlock { program: first }
     } else if name == "replay" {
         Command::Replay { text: first }
+    } else if name == "derive" {
+        Command::Derive { program: first }
     } else {
         Command::Usage
     }

@@ -1,7 +1,7 @@
 use Rattle.std.proofs.Common.{◌∙◌, map, string_bytes, sym, ap}
 use Rattle.occ_tool_words.specs.Words.{job}
 use Rattle.occ_tool_run.proofs.Stages.{asked_in_range}
-use Rattle.occ_tool_run.proofs.Leaving.{asked_same, asked_normalise, asked_normal, asked_belongs, asked_stress, asked_refine, asked_deadlock, asked_replay, asked_run, asked_transform, asked_expand}
+use Rattle.occ_tool_run.proofs.Leaving.{asked_same, asked_normalise, asked_normal, asked_belongs, asked_stress, asked_refine, asked_deadlock, asked_replay, asked_run, asked_transform, asked_expand, asked_derive}
 use Rattle.occ_tool_run.proofs.top.find_answer.Goals as goal
 
 pub returns-in-Same-clause-answer : goal.returns-in-Same-clause-answer
@@ -47,6 +47,10 @@ returns-in-Transform-clause-answer g c = asked_transform _ _ c.in-Transform.prog
 pub returns-in-Expand-clause-answer : goal.returns-in-Expand-clause-answer
 returns-in-Expand-clause-answer g c = asked_expand _ _ c.in-Expand.program.now c.in-Expand.path c.expand_file.result
     (sym (ap job c.in-Expand.is) ∙ c.in_ok-command_in.ensures) c.expand_file.ensures.expands
+
+pub returns-in-Derive-clause-answer : goal.returns-in-Derive-clause-answer
+returns-in-Derive-clause-answer g c = asked_derive _ _ c.in-Derive.program.now c.derive_file.result
+    (sym (ap job c.in-Derive.is) ∙ c.in_ok-command_in.ensures) c.derive_file.ensures.derives
 
 pub stress-requires-clause-some : goal.stress-requires-clause-some
 stress-requires-clause-some g c = (asked_in_range (map string_bytes c.args.words.now) c.in-Stress.shape c.in-Stress.stages (sym (ap job c.in-Stress.is) ∙ c.in_ok-command_in.ensures)).0

@@ -1,0 +1,34 @@
+-- Normal programs that were derived.
+use Rattle.std.proofs.Common.{◌≡◌, ◌≤◌, ℕ, List, Result, Ok, Err, IfOk, refl, sym, subst}
+use Rattle.occ_base.specs.declared.memory.Memory.{Memory}
+use Rattle.occ_derive.specs.Derived.{CanBeWritten as IsDerivedIn, IsDerivation}
+use Rattle.occ_engine.specs.declared.outcome.Outcome.{Outcome}
+use Rattle.occ_fresh.specs.Growth.{GrowsByNames}
+use Rattle.occ_nform_program.specs.Tabled.{IsTableOf}
+use Rattle.occ_nform_table.specs.declared.table.Table.{Table}
+use Rattle.occ_syntax.specs.Counts.{controls}
+use Rattle.occ_syntax.specs.declared.scope.Program.{Program}
+use Rattle.occ_syntax.specs.Tree.{Tree}
+use Rattle.occ_syntax.specs.View.{tree}
+use Rattle.occ_target.specs.Program.{normal_body}
+use Rattle.occ_tool_run.specs.declared.answer.Answer.{Answer}
+use Rattle.occ_tool_run.specs.Derived.{IsDerived, IsNormalBody, derived}
+use Rattle.occ_tool_run.specs.Transformed.{CanBeWritten}
+use Rattle.occ_tool_run.specs.Transforms.{IsScriptOf}
+
+-- the body of the normal program that a table gives
+pub normal_body_of : (names : List (List ℕ)) (p : Program) (t : Table) → IsTableOf names p.params (tree p.body) t
+    → IsNormalBody names p (normal_body names t.params t.rows t.states)
+normal_body_of names p t is = record { table = t; is = is; body_is = refl }
+
+-- what was derived has known names
+pub derived_written : (names : List (List ℕ)) (p : Program) (o : Outcome) → IsDerivedIn names p o → CanBeWritten names p o
+derived_written names p o h = record { first = h.first; steps = h.steps; last = h.last }
+
+-- and is written as a script
+pub derived_script : (r : Result Answer Memory) (names new : List (List ℕ)) (p : Program) (o : Outcome) (body : Tree) → IsNormalBody names p body
+    → controls body ≤ 4096 → IsDerivation p body o → GrowsByNames names new → IsDerivedIn new p o → IfOk r (IsScriptOf new p o.steps o.to) → IfOk r (IsDerived names p)
+derived_script (Ok a) names new p o body n few d g w h =
+    derived new o.steps o.to (subst (IsNormalBody names p) (sym d.to_is) n) (subst (λ b. controls b ≤ 4096) (sym d.to_is) few) d.outcome_is.moves
+    (record { grown = g; written = w.steps; said = w.said }) h
+derived_script (Err m) names new p o body n few d g w h = tt

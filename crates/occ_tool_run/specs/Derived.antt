@@ -1,0 +1,41 @@
+-- The answer to a program whose normal program is to be derived.
+use Rattle.std.specs.Prelude.{ℕ, ◌≡◌, ◌≤◌, ◌<◌, List}
+use Rattle.std.specs.List.{AllByRecursion}
+use Rattle.occ_engine.specs.Moved.{moves_of}
+use Rattle.occ_engine_rules.specs.Moves.{Moves}
+use Rattle.occ_fresh.specs.Growth.{GrowsByNames}
+use Rattle.occ_nform_program.specs.Tabled.{IsTableOf}
+use Rattle.occ_nform_table.specs.declared.table.Table.{Table}
+use Rattle.occ_script_write.specs.declared.writing.Done.{Done}
+use Rattle.occ_script_write.specs.Text.{IsWritable}
+use Rattle.occ_script_write_back.specs.Said.{IsSaid}
+use Rattle.occ_syntax.specs.Counts.{controls}
+use Rattle.occ_syntax.specs.declared.scope.Program.{Program}
+use Rattle.occ_syntax.specs.Tree.{Tree}
+use Rattle.occ_syntax.specs.View.{tree}
+use Rattle.occ_target.specs.Program.{normal_body}
+use Rattle.occ_tool_run.specs.declared.answer.Answer.{Answer}
+use Rattle.occ_tool_run.specs.declared.answer.Answer.TheVariants.{Long, Unfinished}
+use Rattle.occ_tool_run.specs.Transforms.{IsScriptOf}
+
+-- The body of the normal program of a program: that of its normal table.
+pub record IsNormalBody (names : List (List ℕ)) (p : Program) (body : Tree) : Type 0 where
+  pub table : Table
+  pub is : IsTableOf names p.params (tree p.body) table
+  pub body_is : body ≡ normal_body names table.params table.rows table.states
+
+-- The table has grown by names of the language, the names of the steps' parts stand in it, and the lines of the steps can be read.
+pub record AreSteps (old new : List (List ℕ)) (steps : List Done) : Type 0 where
+  pub grown : GrowsByNames old new
+  pub written : AllByRecursion (IsWritable new) steps
+  pub said : AllByRecursion IsSaid steps
+
+-- The answer to an accepted program whose normal program is to be derived: it has more than 4,096 controls; or no derivation was found;
+-- or steps lead from the program to it, and the answer is the script that says so. The names of its steps are those of a table that
+-- has grown.
+pub data IsDerived (names : List (List ℕ)) (p : Program) (answer : Answer) : Type 0 where
+  long : (body : Tree) → IsNormalBody names p body → 4096 < controls body → answer ≡ Long → IsDerived names p answer
+  unfinished : (body : Tree) → IsNormalBody names p body → controls body ≤ 4096 → answer ≡ Unfinished → IsDerived names p answer
+  derived : (new : List (List ℕ)) (steps : List Done) (to : Program) → IsNormalBody names p (tree to.body) → controls (tree to.body) ≤ 4096
+      → Moves p.params (tree p.body) (moves_of steps) (tree to.body) → AreSteps names new steps → IsScriptOf new p steps to answer
+      → IsDerived names p answer
