@@ -1,6 +1,6 @@
 -- The edges of a row are exactly its offers.
 use Rattle.std.proofs.Common.{◌≡◌, ◌==◌, ◌&&◌, ◌||◌, not, ℕ, Bool, true, false, cond, List, [], ◌∷◌, ◌++◌, inl, inr, refl, sym, ap, ◌∙◌}
-use Rattle.std.proofs.lemmas.Bool.{and_parts, and_from, or_cases, or_from, eqb-true, eq-eqb, both_ways, false_from_ne_true, false≢true}
+use Rattle.std.proofs.lemmas.Bool.{and_parts, or_cases, or_from, eqb-true, eq-eqb, both_ways, false_from_ne_true, false≢true}
 use Rattle.std.specs.Prelude.{◌⊎◌}
 use Rattle.std.specs.List.{filter, list_any, AllByRecursion}
 use Rattle.occ_base.specs.declared.event.Event.{Event}
@@ -8,25 +8,9 @@ use Rattle.occ_syntax.specs.Scopes.{same_event}
 use Rattle.occ_draw_text.specs.declared.edges.Edge.{Edge}
 use Rattle.occ_draw_text.specs.Spans.{same_end}
 use Rattle.occ_draw_text.specs.Edges.{alike, edges_of, events_like, is_drawn, is_offered}
-use Rattle.occ_draw_text.proofs.Ends.{OneEnd, end_same, one_end, through, turned}
+use Rattle.occ_draw_text.proofs.Alike.{Alike, alike_back, alike_is, alike_through, is_alike}
+use Rattle.occ_draw_text.proofs.Ends.{OneEnd, one_end, through, turned}
 use Rattle.occ_draw_text.proofs.Spanned.{spanned}
-
--- ---- offers that are alike
-record Alike (o p : Event × ℕ) : Type 0 where
-  ends : OneEnd o.0 p.0
-  target : o.1 ≡ p.1
-
-alike_is : (o p : Event × ℕ) → alike o p ≡ true → Alike o p
-alike_is o p h = let q = and_parts (same_end o.0 p.0) (o.1 == p.1) h in record { ends = one_end o.0 p.0 q.0; target = eqb-true o.1 p.1 q.1 }
-
-is_alike : (o p : Event × ℕ) → Alike o p → alike o p ≡ true
-is_alike o p h = and_from (same_end o.0 p.0) (o.1 == p.1) (end_same o.0 p.0 h.ends) (eq-eqb o.1 p.1 h.target)
-
-alike_back : (o p : Event × ℕ) → Alike o p → Alike p o
-alike_back o p h = record { ends = turned o.0 p.0 h.ends; target = sym h.target }
-
-alike_through : (o p q : Event × ℕ) → Alike o p → Alike p q → Alike o q
-alike_through o p q h k = record { ends = through o.0 p.0 q.0 h.ends k.ends; target = h.target ∙ k.target }
 
 or_false : (b : Bool) → (b || false) ≡ b
 or_false true = refl

@@ -1,5 +1,6 @@
 pub mod Labels
 pub mod Ends
+pub mod Alike
 pub mod Spanned
 pub mod Drawn
 pub mod Started

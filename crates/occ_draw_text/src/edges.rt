@@ -1,10 +1,10 @@
-ghost use Rattle.std.specs.Prelude.{◌≡◌, ◌++◌, ◌∷◌, [], if◌then◌else◌, IfOk, OnOk};
-ghost use Rattle.std.specs.List.{list_any};
-ghost use Rattle.occ_draw_text.specs.Edges.{alike, edges_of, events_like};
-ghost use Rattle.occ_draw_text.specs.Adding.{first_edge};
+ghost use Rattle.std.specs.List.{list_any, position_or_len};
+ghost use Rattle.std.specs.Prelude.{◌≡◌, ◌<◌, ◌++◌, ◌∷◌, [], length, not, IfOk, OnOk};
+ghost use Rattle.occ_draw_text.specs.Edges.{edges_of};
+ghost use Rattle.occ_draw_text.specs.Adding.{edge_of, grown_at, same_way, way_of, ways_of, with_offer, with_way};
 
-use crate::spans::same_end;
-use occ_base::{Event, Events, List, Memory};
+use indexmap::IndexSet;
+use occ_base::{Dir, Event, Events, List, Memory, Name};
 use std::alloc::Global;
 
 /// An edge: all offers of a row that lead to one other row on one channel.
@@ -17,79 +17,80 @@ pub struct Edge {
 }
 
 /// The edges of the offers of a row.
-pub(crate) fn edges(alloc: Global, offers: &[(Event, u32)]) -> Result<List<Edge>, Memory>
-    ensures { IfOk result (λ edges. edges ≡ edges_of offers.now) }
+pub(crate) fn edges(alloc: Global, offers: &[(Event, u32)]) -> Result<Vec<Edge>, Memory>
+    ensures { IfOk result (λ edges. edges.items ≡ edges_of offers.now) }
 {
-    let mut edges = List::new(alloc);
-    for place in 0..offers.len() {
-        add_first(alloc, &mut edges, &offers[..place], &offers[place..])?;
+    let mut found = Found {
+        ways: IndexSet::new(alloc),
+        edges: Vec::new(alloc),
+    };
+    for offer in offers {
+        found.add(alloc, *offer)?;
     }
-    Ok(edges)
+    Ok(found.edges)
 }
 
-// Adds the edge of the first of the later offers, where no earlier one is like it.
-fn add_first(
-    alloc: Global,
-    edges: &mut List<Edge>,
-    earlier: &[(Event, u32)],
-    later: &[(Event, u32)],
-) -> Result<(), Memory>
-    ensures { OnOk result (edges.new ≡ edges.old ++ first_edge earlier.now later.now) }
-{
-    match later {
-        [] => Ok(()),
-        [offer, others @ ..] => {
-            if is_like_any(earlier, *offer) {
-                return Ok(());
-            }
-            let events = events_like(alloc, *offer, others)?;
-            edges.push(Edge {
-                offer: *offer,
-                events,
-            })
+// A channel with its direction, and the row to which an edge leads.
+type Way = ((Name, Dir), u32);
+
+// The edges so far, and the way of each in the same order.
+#[derive(Drop)]
+struct Found {
+    ways: IndexSet<Way>,
+    edges: Vec<Edge>,
+}
+
+impl Found {
+    // Adds an offer: to the edge that goes its way, or as an edge of its own.
+    fn add(&mut self, alloc: Global, offer: (Event, u32)) -> Result<(), Memory>
+        requires { self.old.ways.keys ≡ ways_of self.old.edges.items }
+        ensures edges { OnOk result (self.new.edges.items ≡ with_offer self.old.edges.items offer) }
+        ensures ways { OnOk result (self.new.ways.keys ≡ ways_of self.new.edges.items) }
+    {
+        let (place, is_new) = note(&mut self.ways, way(offer))?;
+        if is_new {
+            begin(alloc, &mut self.edges, offer)
+        } else {
+            grow(&mut self.edges, place, offer)
         }
     }
 }
 
-// Whether an offer is like one of these.
-fn is_like_any(offers: &[(Event, u32)], offer: (Event, u32)) -> bool
-    ensures { result ≡ list_any (λ o. alike o offer) offers.now }
+fn way(offer: (Event, u32)) -> Way
+    ensures { result ≡ way_of offer }
 {
-    match offers {
-        [] => false,
-        [first, others @ ..] => are_alike(*first, offer) || is_like_any(others, offer),
-    }
+    let (event, row) = offer;
+    ((event.chan, event.dir), row)
 }
 
-// The event of an offer, and those of the others that are like it.
-fn events_like(
-    alloc: Global,
-    offer: (Event, u32),
-    others: &[(Event, u32)],
-) -> Result<Events, Memory>
-    ensures { IfOk result (λ events. events ≡ offer.0 ∷ events_like offer others.now) }
+// The place of a way, which is put last if it isn't there yet, and whether it is new.
+fn note(ways: &mut IndexSet<Way>, way: Way) -> Result<(usize, bool), Memory>
+    ensures place { IfOk result (λ noted. noted.0 ≡ position_or_len (same_way way) ways.old.keys) }
+    ensures within { IfOk result (λ noted. noted.0 < length ways.new.keys) }
+    ensures is_new { IfOk result (λ noted. noted.1 ≡ not (list_any (same_way way) ways.old.keys)) }
+    ensures keys { OnOk result (ways.new.keys ≡ with_way ways.old.keys way) }
+{
+    let noted = ways.insert_full(way)?;
+    Ok(noted)
+}
+
+// Adds an edge with one offer.
+fn begin(alloc: Global, edges: &mut Vec<Edge>, offer: (Event, u32)) -> Result<(), Memory>
+    ensures { OnOk result (edges.new.items ≡ edges.old.items ++ edge_of offer ∷ []) }
 {
     let mut events = Events::new(alloc);
     events.push(offer.0)?;
-    for other in others {
-        add_like(&mut events, offer, *other)?;
-    }
-    Ok(events)
-}
-
-// Adds the event of an offer that is like another one.
-fn add_like(events: &mut Events, offer: (Event, u32), other: (Event, u32)) -> Result<(), Memory>
-    ensures { OnOk result (events.new ≡ events.old ++ (if alike offer other then other.0 ∷ [] else [])) }
-{
-    if are_alike(offer, other) {
-        return events.push(other.0);
-    }
+    edges.push(Edge { offer, events })?;
     Ok(())
 }
 
-// Whether two offers lead to one row on one channel.
-fn are_alike(one: (Event, u32), other: (Event, u32)) -> bool
-    ensures { result ≡ alike one other }
+// Adds an offer to the edge at a place.
+fn grow(edges: &mut Vec<Edge>, place: usize, offer: (Event, u32)) -> Result<(), Memory>
+    requires { place < length edges.old.items }
+    ensures { OnOk result (edges.new.items ≡ grown_at edges.old.items place offer) }
 {
-    same_end(one.0, other.0) && one.1 == other.1
+    match edges.get_mut(place) {
+        Some(edge) => edge.events.push(offer.0),
+        None => unreachable!(),
+    }
 }

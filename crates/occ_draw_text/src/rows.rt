@@ -127,7 +127,7 @@ fn push_edges(
     ensures { OnOk result (text.new.items ≡ text.old.items ++ flat_map (edge_text names.now number) (edges_of offers.now)) }
 {
     let edges = edges(alloc, offers)?;
-    push_all(alloc, text, names, number, edges.items())
+    push_all(alloc, text, names, number, edges.as_slice())
 }
 
 fn push_all(

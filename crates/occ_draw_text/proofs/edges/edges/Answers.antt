@@ -1,11 +1,16 @@
-use Rattle.occ_draw_text.proofs.Found.{found_start, found_step, found_end}
+use Rattle.std.proofs.Common.{sym, ap, ◌∙◌}
+use Rattle.occ_draw_text.specs.Adding.{ways_of}
+use Rattle.occ_draw_text.proofs.Found.{found_all, found_further, found_none}
 use Rattle.occ_draw_text.proofs.edges.edges.Goals as goal
 
-pub loop-place-init : goal.loop-place-init
-loop-place-init c = found_start c.args.offers.now c.new-edges.result c.new-edges.ensures
+pub loop-offer-init : goal.loop-offer-init
+loop-offer-init c = record { ways = c.new.ensures.empty ∙ sym (ap ways_of c.new-2.ensures.items); edges = found_none _ c.new-2.ensures.items }
 
-pub loop-place-preserved : goal.loop-place-preserved
-loop-place-preserved c = found_step c.args.offers.now c.loop-place.place c.loop-place.edges c.add_first.new.edges _ c.loop-place-test.true c.loop-place.invariant c.in_ok-add_first.ensures
+pub loop-offer-preserved : goal.loop-offer-preserved
+loop-offer-preserved c = record {
+  ways = c.in_ok-add.ensures.ways;
+  edges = found_further c.args.offers.now c.loop-offer.offer-index _ _ _ c.loop-offer-test.true c.loop-offer.invariant.edges c.in_ok-add.ensures.edges;
+}
 
 pub returns : goal.returns
-returns c = found_end c.args.offers.now c.loop-place.place c.loop-place.edges _ c.loop-place-test.false c.loop-place.invariant
+returns c = found_all c.args.offers.now c.loop-offer.offer-index _ c.loop-offer-test.false c.loop-offer.invariant.edges
