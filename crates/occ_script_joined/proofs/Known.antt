@@ -41,7 +41,7 @@ module _ (n : ℕ) where
   only_known p zero q e h = subst (PartIsKnown n) (same_part p q e) h
   only_known p (suc i) q e h = no_part q e
 
-  child_known : (p : Tree) (i : ℕ) (q : Tree) → child p i ≡ Some q → PartIsKnown n p → PartIsKnown n q
+  pub child_known : (p : Tree) (i : ℕ) (q : Tree) → child p i ≡ Some q → PartIsKnown n p → PartIsKnown n q
   child_known skip i q e h = no_part q e
   child_known stop i q e h = no_part q e
   child_known (assign xs es) i q e h = no_part q e

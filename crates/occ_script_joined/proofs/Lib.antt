@@ -1,4 +1,4 @@
-mod Known
+pub mod Known
 mod Narrow
 mod Joining
 mod Written

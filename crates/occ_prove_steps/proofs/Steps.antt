@@ -1,0 +1,136 @@
+-- Steps undone, and steps joined with others.
+use Rattle.std.proofs.Common.{◌≡◌, ◌∙◌, ◌-◌, ◌^◌, ℕ, zero, suc, ◌<◌, ◌≤◌, List, [], ◌∷◌, ◌++◌, length, get_or, reverse, Some, None, refl, sym, ap, subst, append_assoc, append-nil, arith}
+use Rattle.std.proofs.Math.Nat.{min-le_left}
+use Rattle.std.proofs.lemmas.Grind.{reverse_onto}
+use Rattle.std.proofs.lemmas.List.{map-append}
+use Rattle.std.specs.List.{AllByRecursion}
+use Rattle.occ_base.specs.declared.names.Name.{Name}
+use Rattle.occ_engine.proofs.Ranging.{first_move, outcome_of}
+use Rattle.occ_engine.specs.declared.outcome.Outcome.{Outcome}
+use Rattle.occ_engine.specs.Moved.{move_of, moves_of}
+use Rattle.occ_engine.specs.Outcomes.{IsOutcome}
+use Rattle.occ_engine_rules.specs.Moves.{Move, Moves}
+use Rattle.occ_meaning.proofs.Facts.{none_not_some, some_is}
+use Rattle.occ_meaning.specs.Context.{child, part_at, put}
+use Rattle.occ_print.proofs.Lists.{all-append}
+use Rattle.occ_print.specs.Known.{PartIsKnown}
+use Rattle.occ_print.specs.Lines.{most_symbols, part_lines}
+use Rattle.occ_prove_steps.specs.Joined.{AreWritable, HaveOneHeader, IsProof}
+use Rattle.occ_prove_steps.specs.Undone.{AreUndone, IsNarrow, IsUndone}
+use Rattle.occ_script_joined.proofs.Known.{child_known, put_known}
+use Rattle.occ_script_write.specs.declared.writing.Done.{Done}
+use Rattle.occ_script_write.specs.Text.{IsWritable}
+use Rattle.occ_syntax.specs.Counts.{capped}
+use Rattle.occ_syntax.specs.declared.scope.Kind.{Kind}
+use Rattle.occ_syntax.specs.declared.scope.Program.{Program}
+use Rattle.occ_syntax.specs.Scopes.{environment}
+use Rattle.occ_syntax.specs.Tree.{Tree}
+use Rattle.occ_syntax.specs.Usage.{Keeps}
+use Rattle.occ_syntax.specs.View.{tree}
+use Rattle.std.specs.Option.{option_and_then}
+
+-- ---- undone one after the other
+
+-- Of the moves from one process to another these are left, and those before them have been undone.
+pub record IsReturning (S : List (Name × Kind)) (p q : Tree) (all left : List Move) (here : Tree) (back : List Move) : Type 0 where
+  pub led : Moves S here left q
+  pub undone : (rest : List Move) → AreUndone here left rest → AreUndone p all (back ++ rest)
+
+pub sets_out : (S : List (Name × Kind)) (p q here : Tree) (all back : List Move) → here ≡ p → back ≡ [] → Moves S p all q → IsReturning S p q all all here back
+sets_out S p q here all back e f m = record {
+  led = subst (λ z. Moves S z all q) (sym e) m;
+  undone = λ rest u. subst (λ bs. AreUndone p all (bs ++ rest)) (sym f) (subst (λ z. AreUndone z all rest) e u);
+}
+
+pub goes_back : (S : List (Name × Kind)) (p q here next : Tree) (all left back now : List Move) (move b : Move) → next ≡ put move.path here move.part → now ≡ back ++ b ∷ [] → IsUndone here move b
+    → IsReturning S p q all (move ∷ left) here back → IsReturning S p q all left next now
+goes_back S p q here next all left back now move b e f u r = record {
+  led = subst (λ z. Moves S z left q) (sym e) (first_move S here q move left r.led).1;
+  undone = λ rest v.
+      subst (AreUndone p all) (sym (append_assoc back (b ∷ []) rest) ∙ ap (λ bs. bs ++ rest) (sym f)) (r.undone (b ∷ rest) (u, subst (λ z. AreUndone z left rest) e v));
+}
+
+pub arrives : (S : List (Name × Kind)) (p q here : Tree) (all back : List Move) → IsReturning S p q all [] here back → AreUndone p all back
+arrives S p q here all back r = subst (AreUndone p all) (append-nil back) (r.undone [] tt)
+
+-- there is a part at the path of the next move
+pub next_there : (S : List (Name × Kind)) (p q here : Tree) (all left back : List Move) (move : Move) → IsReturning S p q all (move ∷ left) here back
+    → (old : Tree) × (part_at move.path here ≡ Some old)
+next_there S p q here all left back move r = let m = (first_move S here q move left r.led).0 in (m.old, m.there)
+
+-- ---- names
+
+pub part_known : (n : ℕ) (path : List ℕ) (p q : Tree) → PartIsKnown n p → part_at path p ≡ Some q → PartIsKnown n q
+part_known n [] p q h e = subst (PartIsKnown n) (some_is e) h
+part_known n (i ∷ path) p q h e = below (λ c k f. part_known n path c q k f) (child p i) refl e
+  where
+    below : ((c : Tree) → PartIsKnown n c → part_at path c ≡ Some q → PartIsKnown n q) → (o : _) → child p i ≡ o → option_and_then (part_at path) o ≡ Some q → PartIsKnown n q
+    below ih None is k = none_not_some k
+    below ih (Some c) is k = ih c (child_known n p i c is h) k
+
+-- what was undone has known names, where the steps have
+pub back_writable : (names : List (List ℕ)) (p : Tree) (steps back : List Done) → PartIsKnown (length names) p → AreWritable names steps
+    → AreUndone p (moves_of steps) (moves_of back) → AreWritable names back
+back_writable names p [] [] k w u = tt
+back_writable names p [] (b ∷ back) k w u = absurd u
+back_writable names p (s ∷ steps) [] k w u = absurd u
+back_writable names p (s ∷ steps) (b ∷ back) k w u = (
+  record {
+    low = subst (λ n. 1 ≤ n) (sym u.0.law) w.0.low;
+    high = subst (λ n. n ≤ 63) (sym u.0.law) w.0.high;
+    known = part_known (length names) s.path p (tree b.part) k u.0.part;
+  },
+  back_writable names (put s.path p (tree s.part)) steps back (put_known (length names) s.path p (tree s.part) k w.0.known) w.1 u.1,
+)
+
+reversed : {X : Type 0} (P : X → Type 0) (xs : List X) → AllByRecursion P xs → AllByRecursion P (reverse xs)
+reversed P [] h = tt
+reversed P (x ∷ xs) h = subst (AllByRecursion P) (sym (reverse_onto xs x [])) (all-append P (reverse xs) (x ∷ []) (reversed P xs h.1) (h.0, tt))
+
+pub joined_writable : (names : List (List ℕ)) (right : Tree) (there steps back all : List Done) → all ≡ there ++ reverse back → PartIsKnown (length names) right → AreWritable names there
+    → AreWritable names steps → AreUndone right (moves_of steps) (moves_of back) → AreWritable names all
+joined_writable names right there steps back all e k w v u =
+    subst (AreWritable names) (sym e)
+    (all-append (IsWritable names) there (reverse back) w (reversed (IsWritable names) back (back_writable names right steps back k v u)))
+
+-- ---- joined
+
+moves_reversed : (steps : List Done) → moves_of (reverse steps) ≡ reverse (moves_of steps)
+moves_reversed [] = refl
+moves_reversed (s ∷ steps) =
+    ap moves_of (reverse_onto steps s []) ∙ (map-append move_of (reverse steps) (s ∷ []) ∙ (ap (λ ms. ms ++ move_of s ∷ []) (moves_reversed steps)
+    ∙ sym (reverse_onto (moves_of steps) (move_of s) [])))
+
+abbrev pub GoOn : Type 0
+GoOn = (S : List (Name × Kind)) (p q r : Tree) (moves more : List Move) → Moves S p moves q → Moves S q more r → Moves S p (moves ++ more) r
+
+abbrev pub LeadBack : Type 0
+LeadBack = (S : List (Name × Kind)) (p q : Tree) (moves back : List Move) → Keeps (environment S) p → Moves S p moves q
+    → AreUndone p moves back → AllByRecursion IsNarrow back → Moves S q (reverse back) p
+
+pub joined_proof : GoOn → LeadBack → (left right : Program) (there o : Outcome) (back all : List Done) → all ≡ there.steps ++ reverse back → HaveOneHeader left right
+    → IsOutcome left there → IsOutcome right o → tree there.to.body ≡ tree o.to.body → Keeps (environment right.params) (tree right.body)
+    → AreUndone (tree right.body) (moves_of o.steps) (moves_of back) → AllByRecursion IsNarrow (moves_of back) → IsProof left right all
+joined_proof go_on lead_back left right there o back all e header a b meet k u n =
+    let returns : Moves right.params (tree o.to.body) (reverse (moves_of back)) (tree right.body) =
+    lead_back right.params (tree right.body) (tree o.to.body) (moves_of o.steps) (moves_of back) k b.moves u n in
+    let here : Moves left.params (tree there.to.body) (reverse (moves_of back)) (tree right.body) =
+    subst (λ z. Moves left.params z (reverse (moves_of back)) (tree right.body)) (sym meet)
+    (subst (λ S. Moves S (tree o.to.body) (reverse (moves_of back)) (tree right.body)) (sym header.1) returns) in
+    let whole : Moves left.params (tree left.body) (moves_of there.steps ++ reverse (moves_of back)) (tree right.body) =
+    go_on left.params (tree left.body) (tree there.to.body) (tree right.body) (moves_of there.steps) (reverse (moves_of back)) a.moves here in
+    let same : moves_of all ≡ moves_of there.steps ++ reverse (moves_of back) =
+    ap moves_of e ∙ (map-append move_of there.steps (reverse back) ∙ ap (λ ms. moves_of there.steps ++ ms) (moves_reversed back)) in
+    outcome_of left (record { steps = all; to = right }) (sym header.0) (sym header.1)
+    (subst (λ ms. Moves left.params (tree left.body) ms (tree right.body)) (sym same) whole)
+
+-- ---- lines that are too long
+
+pub wide : (steps : List Done) (i n : ℕ) (s : Done) → i < length steps → get_or steps i s ≡ s → n ≡ capped (most_symbols (part_lines 0 (tree s.part))) → 4096 < n
+    → AllByRecursion IsNarrow (moves_of steps) → ⊥
+wide [] i n s l e f m h = absurd (omega (arith, l))
+wide (t ∷ steps) zero n s l e f m h =
+    let narrow : most_symbols (part_lines 0 (tree s.part)) ≤ 4096 = subst (λ (z : Done). most_symbols (part_lines 0 (tree z.part)) ≤ 4096) e h.0 in
+    let least = min-le_left (most_symbols (part_lines 0 (tree s.part))) (2 ^ 64 - 1) in
+    absurd (omega (arith, m, f, narrow, least))
+wide (t ∷ steps) (suc i) n s l e f m h = wide steps i n s (omega (arith, l)) e f m h.1

@@ -1,0 +1,9 @@
+//! Steps from one program to another, made of steps from both to a third one: the second's turned round behind the first's.
+#![tactic(auto)]
+
+mod joining;
+mod laws;
+mod returning;
+
+pub use joining::{have_one_header, joined};
+pub use laws::{moves_go_on, undone_moves_lead_back};
