@@ -1,26 +1,19 @@
 -- Parts of PARs in the place of these PARs.
-use Rattle.std.proofs.Common.{◌≡◌, Bool, ◌&&◌, true, false, refl, sym, ap, ◌∙◌, subst, arith}
+use Rattle.std.proofs.Common.{◌≡◌, true, sym, ap, ◌∙◌, subst, arith}
 use Rattle.std.proofs.lemmas.Bool.{and_parts}
 use Rattle.occ_meaning.proofs.Beside.{Gives, beside_gives, gives_itself, gives_through}
 use Rattle.occ_meaning.proofs.Parts.{all_of_beside, beside_all_of}
 use Rattle.occ_meaning.specs.Parallel.{all_of, one}
 use Rattle.occ_norm_flatten.proofs.Listed.{all_of_none, all_of_three}
-use Rattle.occ_norm_flatten.proofs.Spreading.{bits_of_both, types_of_all}
+use Rattle.occ_norm_flatten.proofs.Spreading.{bits_of_both, types_of_all, types_of_both, weight_of_both}
 use Rattle.occ_norm_flatten.specs.Arranged.{AddsAll, AreArranged}
+use Rattle.occ_syntax.proofs.Weights.{weight, weight_of_all}
 use Rattle.occ_syntax.specs.Meaning.{at_the_same_time, beside}
 use Rattle.occ_syntax.specs.Scopes.{Environment}
-use Rattle.occ_syntax.specs.Tree.{Tree, Trees, and_tree, no_tree, par}
-use Rattle.occ_syntax.specs.Types.{all_types_kept, types_kept}
+use Rattle.occ_syntax.specs.Tree.{Tree, Trees, no_tree, par}
+use Rattle.occ_syntax.specs.Types.{all_types_kept}
 
 -- ---- two lists of parts in one
-
-and_three : (a b c : Bool) → (a && (b && c)) ≡ ((a && b) && c)
-and_three true b c = refl
-and_three false b c = refl
-
-types_in_both : (ps qs : Trees) (Γ : Environment) → all_types_kept (all_of ps qs) Γ ≡ (all_types_kept ps Γ && all_types_kept qs Γ)
-types_in_both no_tree qs Γ = refl
-types_in_both (and_tree p ps) qs Γ = ap (λ b. types_kept p Γ && b) (types_in_both ps qs Γ) ∙ and_three (types_kept p Γ) (all_types_kept ps Γ) (all_types_kept qs Γ)
 
 both_give : (Γ : Environment) (ps ps' qs qs' : Trees) → Gives Γ (at_the_same_time ps) (at_the_same_time ps') → Gives Γ (at_the_same_time qs) (at_the_same_time qs')
     → Gives Γ (at_the_same_time (all_of ps qs)) (at_the_same_time (all_of ps' qs'))
@@ -33,15 +26,16 @@ both_give Γ ps ps' qs qs' h k =
 
 alike_itself : (ps : Trees) → AreArranged ps ps
 alike_itself ps = record {
-  types = λ Γ. refl;
+  types = λ Γ h. h;
   forth = λ Γ h. gives_itself Γ (at_the_same_time ps);
   back = λ Γ h. gives_itself Γ (at_the_same_time ps);
   bits = λ n. omega arith;
+  weighs = omega arith;
 }
 
 alike_both : (ps ps' qs qs' : Trees) → AreArranged ps ps' → AreArranged qs qs' → AreArranged (all_of ps qs) (all_of ps' qs')
 alike_both ps ps' qs qs' a b = record {
-  types = λ Γ. types_in_both ps' qs' Γ ∙ ap (λ v. v && all_types_kept qs' Γ) (a.types Γ) ∙ ap (λ v. all_types_kept ps Γ && v) (b.types Γ) ∙ sym (types_in_both ps qs Γ);
+  types = λ Γ h. let k = types_of_all ps qs Γ h in types_of_both ps' qs' Γ (a.types Γ k.0) (b.types Γ k.1);
   forth = λ Γ h. let k = types_of_all ps qs Γ h in both_give Γ ps ps' qs qs' (a.forth Γ k.0) (b.forth Γ k.1);
   back = λ Γ h. let k = types_of_all ps qs Γ h in both_give Γ ps' ps qs' qs (a.back Γ k.0) (b.back Γ k.1);
   bits = λ n.
@@ -49,19 +43,22 @@ alike_both ps ps' qs qs' a b = record {
       let f = bits_of_both ps' qs' n in
       let g = a.bits n in
       let h = b.bits n in omega (arith, e, f, g, h);
+  weighs =
+      let e = weight_of_both ps qs in
+      let f = weight_of_both ps' qs' in
+      let g = a.weighs in
+      let h = b.weighs in omega (arith, e, f, g, h);
 }
-
-and_none : (b : Bool) → (b && true) ≡ b
-and_none true = refl
-and_none false = refl
 
 -- a PAR, and what does what its parts do
 alike_par : (qs rs : Trees) → AreArranged qs rs → AreArranged (one (par qs)) rs
+unfolding weight weight_of_all
 alike_par qs rs a = record {
-  types = λ Γ. a.types Γ ∙ sym (and_none (all_types_kept qs Γ));
+  types = λ Γ h. a.types Γ (and_parts (all_types_kept qs Γ) true h).0;
   forth = λ Γ h. a.forth Γ (and_parts (all_types_kept qs Γ) true h).0;
   back = λ Γ h. a.back Γ (and_parts (all_types_kept qs Γ) true h).0;
   bits = λ n. let h = a.bits n in omega (arith, h);
+  weighs = let h = a.weighs in omega (arith, h);
 }
 
 -- ---- parts that are added

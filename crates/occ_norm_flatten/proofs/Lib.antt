@@ -1,6 +1,9 @@
 pub mod LastPart
 pub mod Listed
+pub mod Elsewhere
+pub mod Congruent
 pub mod Spreading
+pub mod Noting
 pub mod Alike
 pub mod Orders
 pub mod OwnNames

@@ -1,30 +1,30 @@
 -- Each step of taking PARs apart keeps what the process does.
-use Rattle.std.proofs.Common.{◌≡◌, ◌≤◌, ◌<◌, ◌+◌, ℕ, max, ◌==◌, true, false, List, [], ◌∷◌, ◌++◌, Option, None, Some, is_none, if◌then◌else◌, refl, sym, ap, ◌∙◌, subst, arith, ⊎_elim}
-use Rattle.std.proofs.lemmas.Bool.{and_from, and_parts, cases_Bool, or_from, or_parts}
-use Rattle.occ_base.specs.Width.{bits_of}
+use Rattle.std.proofs.Common.{◌≡◌, ◌≤◌, ◌<◌, ◌+◌, ℕ, max, true, false, ◌&&◌, List, [], ◌∷◌, ◌++◌, Option, None, Some, is_none, refl, sym, ap, subst, arith}
+use Rattle.std.proofs.lemmas.Bool.{and_from, and_parts}
 use Rattle.occ_base.specs.declared.names.Name.{Name}
 use Rattle.occ_base.specs.declared.width.Width.{Width}
-use Rattle.occ_meaning.proofs.Beside.{Gives, gives_itself, gives_through}
-use Rattle.occ_meaning.proofs.Declared.{channel_gives, variable_gives}
+use Rattle.occ_meaning.proofs.Beside.{Gives, gives_itself}
 use Rattle.occ_meaning.proofs.InScope.{free_in_scope}
 use Rattle.occ_meaning.proofs.Parts.{behind}
 use Rattle.occ_meaning.specs.Parallel.{all_of}
 use Rattle.occ_syntax.proofs.Weights.{weight, weight_of_all}
-use Rattle.occ_syntax.proofs.Widest.{most_bits-declaring}
 use Rattle.occ_syntax.proofs.Within.{declaring_all-append}
-use Rattle.occ_syntax.specs.Counts.{bits_of_kind, most_bits, most_bits_of_all, most_bits_of_branches, most_bits_of_cases}
-use Rattle.occ_syntax.specs.Declarations.{declaring, declaring_all}
+use Rattle.occ_syntax.specs.Counts.{most_bits_of_all}
+use Rattle.occ_syntax.specs.Declarations.{declaring_all}
 use Rattle.occ_syntax.specs.Meaning.{at_the_same_time, meaning}
-use Rattle.occ_syntax.specs.Names.{free, free_in_some}
+use Rattle.occ_syntax.specs.Names.{free_in_some}
 use Rattle.occ_syntax.specs.Scopes.{Environment, with_name}
-use Rattle.occ_syntax.specs.Tree.{Branches, Cases, Tree, Trees, alt, and_branch, and_case, and_tree, assign, connect, declare, no_branch, no_case, no_tree, par, receive, select, send, seq, skip, stop}
+use Rattle.occ_syntax.specs.Tree.{Tree, Trees, and_tree, connect, no_tree, par}
 use Rattle.occ_syntax.specs.Types.{all_types_kept, can_declare, is_width, types_kept}
 use Rattle.occ_syntax.specs.declared.scope.Kind.{Kind}
-use Rattle.occ_syntax.specs.declared.scope.Kind.TheVariants.{Chan, Var}
-use Rattle.occ_norm_flatten.proofs.Listed.{all_of_three}
+use Rattle.occ_syntax.specs.declared.scope.Kind.TheVariants.{Chan}
+use Rattle.occ_norm_flatten.proofs.Congruent.{arranged_all, arranged_itself, arranged_steps}
+use Rattle.occ_norm_flatten.proofs.Elsewhere.{types_beside}
 use Rattle.occ_norm_flatten.proofs.LastPart.{channel_of_last_in, channel_of_last_out}
-use Rattle.occ_norm_flatten.specs.Flat.{IsFlat}
-use Rattle.occ_norm_flatten.specs.Spread.{IsNext, IsSpread, bare, channel, parts, spread, within}
+use Rattle.occ_norm_flatten.proofs.Listed.{all_of_three}
+use Rattle.occ_norm_flatten.specs.Arranged.{IsArranged}
+use Rattle.occ_norm_flatten.specs.Declares.{some_declare}
+use Rattle.occ_norm_flatten.specs.Spread.{IsNext, channel, parts, spread}
 
 -- ---- lists of parts
 
@@ -34,10 +34,10 @@ types_of_all (and_tree p ps) qs Γ h =
     let one = and_parts (types_kept p Γ) (all_types_kept (all_of ps qs) Γ) h in
     let more = types_of_all ps qs Γ one.1 in (and_from (types_kept p Γ) (all_types_kept ps Γ) one.0 more.0, more.1)
 
-free_of_all : (ps qs : Trees) (x : ℕ) → free_in_some ps x ≡ false → free_in_some qs x ≡ false → free_in_some (all_of ps qs) x ≡ false
-free_of_all no_tree qs x h k = k
-free_of_all (and_tree p ps) qs x h k =
-    let one = or_parts (free p x) (free_in_some ps x) h in or_from (free p x) (free_in_some (all_of ps qs) x) one.0 (free_of_all ps qs x one.1 k)
+pub types_of_both : (ps qs : Trees) (Γ : Environment) → all_types_kept ps Γ ≡ true → all_types_kept qs Γ ≡ true → all_types_kept (all_of ps qs) Γ ≡ true
+types_of_both no_tree qs Γ h k = k
+types_of_both (and_tree p ps) qs Γ h k =
+    let one = and_parts (types_kept p Γ) (all_types_kept ps Γ) h in and_from (types_kept p Γ) (all_types_kept (all_of ps qs) Γ) one.0 (types_of_both ps qs Γ one.1 k)
 
 -- ---- bits
 
@@ -45,203 +45,135 @@ pub all_at_least : (ps : Trees) (n : ℕ) → n ≤ most_bits_of_all ps n
 all_at_least no_tree n = omega arith
 all_at_least (and_tree p ps) n = let h = all_at_least ps n in omega (arith, h)
 
-cases_at_least : (cs : Cases) (n : ℕ) → n ≤ most_bits_of_cases cs n
-cases_at_least no_case n = omega arith
-cases_at_least (and_case e p cs) n = let h = cases_at_least cs n in omega (arith, h)
-
-branches_at_least : (bs : Branches) (n : ℕ) → n ≤ most_bits_of_branches bs n
-branches_at_least no_branch n = omega arith
-branches_at_least (and_branch e w p bs) n = let h = branches_at_least bs n in omega (arith, h)
-
-at_least : (p : Tree) (n : ℕ) → n ≤ most_bits p n
-at_least skip n = omega arith
-at_least stop n = omega arith
-at_least (assign xs es) n = omega arith
-at_least (receive c x) n = omega arith
-at_least (send c e) n = omega arith
-at_least (seq ps) n = all_at_least ps n
-at_least (par ps) n = all_at_least ps n
-at_least (select cs) n = cases_at_least cs n
-at_least (alt bs) n = branches_at_least bs n
-at_least (declare x w p) n = let h = at_least p (n + bits_of w) in omega (arith, h)
-at_least (connect c w p) n = at_least p n
-
 pub bits_of_both : (ps qs : Trees) (n : ℕ) → most_bits_of_all (all_of ps qs) n ≡ max (most_bits_of_all ps n) (most_bits_of_all qs n)
 bits_of_both no_tree qs n = let h = all_at_least qs n in omega (arith, h)
 bits_of_both (and_tree p ps) qs n = let h = bits_of_both ps qs n in omega (arith, h)
 
-pub bits_within : (ds : List (Name × Kind)) (p q : Tree) → ((n : ℕ) → most_bits q n ≤ most_bits p n) → (n : ℕ) → most_bits (declaring_all ds q) n ≤ most_bits (declaring_all ds p) n
-bits_within [] p q h n = h n
-bits_within (d ∷ ds) p q h n =
-    let k = bits_within ds p q h (n + bits_of_kind d.1) in
-    let e = most_bits-declaring d.0.0 d.1 (declaring_all ds q) n in
-    let f = most_bits-declaring d.0.0 d.1 (declaring_all ds p) n in omega (arith, k, e, f)
-
--- ---- within declarations
-
-within-append : (Γ : Environment) (ds : List (Name × Kind)) (d : Name × Kind) → within Γ (ds ++ d ∷ []) ≡ with_name (within Γ ds) d.0.0 (bare d.1)
-within-append Γ [] d = refl
-within-append Γ (e ∷ ds) d = within-append (with_name Γ e.0.0 (bare e.1)) ds d
-
-one_type : (x : ℕ) (k : Kind) (p : Tree) (Γ : Environment) → types_kept (declaring x k p) Γ ≡ true → types_kept p (with_name Γ x (bare k)) ≡ true
-one_type x (Var w) p Γ h = (and_parts (can_declare Γ x w) (types_kept p (with_name Γ x (Var w))) h).1
-one_type x (Chan w mark) p Γ h = (and_parts (can_declare Γ x w) (types_kept p (with_name Γ x (Chan w None))) h).1
-
-pub types_within : (ds : List (Name × Kind)) (p : Tree) (Γ : Environment) → types_kept (declaring_all ds p) Γ ≡ true → types_kept p (within Γ ds) ≡ true
-types_within [] p Γ h = h
-types_within (d ∷ ds) p Γ h = types_within ds p (with_name Γ d.0.0 (bare d.1)) (one_type d.0.0 d.1 (declaring_all ds p) Γ h)
-
-one_gives : (Γ : Environment) (x : ℕ) (k : Kind) (p q : Tree) → Gives (with_name Γ x (bare k)) (meaning p) (meaning q) → Gives Γ (meaning (declaring x k p)) (meaning (declaring x k q))
-one_gives Γ x (Var w) p q h = variable_gives Γ x w (meaning p) (meaning q) h
-one_gives Γ x (Chan w mark) p q h = channel_gives Γ x w (meaning p) (meaning q) h
-
-pub gives_within : (ds : List (Name × Kind)) (Γ : Environment) (p q : Tree) → Gives (within Γ ds) (meaning p) (meaning q) → Gives Γ (meaning (declaring_all ds p)) (meaning (declaring_all ds q))
-gives_within [] Γ p q h = h
-gives_within (d ∷ ds) Γ p q h =
-    one_gives Γ d.0.0 d.1 (declaring_all ds p) (declaring_all ds q) (gives_within ds (with_name Γ d.0.0 (bare d.1)) p q h)
-
--- ---- the beginning
-
-pub spread_first : (p : Tree) → IsSpread p [] no_tree p
-spread_first p = record {
-  types = λ Γ h. h;
-  fresh = λ Γ h x k. refl;
-  forth = λ Γ Θ h k. gives_itself Γ (meaning p);
-  back = λ Γ Θ h k. gives_itself Γ (meaning p);
-  bits = λ n. let h = at_least p n in omega (arith, h);
-}
+pub weight_of_both : (ps qs : Trees) → weight_of_all (all_of ps qs) ≡ weight_of_all ps + weight_of_all qs
+unfolding weight_of_all
+weight_of_both no_tree qs = omega arith
+weight_of_both (and_tree p ps) qs = let h = weight_of_both ps qs in omega (arith, h)
 
 -- ---- a channel
-
-none_below : (Γ : Environment) (c : ℕ) (k : Kind) (x : ℕ) → with_name Γ c k x ≡ None → Γ x ≡ None
-none_below Γ c k x h = ⊎_elim
-    (λ (e : (x == c) ≡ true). absurd (let f : Some k ≡ None = sym (ap (λ b. if b then Some k else Γ x) e) ∙ h in cc))
-    (λ (e : (x == c) ≡ false). sym (ap (λ b. if b then Some k else Γ x) e) ∙ h)
-    (cases_Bool (x == c))
 
 none_is : (o : Option Kind) → is_none o ≡ true → o ≡ None
 none_is None h = refl
 none_is (Some k) h = absurd (cc)
 
-module _ (p : Tree) (ds : List (Name × Kind)) (ps : Trees) (c : Name) (w : Width) (last : Tree) (s : IsSpread p ds ps (connect c.0 w last)) where
+module _ (ps : Trees) (c : ℕ) (w : Width) (last : Tree) (unheard : some_declare ps c ≡ false) where
   inner : Tree
   inner = par (all_of ps (and_tree last no_tree))
 
   outer : Tree
-  outer = par (all_of ps (and_tree (connect c.0 w last) no_tree))
+  outer = par (all_of ps (and_tree (connect c w last) no_tree))
 
-  parted : (Γ : Environment) → types_kept p Γ ≡ true → (can_declare (within Γ ds) c.0 w ≡ true) × (types_kept last (with_name (within Γ ds) c.0 (Chan w None)) ≡ true)
-  parted Γ h = and_parts (can_declare (within Γ ds) c.0 w) (types_kept last (with_name (within Γ ds) c.0 (Chan w None))) (s.types Γ h)
-
-  unused : (Γ : Environment) → types_kept p Γ ≡ true → free_in_some ps c.0 ≡ false
-  unused Γ h = s.fresh Γ h c.0 (none_is (within Γ ds c.0) (and_parts (is_none (within Γ ds c.0)) (is_width w) (parted Γ h).0).0)
-
-  now : spread (ds ++ (c, Chan w None) ∷ []) ps last ≡ declaring_all ds (connect c.0 w inner)
-  unfolding inner
-  now = declaring_all-append ds (c, Chan w None) inner
-
-  moved_out : (Γ Θ : Environment) → types_kept p Γ ≡ true → all_types_kept ps Θ ≡ true → Gives Γ (meaning (declaring_all ds (connect c.0 w inner))) (meaning (declaring_all ds outer))
-  unfolding inner outer
-  moved_out Γ Θ h k = gives_within ds Γ (connect c.0 w inner) outer (channel_of_last_out (within Γ ds) c.0 w ps last Θ k (unused Γ h))
-
-  moved_in : (Γ Θ : Environment) → types_kept p Γ ≡ true → all_types_kept ps Θ ≡ true → Gives Γ (meaning (declaring_all ds outer)) (meaning (declaring_all ds (connect c.0 w inner)))
-  unfolding inner outer
-  moved_in Γ Θ h k = gives_within ds Γ outer (connect c.0 w inner) (channel_of_last_in (within Γ ds) c.0 w ps last Θ k (unused Γ h))
-
-  fewer : (n : ℕ) → most_bits (connect c.0 w inner) n ≤ most_bits outer n
-  unfolding inner outer
-  fewer n =
-      let e = bits_of_both ps (and_tree last no_tree) n in
-      let f = bits_of_both ps (and_tree (connect c.0 w last) no_tree) n in omega (arith, e, f)
-
-  spread_channel : IsSpread p (ds ++ (c, Chan w None) ∷ []) ps last
+  -- the parts in front keep types, the name isn't in scope, and the last part keeps types where it is
+  parted : (Γ : Environment) → types_kept outer Γ ≡ true
+      → (all_types_kept ps Γ ≡ true) × (can_declare Γ c w ≡ true) × (types_kept last (with_name Γ c (Chan w None)) ≡ true)
   unfolding outer
-  spread_channel = record {
-    types = λ Γ h. subst (λ Δ. types_kept last Δ ≡ true) (sym (within-append Γ ds (c, Chan w None))) (parted Γ h).1;
-    fresh = λ Γ h x none. s.fresh Γ h x (none_below (within Γ ds) c.0 (Chan w None) x (sym (ap (λ Δ. Δ x) (within-append Γ ds (c, Chan w None))) ∙ none));
-    forth = λ Γ Θ h k. subst (λ q. Gives Γ (meaning p) (meaning q)) (sym now)
-        (gives_through Γ (meaning p) (meaning (declaring_all ds outer)) (meaning (declaring_all ds (connect c.0 w inner))) (s.forth Γ Θ h k) (moved_in Γ Θ h k));
-    back = λ Γ Θ h k. subst (λ q. Gives Γ (meaning q) (meaning p)) (sym now)
-        (gives_through Γ (meaning (declaring_all ds (connect c.0 w inner))) (meaning (declaring_all ds outer)) (meaning p) (moved_out Γ Θ h k) (s.back Γ Θ h k));
+  parted Γ h =
+      let j = types_of_all ps (and_tree (connect c w last) no_tree) Γ h in
+      let k = and_parts (can_declare Γ c w && types_kept last (with_name Γ c (Chan w None))) true j.1 in
+      let l = and_parts (can_declare Γ c w) (types_kept last (with_name Γ c (Chan w None))) k.0 in (j.0, l.0, l.1)
+
+  absent : (Γ : Environment) → types_kept outer Γ ≡ true → Γ c ≡ None
+  absent Γ h = none_is (Γ c) (and_parts (is_none (Γ c)) (is_width w) (parted Γ h).1).0
+
+  unused : (Γ : Environment) → types_kept outer Γ ≡ true → free_in_some ps c ≡ false
+  unused Γ h = free_in_scope (par ps) Γ (parted Γ h).0 c (absent Γ h)
+
+  moved_types : (Γ : Environment) → types_kept outer Γ ≡ true → types_kept (connect c w inner) Γ ≡ true
+  unfolding inner
+  moved_types Γ h =
+      let j = parted Γ h in
+      let Δ = with_name Γ c (Chan w None) in
+      and_from (can_declare Γ c w) (all_types_kept (all_of ps (and_tree last no_tree)) Δ) j.1
+      (types_of_both ps (and_tree last no_tree) Δ (types_beside ps Γ c (Chan w None) (absent Γ h) unheard j.0) (and_from (types_kept last Δ) true j.2 refl))
+
+  moved_in : (Γ : Environment) → types_kept outer Γ ≡ true → Gives Γ (meaning outer) (meaning (connect c w inner))
+  unfolding inner outer
+  moved_in Γ h = channel_of_last_in Γ c w ps last Γ (parted Γ h).0 (unused Γ h)
+
+  moved_out : (Γ : Environment) → types_kept outer Γ ≡ true → Gives Γ (meaning (connect c w inner)) (meaning outer)
+  unfolding inner outer
+  moved_out Γ h = channel_of_last_out Γ c w ps last Γ (parted Γ h).0 (unused Γ h)
+
+  channel_moved : IsArranged outer (connect c w inner)
+  unfolding inner outer weight weight_of_all
+  channel_moved = record {
+    types = moved_types;
+    forth = moved_in;
+    back = moved_out;
     bits = λ n.
-        let e = ap (λ q. most_bits q n) now in
-        let f = bits_within ds outer (connect c.0 w inner) fewer n in
-        let g = s.bits n in omega (arith, e, f, g);
+        let e = bits_of_both ps (and_tree last no_tree) n in
+        let f = bits_of_both ps (and_tree (connect c w last) no_tree) n in omega (arith, e, f);
+    weighs =
+        let e = weight_of_both ps (and_tree last no_tree) in
+        let f = weight_of_both ps (and_tree (connect c w last) no_tree) in omega (arith, e, f);
   }
+
+-- the channel stands behind the other declarations then
+channel_spread : (ds : List (Name × Kind)) (ps : Trees) (c : Name) (w : Width) (last : Tree) → some_declare ps c.0 ≡ false
+    → IsArranged (spread ds ps (connect c.0 w last)) (spread (ds ++ (c, Chan w None) ∷ []) ps last)
+unfolding inner outer
+channel_spread ds ps c w last unheard =
+    subst (λ q. IsArranged (spread ds ps (connect c.0 w last)) q) (sym (declaring_all-append ds (c, Chan w None) (inner ps c.0 w last unheard)))
+    (arranged_all ds (outer ps c.0 w last unheard) (connect c.0 w (inner ps c.0 w last unheard)) (channel_moved ps c.0 w last unheard))
 
 -- ---- a PAR
 
-flat_in : (Γ : Environment) (qs : Trees) → Gives Γ (at_the_same_time (and_tree (par qs) no_tree)) (at_the_same_time qs)
-flat_in Γ qs = gives_itself Γ (at_the_same_time qs)
-
-module _ (p : Tree) (ds : List (Name × Kind)) (ps qs : Trees) (last : Tree) (s : IsSpread p ds ps (par (all_of qs (and_tree last no_tree)))) where
-  inside : Trees
-  inside = all_of qs (and_tree last no_tree)
-
+module _ (ps rs : Trees) where
   nested : Tree
-  nested = par (all_of ps (and_tree (par inside) no_tree))
+  nested = par (all_of ps (and_tree (par rs) no_tree))
 
-  flat : Tree
-  flat = par (all_of (all_of ps qs) (and_tree last no_tree))
+  opened : Tree
+  opened = par (all_of ps rs)
 
-  flat_is : flat ≡ par (all_of ps inside)
-  unfolding flat inside
-  flat_is = ap par (sym (all_of_three ps qs (and_tree last no_tree)))
-
-  flatter : (Γ : Environment) → Gives Γ (meaning nested) (meaning flat)
-  unfolding nested
-  flatter Γ = subst (λ q. Gives Γ (meaning nested) (meaning q)) (sym flat_is) (behind Γ ps (and_tree (par inside) no_tree) inside (gives_itself Γ (at_the_same_time inside)))
-
-  deeper : (Γ : Environment) → Gives Γ (meaning flat) (meaning nested)
-  unfolding nested
-  deeper Γ = subst (λ q. Gives Γ (meaning q) (meaning nested)) (sym flat_is) (behind Γ ps inside (and_tree (par inside) no_tree) (gives_itself Γ (at_the_same_time inside)))
-
-  few : (n : ℕ) → most_bits flat n ≤ most_bits nested n
-  unfolding nested
-  few n =
-      let e = ap (λ q. most_bits q n) flat_is in
-      let f = bits_of_both ps inside n in
-      let g = bits_of_both ps (and_tree (par inside) no_tree) n in omega (arith, e, f, g)
-
-  spread_parts : IsSpread p ds (all_of ps qs) last
-  unfolding flat nested inside
-  spread_parts = record {
-    types = λ Γ h. (and_parts (types_kept last (within Γ ds)) true (types_of_all qs (and_tree last no_tree) (within Γ ds) (s.types Γ h)).1).0;
-    fresh = λ Γ h x none. free_of_all ps qs x (s.fresh Γ h x none) (free_in_scope (par qs) (within Γ ds) (types_of_all qs (and_tree last no_tree) (within Γ ds) (s.types Γ h)).0 x none);
-    forth = λ Γ Θ h k. gives_through Γ (meaning p) (meaning (declaring_all ds nested)) (meaning (declaring_all ds flat)) (s.forth Γ Θ h (types_of_all ps qs Θ k).0)
-        (gives_within ds Γ nested flat (flatter (within Γ ds)));
-    back = λ Γ Θ h k. gives_through Γ (meaning (declaring_all ds flat)) (meaning (declaring_all ds nested)) (meaning p) (gives_within ds Γ flat nested (deeper (within Γ ds)))
-        (s.back Γ Θ h (types_of_all ps qs Θ k).0);
+  par_opened : IsArranged nested opened
+  unfolding nested opened weight weight_of_all
+  par_opened = record {
+    types = λ Γ h.
+        let j = types_of_all ps (and_tree (par rs) no_tree) Γ h in types_of_both ps rs Γ j.0 (and_parts (all_types_kept rs Γ) true j.1).0;
+    forth = λ Γ h. behind Γ ps (and_tree (par rs) no_tree) rs (gives_itself Γ (at_the_same_time rs));
+    back = λ Γ h. behind Γ ps rs (and_tree (par rs) no_tree) (gives_itself Γ (at_the_same_time rs));
     bits = λ n.
-        let f = bits_within ds nested flat few n in
-        let g = s.bits n in omega (arith, f, g);
+        let f = bits_of_both ps rs n in
+        let g = bits_of_both ps (and_tree (par rs) no_tree) n in
+        let h = all_at_least rs n in omega (arith, f, g, h);
+    weighs =
+        let f = weight_of_both ps rs in
+        let g = weight_of_both ps (and_tree (par rs) no_tree) in omega (arith, f, g);
   }
 
--- ---- a step, and the end
+parts_spread : (ds : List (Name × Kind)) (ps qs : Trees) (last : Tree) → IsArranged (spread ds ps (par (all_of qs (and_tree last no_tree)))) (spread ds (all_of ps qs) last)
+unfolding nested opened
+parts_spread ds ps qs last =
+    subst (λ q. IsArranged (spread ds ps (par (all_of qs (and_tree last no_tree)))) (declaring_all ds (par q))) (all_of_three ps qs (and_tree last no_tree))
+    (arranged_all ds (nested ps (all_of qs (and_tree last no_tree))) (opened ps (all_of qs (and_tree last no_tree))) (par_opened ps (all_of qs (and_tree last no_tree))))
+
+-- ---- the beginning, and a step
+
+pub spread_first : (ps : Trees) (ds : List (Name × Kind)) (qs front : Trees) (last : Tree) → ps ≡ all_of front (and_tree last no_tree) → ds ≡ [] → qs ≡ front
+    → IsArranged (par ps) (spread ds qs last)
+spread_first ps ds qs front last e f g =
+    subst (λ es. IsArranged (par ps) (spread es qs last)) (sym f)
+    (subst (λ rs. IsArranged (par ps) (spread [] rs last)) (sym g)
+    (subst (λ rs. IsArranged (par rs) (spread [] front last)) (sym e) (arranged_itself (spread [] front last))))
+
+step_spread : (ds : List (Name × Kind)) (ps : Trees) (last : Tree) (ds' : List (Name × Kind)) (ps' : Trees) (last' : Tree)
+    → IsNext ds ps last ds' ps' last' → IsArranged (spread ds ps last) (spread ds' ps' last')
+step_spread ds ps last ds' ps' last' (channel c w unheard e f g) =
+    subst (λ b. IsArranged (spread ds ps b) (spread ds' ps' last')) (sym e)
+    (subst (λ es. IsArranged (spread ds ps (connect c.0 w last')) (spread es ps' last')) (sym f)
+    (subst (λ qs. IsArranged (spread ds ps (connect c.0 w last')) (spread (ds ++ (c, Chan w None) ∷ []) qs last')) (sym g) (channel_spread ds ps c w last' unheard)))
+step_spread ds ps last ds' ps' last' (parts qs e f g) =
+    subst (λ b. IsArranged (spread ds ps b) (spread ds' ps' last')) (sym e)
+    (subst (λ es. IsArranged (spread ds ps (par (all_of qs (and_tree last' no_tree)))) (spread es ps' last')) (sym g)
+    (subst (λ rs. IsArranged (spread ds ps (par (all_of qs (and_tree last' no_tree)))) (spread ds rs last')) (sym f) (parts_spread ds ps qs last')))
 
 pub spread_next : (p : Tree) (ds : List (Name × Kind)) (ps : Trees) (last : Tree) (ds' : List (Name × Kind)) (ps' : Trees) (last' : Tree)
-    → IsSpread p ds ps last → IsNext ds ps last ds' ps' last' → IsSpread p ds' ps' last'
-spread_next p ds ps last ds' ps' last' s (channel c w e f g) =
-    subst (λ es. IsSpread p es ps' last') (sym f) (subst (λ qs. IsSpread p (ds ++ (c, Chan w None) ∷ []) qs last') (sym g) (spread_channel p ds ps c w last' (subst (λ b. IsSpread p ds ps b) e s)))
-spread_next p ds ps last ds' ps' last' s (parts qs e f g) =
-    subst (λ es. IsSpread p es ps' last') (sym g) (subst (λ rs. IsSpread p ds rs last') (sym f) (spread_parts p ds ps qs last' (subst (λ b. IsSpread p ds ps b) e s)))
-
-pub spread_flat : (p : Tree) (ds : List (Name × Kind)) (ps : Trees) (last q : Tree) → IsSpread p ds ps last → q ≡ spread ds ps last → IsFlat p q
-spread_flat p ds ps last q s e = subst (λ r. IsFlat p r) (sym e) (record {
-  forth = λ Γ h k. (s.forth Γ (within Γ ds) h (front Γ k)).gives;
-  back = λ Γ h k. (s.back Γ (within Γ ds) h (front Γ k)).gives;
-  bits = s.bits;
-})
-  where
-    front : (Γ : Environment) → types_kept (spread ds ps last) Γ ≡ true → all_types_kept ps (within Γ ds) ≡ true
-    front Γ k = (types_of_all ps (and_tree last no_tree) (within Γ ds) (types_within ds (par (all_of ps (and_tree last no_tree))) Γ k)).0
-
-pub flat_within : (ds : List (Name × Kind)) (p q p' q' : Tree) → p' ≡ declaring_all ds p → q' ≡ declaring_all ds q → IsFlat p q → IsFlat p' q'
-flat_within ds p q p' q' e f h = subst (λ r. IsFlat r q') (sym e) (subst (λ r. IsFlat (declaring_all ds p) r) (sym f) (record {
-  forth = λ Γ k l. (gives_within ds Γ p q (record { gives = h.forth (within Γ ds) (types_within ds p Γ k) (types_within ds q Γ l) })).gives;
-  back = λ Γ k l. (gives_within ds Γ q p (record { gives = h.back (within Γ ds) (types_within ds p Γ k) (types_within ds q Γ l) })).gives;
-  bits = bits_within ds p q h.bits;
-}))
+    → IsArranged p (spread ds ps last) → IsNext ds ps last ds' ps' last' → IsArranged p (spread ds' ps' last')
+spread_next p ds ps last ds' ps' last' s n = arranged_steps p (spread ds ps last) (spread ds' ps' last') s (step_spread ds ps last ds' ps' last' n)
 
 -- ---- each step leaves a smaller last part
 
@@ -253,5 +185,5 @@ last_weighs (and_tree q qs) p = let h = last_weighs qs p in omega (arith, h)
 pub next_smaller : (ds : List (Name × Kind)) (ps : Trees) (last : Tree) (ds' : List (Name × Kind)) (ps' : Trees) (last' : Tree)
     → IsNext ds ps last ds' ps' last' → weight last' < weight last
 unfolding weight
-next_smaller ds ps last ds' ps' last' (channel c w e f g) = let h = ap weight e in omega (arith, h)
+next_smaller ds ps last ds' ps' last' (channel c w u e f g) = let h = ap weight e in omega (arith, h)
 next_smaller ds ps last ds' ps' last' (parts qs e f g) = let h = ap weight e in let k = last_weighs qs last' in omega (arith, h, k)

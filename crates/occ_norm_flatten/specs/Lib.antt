@@ -1,3 +1,4 @@
 pub mod Flat
 pub mod Arranged
+pub mod Declares
 pub mod Spread

@@ -2,7 +2,6 @@ ghost use Rattle.std.specs.Prelude.{◌<◌, ◌+◌, ◌≡◌, IfOk, IfSome, O
 ghost use Rattle.occ_meaning.specs.Parallel.{Reordered, all_of, one};
 ghost use Rattle.occ_syntax.specs.View.{in_procs, tree, trees};
 ghost use Rattle.occ_norm_flatten.specs.Arranged.{AddsAll, AreArranged, IsArranged};
-ghost use Rattle.occ_norm_flatten.specs.Flat.{IsFlat};
 
 use crate::apart::write_apart;
 use crate::flat::last_flattened;
@@ -153,10 +152,9 @@ fn arranged(alloc: Global, part: &Proc) -> Result<Option<Proc>, Memory>
 /// The process with one PAR in the place of a PAR, other PARs among its parts, those among theirs, and so on. One in a last
 /// part may stand within declarations of channels, which then stand round the one PAR. The parts stand in an order in which
 /// those that share channels are close together, if they write different variables. None where the process within its own
-/// declarations is no PAR, or its parts stand so already. Where both keep types the two do the same; the new one keeps none
-/// where a part declares a name again that is declared farther in beside it.
-pub fn flattened(alloc: Global, part: &Proc) -> Result<Option<Proc>, Memory>
-    ensures { IfOk result (λ found. IfSome found (λ flat. IsFlat (tree part.now) (tree flat))) }
+/// declarations is no PAR, or its parts stand so already.
+pub fn body_arranged(alloc: Global, part: &Proc) -> Result<Option<Proc>, Memory>
+    ensures { IfOk result (λ found. IfSome found (λ other. IsArranged (tree part.now) (tree other))) }
 {
     let Some(flat) = last_flattened(alloc, part)? else {
         return arranged(alloc, part);

@@ -1,6 +1,6 @@
 use occ_base::{Memory, Name, Width};
 use occ_norm_flatten::flattened;
-use occ_syntax::{Kind, Proc, Procs, same_proc};
+use occ_syntax::{Alternatives, Expr, Guard, Kind, Proc, Procs, Wait, same_proc};
 use std::alloc::Global;
 
 const CHAN: Kind = Kind::Chan(Width::Bool, None);
@@ -26,5 +26,71 @@ fn a_par_within_a_channel_in_a_par_is_one(rt: HostRuntime) -> Result<(), Memory>
     if let Some(flat) = found {
         assert!(rt; same_proc(&flat, &wanted));
     }
+    Ok(())
+}
+
+fn output(chan: usize) -> Proc {
+    Proc::Output {
+        chan: Name(chan),
+        value: Expr::Bool(true),
+    }
+}
+
+fn input(chan: usize) -> Proc {
+    Proc::Input {
+        chan: Name(chan),
+        var: Name(chan + 2),
+    }
+}
+
+// Two users of each of two channels, those of one behind those of the other where they are close.
+fn users(alloc: Global, is_close: bool) -> Result<Proc, Memory> {
+    let mut parts = Procs::new(alloc);
+    parts.push(output(0))?;
+    if is_close {
+        parts.push(input(0))?;
+    }
+    parts.push(output(1))?;
+    if !is_close {
+        parts.push(input(0))?;
+    }
+    parts.push(input(1))?;
+    Ok(Proc::Par(parts))
+}
+
+// Such users after another process, and behind a guard.
+fn behind_process(alloc: Global, is_close: bool) -> Result<Proc, Memory> {
+    let users = users(alloc, is_close)?;
+    Ok(Proc::Seq(beside(alloc, Proc::Skip, users)?))
+}
+
+fn behind_guard(alloc: Global, is_close: bool) -> Result<Proc, Memory> {
+    let users = users(alloc, is_close)?;
+    let guard = Guard {
+        condition: Expr::Bool(true),
+        wait: Wait::Skip,
+    };
+    let mut list = Alternatives::new(alloc);
+    list.push((guard, users))?;
+    Ok(Proc::Alt(list))
+}
+
+fn becomes(alloc: Global, part: &Proc, wanted: &Proc) -> Result<bool, Memory> {
+    match flattened(alloc, part)? {
+        Some(flat) => Ok(same_proc(&flat, wanted)),
+        None => Ok(false),
+    }
+}
+
+#[test]
+fn users_of_a_channel_come_close_wherever_they_stand(rt: HostRuntime) -> Result<(), Memory> {
+    let alloc = rt.alloc();
+    let listed = behind_process(alloc, false)?;
+    let close = behind_process(alloc, true)?;
+    assert!(rt; becomes(alloc, &listed, &close)?);
+    assert!(rt; flattened(alloc, &close)?.is_none());
+    let listed = behind_guard(alloc, false)?;
+    let close = behind_guard(alloc, true)?;
+    assert!(rt; becomes(alloc, &listed, &close)?);
     Ok(())
 }

@@ -6,12 +6,14 @@ use Rattle.occ_norm_flatten.proofs.Listed.{last_place, trees_last}
 use Rattle.occ_norm_flatten.specs.Spread.{channel, parts}
 use Rattle.occ_norm_flatten.proofs.flat.Spread.next.Goals as goal
 
-pub returns-in_ok-push-in-Chan : goal.returns-in_ok-push-in-Chan
+pub returns-in_ok-push-in-Chan-clause-next : goal.returns-in_ok-push-in-Chan-clause-next
 unfolding tree
-returns-in_ok-push-in-Chan c = channel c.in-Chan.name c.in-Chan.width (ap tree c.in-Chan.is ∙ ap (λ p. connect c.in-Chan.name.0 c.in-Chan.width (tree p)) (sym c.deref.ensures)) c.in_ok-push-in-Chan.ensures.ok refl
+returns-in_ok-push-in-Chan-clause-next c =
+    channel c.in-Chan.name c.in-Chan.width (c.requires c.in-Chan.name.0 (sym c.contains.ensures ∙ c.if-contains.false))
+    (ap tree c.in-Chan.is ∙ ap (λ p. connect c.in-Chan.name.0 c.in-Chan.width (tree p)) (sym c.deref.ensures)) c.in_ok-push-in-Chan.ensures.ok refl
 
-pub returns-in_ok-push_all-in-Par : goal.returns-in_ok-push_all-in-Par
-returns-in_ok-push_all-in-Par c =
+pub returns-in_ok-push_all-in-Par-clause-next : goal.returns-in_ok-push_all-in-Par-clause-next
+returns-in_ok-push_all-in-Par-clause-next c =
     let items = c.items-items.result.now in
     let last = last_place items (sym c.is_empty.ensures ∙ c.if-is_empty.false) in
     parts (trees (take (length items - 1) items))
