@@ -29,6 +29,16 @@ fn a_par_within_a_channel_in_a_par_is_one(rt: HostRuntime) -> Result<(), Memory>
     Ok(())
 }
 
+#[test]
+fn a_channel_that_is_declared_beside_its_par_stays(rt: HostRuntime) -> Result<(), Memory> {
+    let alloc = rt.alloc();
+    let first = Proc::Skip.declare(alloc, Name(0), CHAN)?;
+    let last = Proc::Par(beside(alloc, Proc::Skip, Proc::Stop)?).declare(alloc, Name(0), CHAN)?;
+    let nested = Proc::Par(beside(alloc, first, last)?);
+    assert!(rt; flattened(alloc, &nested)?.is_none());
+    Ok(())
+}
+
 fn output(chan: usize) -> Proc {
     Proc::Output {
         chan: Name(chan),
@@ -36,10 +46,10 @@ fn output(chan: usize) -> Proc {
     }
 }
 
-fn input(chan: usize) -> Proc {
+fn input(chan: usize, var: usize) -> Proc {
     Proc::Input {
         chan: Name(chan),
-        var: Name(chan + 2),
+        var: Name(var),
     }
 }
 
@@ -48,13 +58,13 @@ fn users(alloc: Global, is_close: bool) -> Result<Proc, Memory> {
     let mut parts = Procs::new(alloc);
     parts.push(output(0))?;
     if is_close {
-        parts.push(input(0))?;
+        parts.push(input(0, 2))?;
     }
     parts.push(output(1))?;
     if !is_close {
-        parts.push(input(0))?;
+        parts.push(input(0, 2))?;
     }
-    parts.push(input(1))?;
+    parts.push(input(1, 3))?;
     Ok(Proc::Par(parts))
 }
 
