@@ -1,0 +1,3 @@
+mod Replayed
+mod Told
+mod Printed

@@ -1,0 +1,4 @@
+mod Growing
+mod Reading
+mod Scripts
+mod Leaving

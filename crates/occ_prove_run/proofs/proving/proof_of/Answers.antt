@@ -1,0 +1,23 @@
+use Rattle.occ_prove_run.proofs.Scripts.{none_of, not_same, proved_by_laws, some_of, told_as_same}
+use Rattle.occ_prove_run.specs.Pairs.{AreApartAll, IsPairOf}
+use Rattle.occ_prove_run.proofs.proving.proof_of.Goals as goal
+
+pub returns-then-not-is_same-clause-proves : goal.returns-then-not-is_same-clause-proves
+returns-then-not-is_same-clause-proves c =
+    let one = c.args.one.now in
+    let two = c.args.two.now in
+    told_as_same one two c.in_ok-told.told c.in_ok-told.ensures.settles
+    (not_same c.is_same.result c.in_ok-told.told (AreApartAll one two) c.if-not-is_same.true c.is_same.ensures.1)
+
+pub returns-in-Some-clause-proves : goal.returns-in-Some-clause-proves
+returns-in-Some-clause-proves c =
+    let one = c.args.one.now in
+    let two = c.args.two.now in
+    proved_by_laws c.proved.result one two c.in_ok-told.told c.in-Some.pair c.in_ok-told.ensures.settles (c.is_same.ensures.0 c.if-not-is_same.false)
+    (some_of c.in_ok-pair.field-0 c.in-Some.pair (IsPairOf one two) c.in-Some.is c.in_ok-pair.ensures.pair) c.proved.ensures.proved
+
+pub returns-in-None-clause-proves : goal.returns-in-None-clause-proves
+returns-in-None-clause-proves c =
+    let one = c.args.one.now in
+    let two = c.args.two.now in
+    told_as_same one two c.in_ok-told.told c.in_ok-told.ensures.settles (λ same. none_of c.in_ok-pair.field-0 (AreApartAll one two) c.in-None.is c.in_ok-pair.ensures.none)

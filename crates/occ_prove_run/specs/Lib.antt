@@ -1,0 +1,6 @@
+pub mod Words
+pub mod Proofs
+pub mod Answers
+pub mod Pairs
+pub mod Normal
+pub mod Paths

@@ -1,0 +1,144 @@
+//! The script from one program to another that means the same: a derivation of the one's normal program, and behind it that of the
+//! other's, step by step undone.
+
+ghost use Rattle.std.specs.Prelude.{◌≡◌, ◌≢◌, ◌↔◌, ℕ, List, Option, Err, IfOk, IsTrue, OnOk};
+ghost use Rattle.std.specs.List.{AllByRecursion};
+ghost use Rattle.occ_derive.specs.Derived.{CanBeWritten};
+ghost use Rattle.occ_fresh.specs.Growth.{GrowsByNames};
+ghost use Rattle.occ_print.specs.Known.{ProgramIsKnown};
+ghost use Rattle.occ_prove_run.specs.Answers.{IsSayable};
+ghost use Rattle.occ_prove_run.specs.Normal.{IsLong, IsShort as HasShortNormal, IsToNormal};
+ghost use Rattle.occ_prove_run.specs.Pairs.{AreReady};
+ghost use Rattle.occ_prove_run.specs.Proofs.{IsProved, IsSame, IsStuck, Proves};
+ghost use Rattle.occ_prove_steps.specs.Joined.{AreWritable, IsProof};
+ghost use Rattle.occ_script_write_back.specs.Said.{IsSaid};
+ghost use Rattle.occ_syntax.specs.View.{tree};
+ghost use Rattle.occ_tool_run.specs.Files.{IsLoaded, IsShort, most_bytes};
+ghost use Rattle.occ_tool_run.specs.Judged.{HasInterface};
+ghost use Rattle.occ_tool_run.specs.Texts.{IsPrintable};
+ghost use Rattle.occ_tool_run.specs.Transforms.{IsScriptOf};
+
+use crate::pair::{Pair, read_pair};
+use crate::path::read_paths;
+use crate::proof::Proof;
+use occ_base::{Memory, Names};
+use occ_behaviour::{Side, Verdict};
+use occ_derive::{DeriveFault, derive};
+use occ_engine::{Dones, Outcome};
+use occ_nform_program::normal_table;
+use occ_print_known::parts_are_known_up_to_their_greatest_name;
+use occ_prove_steps::joined;
+use occ_syntax::same_proc;
+use occ_tool_run::answer::Answer;
+use occ_tool_run::judge::{Question, judge};
+use occ_tool_run::load::Loaded;
+use occ_tool_run::transforming::script;
+use occ_usage::Accepted;
+use std::alloc::Global;
+
+/// Whether it is the answer that two programs mean the same.
+fn is_same(answer: &Answer) -> bool
+    ensures { IsTrue result ↔ IsSame answer.now }
+{
+    match answer {
+        Answer::Compared { verdict, .. } => match verdict {
+            Verdict::Same => true,
+            Verdict::Differ { .. } => false,
+        },
+        _ => false,
+    }
+}
+
+/// The answer to two files.
+pub(crate) fn proof_of(alloc: Global, one: &Loaded, two: &Loaded) -> Result<Proof, Memory>
+    requires first { IsShort most_bytes one.now }
+    requires second { IsShort most_bytes two.now }
+    ensures proves { IfOk result (λ proof. (a b : Option (List ℕ)) → IsLoaded most_bytes a one.now → IsLoaded most_bytes b two.now
+        → Proves a b proof) }
+    ensures sayable { IfOk result IsSayable }
+    ensures usage { IfOk result (λ proof. proof ≢ Proof.Usage) }
+{
+    let told = judge(alloc, Question::WhetherSame, one, two)?;
+    if !is_same(&told) {
+        return Ok(Proof::Told(told));
+    }
+    match read_pair(alloc, one, two)? {
+        Some(pair) => proved(alloc, pair),
+        None => Ok(Proof::Told(told)),
+    }
+}
+
+/// The answer to two accepted programs of one header.
+fn proved(alloc: Global, pair: Pair) -> Result<Proof, Memory>
+    requires { AreReady pair }
+    ensures proved { IfOk result (IsProved pair.names pair.left.program pair.right.program) }
+    ensures sayable { IfOk result IsSayable }
+    ensures usage { IfOk result (λ proof. proof ≢ Proof.Usage) }
+{
+    parts_are_known_up_to_their_greatest_name();
+    let Pair { names, left, right } = pair;
+    let mut names = names;
+    let there = match normal(alloc, &mut names, &left) {
+        Ok(outcome) => outcome,
+        Err(fault) => return stuck(Side::First, fault),
+    };
+    let back = match normal(alloc, &mut names, &right) {
+        Ok(outcome) => outcome,
+        Err(fault) => return stuck(Side::Second, fault),
+    };
+    if !same_proc(&there.to.body, &back.to.body) {
+        return Ok(Proof::Unfinished(Side::Second));
+    }
+    match joined(alloc, &left, &right, there, &back)? {
+        Some(steps) => Ok(Proof::Told(written(alloc, &names, &left, &right, steps)?)),
+        None => Ok(Proof::Wide),
+    }
+}
+
+/// Steps from an accepted program to its normal program.
+fn normal(alloc: Global, names: &mut Names, accepted: &Accepted) -> Result<Outcome, DeriveFault>
+    requires { HasInterface names.old accepted.now.program }
+    ensures derived { IfOk result (IsToNormal names.old accepted.now.program) }
+    ensures known { IfOk result (CanBeWritten names.new accepted.now.program) }
+    ensures grown { OnOk result (GrowsByNames names.old names.new) }
+    ensures long { result ≡ Err DeriveFault.Long → IsLong names.old accepted.now.program }
+    ensures short { result ≡ Err DeriveFault.Unfinished → HasShortNormal names.old accepted.now.program }
+{
+    let table = normal_table(alloc, names, accepted)?;
+    derive(alloc, names, accepted, &table)
+}
+
+/// The answer where the normal program of one of the two can't be derived.
+fn stuck(place: Side, fault: DeriveFault) -> Result<Proof, Memory>
+    ensures stuck { IfOk result (IsStuck place fault) }
+    ensures sayable { IfOk result IsSayable }
+    ensures usage { IfOk result (λ proof. proof ≢ Proof.Usage) }
+{
+    match fault {
+        DeriveFault::Long => Ok(Proof::Long(place)),
+        DeriveFault::Unfinished => Ok(Proof::Unfinished(place)),
+        DeriveFault::Memory => Err(Memory),
+    }
+}
+
+/// The script of steps from one accepted program to another.
+fn written(
+    alloc: Global,
+    names: &Names,
+    left: &Accepted,
+    right: &Accepted,
+    steps: Dones,
+) -> Result<Answer, Memory>
+    requires proof { IsProof left.now.program right.now.program steps }
+    requires writable { AreWritable names.now steps }
+    requires left { ProgramIsKnown names.now left.now.program.name.0 left.now.program.params (tree left.now.program.body) }
+    requires right { ProgramIsKnown names.now right.now.program.name.0 right.now.program.params (tree right.now.program.body) }
+    ensures written { IfOk result (IsScriptOf names.now left.now.program steps right.now.program) }
+    ensures said { AllByRecursion IsSaid steps }
+    ensures printable { IfOk result IsPrintable }
+    ensures usage { IfOk result (λ answer. answer ≢ Answer.Usage) }
+{
+    read_paths(steps.items());
+    let to = right.program().copy(alloc)?;
+    script(alloc, names, left, &Outcome { steps, to })
+}
