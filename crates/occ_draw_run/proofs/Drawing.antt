@@ -1,9 +1,14 @@
 -- What a text is answered with.
-use Rattle.std.proofs.Common.{◌≡◌, ◌<◌, ◌≤◌, ◌^◌, ◌+◌, ℕ, List, [], ◌∷◌, Ok, Err, length, inl, inr, sym, ap, ◌∙◌, arith}
+use Rattle.std.proofs.Common.{◌≡◌, ◌<◌, ◌≤◌, ◌^◌, ◌+◌, ℕ, true, false, codes, List, [], ◌∷◌, Option, None, Some, IfSome, IsSomeAnd, Result, Ok, Err, IfOk, length, inl, inr, refl, sym, ap, subst, ◌∙◌, arith}
 use Rattle.std.specs.Prelude.{◌⊎◌, ◌≢◌}
 use Rattle.std.specs.List.{All, AllByRecursion}
+use Rattle.std.proofs.lemmas.Bool.{le-ltb, lt-ltb}
 use Rattle.std.proofs.lemmas.List.Elements.{All-from_recursion}
+use Rattle.occ_base.specs.declared.memory.Memory.{Memory as NoMemory}
 use Rattle.occ_base.specs.declared.names.Name.{Name}
+use Rattle.occ_behaviour.specs.declared.behaviour.Side.TheVariants.{First}
+use Rattle.occ_draw_steps.specs.Steps.{list_of}
+use Rattle.occ_draw_steps.specs.declared.fault.Lack.{Lack}
 use Rattle.occ_syntax.specs.declared.scope.Kind.{Kind}
 use Rattle.occ_nform_table.specs.declared.table.TableRow.{TableRow}
 use Rattle.occ_nform_table.specs.declared.table.TableFault.{TableFault}
@@ -13,8 +18,16 @@ use Rattle.occ_nform_table.specs.Rows.{RowIsNamed}
 use Rattle.occ_nform_table.specs.Tables.{AreRowsOf, IsInterface, IsNormal}
 use Rattle.occ_nform_table.specs.Texts.{table_text}
 use Rattle.occ_nform_table.proofs.Named.{row_named}
-use Rattle.occ_draw_run.specs.Refusals.{fault_text}
-use Rattle.occ_draw_run.specs.Answers.{told}
+use Rattle.occ_script.specs.declared.fault.ScriptFault.{ScriptFault}
+use Rattle.occ_script.specs.declared.fault.ScriptFault.TheVariants as script
+use Rattle.occ_script.specs.declared.script.Script.{Script}
+use Rattle.occ_script.specs.Refusals.{IsScriptFault}
+use Rattle.occ_script.specs.Scripts.{IsScript}
+use Rattle.occ_script.specs.Shown.{shown}
+use Rattle.occ_tool_run.specs.Texts.{refusal_text, script_refusal_text, table_refusal_text}
+use Rattle.occ_draw_run.specs.declared.top.Reply.{Reply}
+use Rattle.occ_draw_run.specs.Answers.{Draws, Files, Tells, TellsScript, Told, faulty, is_script, is_too_long, listed, of_length, of_script, of_table, refused, told, told_list}
+use Rattle.occ_draw_run.specs.Replies.{told_by}
 
 -- ---- rows whose events have names
 rows_known : (names : List (List ℕ)) (params : List (Name × Kind)) → AllByRecursion (λ (p : Name × Kind). p.0.0 < length names) params
@@ -37,9 +50,77 @@ rows_read law names text t short read =
     let is = normal law names text t short read in
     All-from_recursion (RowIsNamed t.names) t.rows (rows_known t.names t.params is.interface.named 0 t.rows is.rows)
 
--- ---- a text that is refused
-pub refused : (start : List (List ℕ)) (text : List ℕ) (fault : TableFault) (line : List ℕ) → start ≡ [] → (text_read start text ≡ Err fault) ⊎ (fault ≡ Memory) → line ≡ fault_text fault → fault ≢ Memory
-    → record { status = 3; text = line } ≡ told (text_read [] text)
-refused start text fault line e (inl read) is other =
-    ap (λ p. record { status = 3; text = p }) is ∙ ap told (sym (sym (ap (λ names. text_read names text) e) ∙ read))
-refused start text fault line e (inr bad) is other = absurd (other bad)
+-- ---- texts that are refused, and scripts
+
+pub refused_table : (r : Result Reply NoMemory) (start : List (List ℕ)) (text : List ℕ) (fault : TableFault) → start ≡ [] → (text_read start text ≡ Err fault) ⊎ (fault ≡ Memory)
+    → IfOk r (λ reply. told_by reply ≡ refused (table_refusal_text fault)) → IfOk r (λ reply. fault ≢ Memory) → IfOk r (λ reply. told_by reply ≡ told (text_read [] text))
+refused_table (Err m) start text fault e why is other = tt
+refused_table (Ok reply) start text fault e (inl read) is other = is ∙ ap told (sym (sym (ap (λ names. text_read names text) e) ∙ read))
+refused_table (Ok reply) start text fault e (inr bad) is other = absurd (other bad)
+
+pub refused_script : (r : Result Reply NoMemory) (start : List (List ℕ)) (text : List ℕ) (fault : ScriptFault) → start ≡ [] → IsScriptFault text start fault ⊎ (fault ≡ script.Memory)
+    → IfOk r (λ reply. told_by reply ≡ refused (script_refusal_text First fault)) → IfOk r (λ reply. fault ≢ script.Memory) → IfOk r (λ reply. TellsScript text (told_by reply))
+refused_script (Err m) start text fault e why is other = tt
+refused_script (Ok reply) start text fault e (inl read) is other = faulty fault (subst (λ o. IsScriptFault text o fault) e read) is
+refused_script (Ok reply) start text fault e (inr bad) is other = absurd (other bad)
+
+pub listed_script : (r : Result Reply NoMemory) (start new : List (List ℕ)) (text : List ℕ) (s : Script) → start ≡ [] → IsScript text start new s
+    → IfOk r (λ reply. told_by reply ≡ told_list (list_of (shown s))) → IfOk r (λ reply. TellsScript text (told_by reply))
+listed_script (Err m) start new text s e read is = tt
+listed_script (Ok reply) start new text s e read is = listed new s (subst (λ o. IsScript text o new s) e read) is
+
+-- ---- whatever a text is
+
+short : (text : List ℕ) → length text ≤ 67108864 → is_too_long text ≡ false
+short text h = le-ltb 67108864 (length text) h
+
+pub tells_script : (r : Result Reply NoMemory) (text : List ℕ) → length text ≤ 67108864 → is_script text ≡ true → IfOk r (λ reply. TellsScript text (told_by reply)) → IfOk r (λ reply. Tells text (told_by reply))
+tells_script (Err m) text h is tells = tt
+tells_script (Ok reply) text h is tells = of_script (short text h) is tells
+
+pub tells_table : (r : Result Reply NoMemory) (text : List ℕ) → length text ≤ 67108864 → is_script text ≡ false → IfOk r (λ reply. told_by reply ≡ told (text_read [] text))
+    → IfOk r (λ reply. Tells text (told_by reply))
+tells_table (Err m) text h is tells = tt
+tells_table (Ok reply) text h is tells = of_table (short text h) is tells
+
+-- ---- the file
+
+abbrev IsToldOrRefused : Told → Type 0
+IsToldOrRefused answer = (answer.status ≡ 0) ⊎ (answer.status ≡ 3)
+
+table_status : (r : Result Parts TableFault) → IsToldOrRefused (told r)
+table_status (Ok t) = inl refl
+table_status (Err fault) = inr refl
+
+list_status : (r : Result (List ℕ) (ℕ × Lack)) → IsToldOrRefused (told_list r)
+list_status (Ok text) = inl refl
+list_status (Err found) = inr refl
+
+script_status : (text : List ℕ) (answer : Told) → TellsScript text answer → IsToldOrRefused answer
+script_status text answer (listed new s read is) = subst IsToldOrRefused (sym is) (list_status (list_of (shown s)))
+script_status text answer (faulty fault read is) = subst IsToldOrRefused (sym is) (inr refl)
+
+text_status : (text : List ℕ) (answer : Told) → Tells text answer → IsToldOrRefused answer
+text_status text answer (of_length long is) = subst IsToldOrRefused (sym is) (inr refl)
+text_status text answer (of_table short other is) = subst IsToldOrRefused (sym is) (table_status (text_read [] text))
+text_status text answer (of_script short script tells) = script_status text answer tells
+
+-- a text is answered with its picture, its list or a refusal
+pub reply_status : (reply : Reply) (text : List ℕ) → Tells text (told_by reply) → (reply.status ≡ 0) ⊎ (reply.status ≡ 3)
+reply_status reply text tells = text_status text (told_by reply) tells
+
+-- the file has this text
+pub drawn : (seen : Option Files) (name text bytes : List ℕ) (reply : Reply) → IfSome seen (λ files. files name ≡ Some text) → bytes ≡ text → Tells bytes (told_by reply)
+    → IfSome seen (λ files. Draws (files name) (told_by reply))
+drawn None name text bytes reply there same tells = tt
+drawn (Some files) name text bytes reply there same tells = record { text = bytes; there = there ∙ ap Some (sym same); tells = tells }
+
+long_file : (file : Option (List ℕ)) (answer : Told) → IsSomeAnd file (λ text. 67108864 < length text) → answer ≡ refused (refusal_text First 1 (codes "Limit Bytes")) → Draws file answer
+long_file None answer long is = absurd long
+long_file (Some text) answer long is = record { text = text; there = refl; tells = of_length (lt-ltb 67108864 (length text) long) is }
+
+-- the file has a longer text than is read
+pub drawn_long : (seen : Option Files) (name : List ℕ) (reply : Reply) → IfSome seen (λ files. IsSomeAnd (files name) (λ text. 67108864 < length text))
+    → told_by reply ≡ refused (refusal_text First 1 (codes "Limit Bytes")) → IfSome seen (λ files. Draws (files name) (told_by reply))
+drawn_long None name reply long is = tt
+drawn_long (Some files) name reply long is = long_file (files name) (told_by reply) long is

@@ -1,3 +1,4 @@
 pub mod Worded
 pub mod Leaving
 pub mod Drawing
+pub mod Once

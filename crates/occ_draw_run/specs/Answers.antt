@@ -1,9 +1,19 @@
 -- What a command line is answered with.
-use Rattle.std.specs.Prelude.{ℕ, ◌≡◌, ◌==◌, Bool, false, not, nat_lt, if◌then◌else◌, List, [], ◌∷◌, length, Option, None, Some, Result, Ok, Err, codes}
+use Rattle.std.specs.Prelude.{ℕ, ◌≡◌, ◌==◌, Bool, true, false, not, nat_eq, nat_lt, if◌then◌else◌, List, [], ◌∷◌, length, Option, None, Some, Result, Ok, Err, codes}
+use Rattle.std.specs.List.{starts_with}
+use Rattle.occ_behaviour.specs.declared.behaviour.Side.TheVariants.{First}
+use Rattle.occ_draw_steps.specs.declared.fault.Lack.{Lack}
+use Rattle.occ_draw_steps.specs.Steps.{list_of}
+use Rattle.occ_draw_text.specs.Pictures.{dot_text}
 use Rattle.occ_nform_table.specs.declared.table.TableFault.{TableFault}
 use Rattle.occ_nform_table.specs.Normal.{Parts, text_read}
-use Rattle.occ_draw_text.specs.Pictures.{dot_text}
-use Rattle.occ_draw_run.specs.Refusals.{usage_text, line_refusal, fault_text}
+use Rattle.occ_script.specs.declared.fault.ScriptFault.{ScriptFault}
+use Rattle.occ_script.specs.declared.script.Script.{Script}
+use Rattle.occ_script.specs.Refusals.{IsScriptFault}
+use Rattle.occ_script.specs.Scripts.{IsScript}
+use Rattle.occ_script.specs.Shown.{shown}
+use Rattle.occ_tool_run.specs.Texts.{refusal_text, script_refusal_text, table_refusal_text}
+use Rattle.occ_draw_run.specs.Refusals.{step_refusal_text, usage_text}
 
 -- the bytes of each file that there is
 abbrev pub Files : Type 0
@@ -26,24 +36,58 @@ pub record Told : Type 0 where
   pub status : ℕ
   pub text : List ℕ
 
--- how many bytes a normal text has at most
-abbrev pub most_bytes : ℕ
-most_bytes = 67108864
+abbrev pub refused : List ℕ → Told
+refused line = record { status = 3; text = line }
+
+-- ---- normal texts
 
 -- the picture of the table that a text is read as, or its first fault
 abbrev pub told : Result Parts TableFault → Told
 told (Ok t) = record { status = 0; text = dot_text t.names t.params t.rows t.states }
-told (Err fault) = record { status = 3; text = fault_text fault }
+told (Err fault) = refused (table_refusal_text fault)
+
+-- ---- scripts
+
+-- the list of a script's steps, or the first step that can't be told
+abbrev pub told_list : Result (List ℕ) (ℕ × Lack) → Told
+told_list (Ok text) = record { status = 0; text = text }
+told_list (Err found) = refused (step_refusal_text found.0 found.1)
+
+abbrev pub told_script : Script → Told
+told_script script = told_list (list_of (shown script))
+
+abbrev pub told_fault : ScriptFault → Told
+told_fault fault = refused (script_refusal_text First fault)
+
+-- a text is read as a script, and answered with the list of its steps; or it is refused for its first fault
+pub data TellsScript (text : List ℕ) (answer : Told) : Type 0 where
+  listed : (new : List (List ℕ)) (script : Script) → IsScript text [] new script → answer ≡ told_script script → TellsScript text answer
+  faulty : (fault : ScriptFault) → IsScriptFault text [] fault → answer ≡ told_fault fault → TellsScript text answer
+
+-- ---- texts
+
+-- how many bytes a text has at most
+abbrev pub most_bytes : ℕ
+most_bytes = 67108864
+
+abbrev pub is_too_long : List ℕ → Bool
+is_too_long text = nat_lt most_bytes (length text)
+
+-- a text that begins so is taken for a script, and each other one for a normal text
+abbrev pub is_script : List ℕ → Bool
+is_script text = starts_with nat_eq text (codes "occam-script")
 
 -- what a text is answered with
-abbrev pub told_of : List ℕ → Told
-told_of text = if nat_lt most_bytes (length text) then record { status = 3; text = line_refusal 1 (codes " Limit Bytes\n") } else told (text_read [] text)
+pub data Tells (text : List ℕ) (answer : Told) : Type 0 where
+  of_length : is_too_long text ≡ true → answer ≡ refused (refusal_text First 1 (codes "Limit Bytes")) → Tells text answer
+  of_table : is_too_long text ≡ false → is_script text ≡ false → answer ≡ told (text_read [] text) → Tells text answer
+  of_script : is_too_long text ≡ false → is_script text ≡ true → TellsScript text answer → Tells text answer
 
 -- the file is there, and this is what it is answered with
 pub record Draws (file : Option (List ℕ)) (answer : Told) : Type 0 where
   pub text : List ℕ
   pub there : file ≡ Some text
-  pub is : answer ≡ told_of text
+  pub tells : Tells text answer
 
 abbrev pub AnswersWord : Files → Option (List ℕ) → Told → Type 0
 AnswersWord files None answer = answer ≡ record { status = 2; text = usage_text }

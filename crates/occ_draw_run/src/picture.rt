@@ -1,9 +1,11 @@
+//! Normal texts as pictures.
+
 ghost use Rattle.std.specs.Prelude.{◌≡◌, ◌≤◌, [], length, IfOk};
 ghost use Rattle.occ_nform_table.specs.Normal.{text_read};
 ghost use Rattle.occ_draw_run.specs.Answers.{told};
 ghost use Rattle.occ_draw_run.specs.Replies.{told_by};
 
-use crate::refusal::fault_text;
+use crate::refusal::refuse_table;
 use crate::top::Reply;
 use occ_base::{Memory, Names};
 use occ_draw_text::dot_text;
@@ -23,9 +25,6 @@ pub(crate) fn picture(alloc: Global, text: &[u8]) -> Result<Reply, Memory>
             status: 0,
             text: dot_text(alloc, &names, &table)?,
         }),
-        Err(fault) => Ok(Reply {
-            status: 3,
-            text: fault_text(alloc, fault)?,
-        }),
+        Err(fault) => refuse_table(alloc, fault),
     }
 }

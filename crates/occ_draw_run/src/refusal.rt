@@ -1,49 +1,82 @@
-ghost use Rattle.std.specs.Prelude.{◌≡◌, ◌≢◌, ◌++◌, decimal, IfOk, OnOk};
-ghost use Rattle.occ_draw_run.specs.Refusals.{fault_text as fault_text_of, line_refusal as line_refusal_of, row_refusal as row_refusal_of};
+//! What refuses a text, or a step of a script.
 
+ghost use Rattle.std.specs.Prelude.{◌≡◌, ◌≢◌, codes, IfOk};
+ghost use Rattle.occ_behaviour.specs.declared.behaviour.Side.TheVariants as side;
+ghost use Rattle.occ_draw_run.specs.Answers.{refused};
+ghost use Rattle.occ_draw_run.specs.Refusals.{lack_text, step_refusal_text};
+ghost use Rattle.occ_draw_run.specs.Replies.{told_by};
+ghost use Rattle.occ_nform_table.specs.declared.table.TableFault.TheVariants as table;
+ghost use Rattle.occ_script.specs.declared.fault.ScriptFault.TheVariants as script;
+ghost use Rattle.occ_tool_run.specs.Texts.{refusal_text, script_refusal_text, table_refusal_text, ScriptFaultIsTold};
+
+use crate::top::Reply;
 use itoa::Buffer;
 use occ_base::Memory;
+use occ_behaviour::Side;
+use occ_draw_steps::Lack;
 use occ_nform_table::TableFault;
+use occ_script::ScriptFault;
+use occ_tool_run::refusal::{script_refusal, table_refusal, too_long};
 use std::alloc::Global;
 
-/// The line that refuses a text for a fault, or out of memory where that is the fault.
-pub(crate) fn fault_text(alloc: Global, fault: TableFault) -> Result<Vec<u8>, Memory>
-    ensures text { IfOk result (λ text. text.items ≡ fault_text_of fault) }
-    ensures told { IfOk result (λ text. fault ≢ TableFault.Memory) }
+/// Refuses a text of too many bytes.
+pub(crate) fn refuse_length(alloc: Global) -> Result<Reply, Memory>
+    ensures { IfOk result (λ reply. told_by reply ≡ refused (refusal_text side.First 1 (codes "Limit Bytes"))) }
 {
-    match fault {
-        TableFault::Form { line } => line_refusal(alloc, line, b" Form\n"),
-        TableFault::Order { line } => line_refusal(alloc, line, b" Order\n"),
-        TableFault::NotLeast { line } => line_refusal(alloc, line, b" NotLeast\n"),
-        TableFault::Empty { row } => row_refusal(alloc, row, b" Empty\n"),
-        TableFault::Unreached { row } => row_refusal(alloc, row, b" Unreached\n"),
-        TableFault::Memory => Err(Memory),
+    Ok(Reply {
+        status: 3,
+        text: too_long(alloc, Side::First)?,
+    })
+}
+
+/// Refuses a text that isn't normal, or is out of memory where that is the fault.
+pub(crate) fn refuse_table(alloc: Global, fault: TableFault) -> Result<Reply, Memory>
+    ensures text { IfOk result (λ reply. told_by reply ≡ refused (table_refusal_text fault)) }
+    ensures told { IfOk result (λ reply. fault ≢ table.Memory) }
+{
+    if fault == TableFault::Memory {
+        return Err(Memory);
+    }
+    Ok(Reply {
+        status: 3,
+        text: table_refusal(alloc, fault)?,
+    })
+}
+
+/// Refuses a text that isn't a script, or is out of memory where that is the fault.
+pub(crate) fn refuse_script(alloc: Global, fault: ScriptFault) -> Result<Reply, Memory>
+    requires { fault ≢ script.Memory → ScriptFaultIsTold fault }
+    ensures text { IfOk result (λ reply. told_by reply ≡ refused (script_refusal_text side.First fault)) }
+    ensures told { IfOk result (λ reply. fault ≢ script.Memory) }
+{
+    if fault == ScriptFault::Memory {
+        return Err(Memory);
+    }
+    Ok(Reply {
+        status: 3,
+        text: script_refusal(alloc, Side::First, fault)?,
+    })
+}
+
+fn lack_words(lack: Lack) -> &'static [u8]
+    ensures { result.now ≡ lack_text lack }
+{
+    match lack {
+        Lack::NoLaw => b"NoLaw",
+        Lack::NoPath => b"NoPath",
+        Lack::NotAccepted => b"NotAccepted",
     }
 }
 
-/// The line that refuses a line of a text with these words.
-pub(crate) fn line_refusal(alloc: Global, line: u32, words: &[u8]) -> Result<Vec<u8>, Memory>
-    ensures { IfOk result (λ text. text.items ≡ line_refusal_of line words.now) }
-{
-    let mut text = Vec::from_slice(alloc, b"REFUSED FIRST ")?;
-    push_number(&mut text, line)?;
-    text.extend_from_slice(words)?;
-    Ok(text)
-}
-
-fn row_refusal(alloc: Global, row: u32, words: &[u8]) -> Result<Vec<u8>, Memory>
-    ensures { IfOk result (λ text. text.items ≡ row_refusal_of row words.now) }
-{
-    let mut text = Vec::from_slice(alloc, b"REFUSED FIRST ROW ")?;
-    push_number(&mut text, row)?;
-    text.extend_from_slice(words)?;
-    Ok(text)
-}
-
-fn push_number(text: &mut Vec<u8>, number: u32) -> Result<(), Memory>
-    ensures { OnOk result (text.new.items ≡ text.old.items ++ decimal number) }
+/// Refuses a step of a script that can't be told.
+pub(crate) fn refuse_step(alloc: Global, step: u32, lack: Lack) -> Result<Reply, Memory>
+    ensures { IfOk result (λ reply. told_by reply ≡ refused (step_refusal_text step lack)) }
 {
     let mut buffer = Buffer::new();
-    text.extend_from_slice(buffer.format(number).as_bytes())?;
-    Ok(())
+    let mut text = Vec::from_slice(alloc, b"REFUSED STEP ")?;
+    text.extend_from_slice(buffer.format(step).as_bytes())?;
+    text.extend_from_slice(b" ")?;
+    text.extend_from_slice(lack_words(lack))?;
+    text.extend_from_slice(b"\n")?;
+    Ok(Reply { status: 3, text })
 }

@@ -5,25 +5,27 @@ ghost use Rattle.occ_draw_run.specs.Ran.{Asked, Ran};
 ghost use Rattle.occ_draw_run.specs.declared.top.Stop.TheVariants.{Memory as NoMemory};
 ghost use Rattle.occ_draw_run.specs.Replies.{AsksFor, CountsStop, told_by};
 
-use crate::picture::picture;
-use crate::refusal::line_refusal;
+use crate::refusal::refuse_length;
+use crate::telling::tell;
 use crate::word::file_word;
 use occ_base::Memory;
 use occ_desk::{Desk, ReadError, send};
 use std::alloc::Global;
 use thiserror::Error;
 
-/// How many bytes a normal text has at most.
+/// How many bytes a text has at most.
 const MOST_BYTES: u64 = 67_108_864;
 
-/// Runs the command: the words of a command line, the program's own name first, over a desk, to which the picture of the normal
-/// text in the one file that the words name is written, as a text of the DOT language. The result is the status of the process:
+/// Runs the command: the words of a command line, the program's own name first, over a desk. Of the text in the one file that the
+/// words name it writes the picture, as a text of the DOT language, or where the text begins with `occam-script`, the steps as a list.
+/// A list says what is changed where, and not that the laws hold: the command `replay` tells that. The result is the status of the
+/// process:
 ///
 /// | status | comes exactly where | written |
 /// |---|---|---|
-/// | 0 | the text is a normal one | its picture |
+/// | 0 | the text is a normal one, or a script whose steps can be told | its picture, or its list |
 /// | 2 | there isn't exactly one word, or it is empty or begins with `-` | the line of usage |
-/// | 3 | the text isn't a normal one | the line that refuses it, as the command `normal` does |
+/// | 3 | the text is none of these | the line that refuses it or a step of it |
 /// | 4 | a read failed in this call | nothing |
 /// | 5 | a write failed in this call | a front of the answer |
 /// | 6 | out of memory, before the first write | nothing |
@@ -114,6 +116,7 @@ fn usage(alloc: Global) -> Result<Vec<u8>, Memory>
 }
 
 /// The reply to the file of that name.
+#[tactic(auto, using(crate::proofs::Drawing::drawn_long))]
 fn draw_file<D: Desk>(alloc: Global, name: &str, desk: &mut D) -> Result<Reply, Stop>
     requires reads_countable { D.read_faults desk.old < u64.MAX }
     requires writes_countable { D.write_faults desk.old < u64.MAX }
@@ -127,11 +130,8 @@ fn draw_file<D: Desk>(alloc: Global, name: &str, desk: &mut D) -> Result<Reply, 
 {
     let mut text = Vec::new(alloc);
     match desk.read(name, MOST_BYTES, &mut text) {
-        Ok(()) => Ok(picture(alloc, text.as_slice())?),
-        Err(ReadError::TooLong) => Ok(Reply {
-            status: 3,
-            text: line_refusal(alloc, 1, b" Limit Bytes\n")?,
-        }),
+        Ok(()) => Ok(tell(alloc, text.as_slice())?),
+        Err(ReadError::TooLong) => Ok(refuse_length(alloc)?),
         Err(ReadError::Failed) => Err(Stop::Read),
         Err(ReadError::Memory) => Err(Stop::Memory),
     }

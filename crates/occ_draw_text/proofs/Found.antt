@@ -1,5 +1,5 @@
 -- Edges as they are found, one offer after the other.
-use Rattle.std.proofs.Common.{◌≡◌, ◌==◌, ◌&&◌, ◌||◌, ◌<◌, ◌≤◌, ◌+◌, not, zero, suc, ℕ, Bool, true, false, true≢false, cond, List, [], ◌∷◌, ◌++◌, get_or, take, set, length, map, refl, sym, ap, ◌∙◌, arith}
+use Rattle.std.proofs.Common.{◌≡◌, ◌==◌, ◌&&◌, ◌||◌, ◌<◌, ◌≤◌, ◌+◌, not, zero, suc, ℕ, Bool, true, false, true≢false, cond, List, [], ◌∷◌, ◌++◌, get_or, take, set, length, refl, sym, ap, ◌∙◌, arith}
 use Rattle.std.proofs.lemmas.Bool.{both_ways, cond-false, cond-true, false_from_ne_true}
 use Rattle.std.proofs.lemmas.Grind.{flat_map-append}
 use Rattle.std.proofs.lemmas.List.{append-nil, length-map, map-append, take_all, take_more}

@@ -7,3 +7,4 @@ pub mod Started
 pub mod Found
 pub mod Named
 pub mod Written
+pub mod Grouped

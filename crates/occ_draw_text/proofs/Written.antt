@@ -1,10 +1,9 @@
--- Rows, entries and states one after another.
-use Rattle.std.proofs.Common.{◌≡◌, ◌<◌, ◌≤◌, ◌+◌, ◌-◌, ◌==◌, ℕ, suc, cond, List, [], ◌∷◌, ◌++◌, get_or, drop, drop-cons, length, append_assoc, refl, sym, ap, ◌∙◌, arith}
+-- Rows and entries one after another.
+use Rattle.std.proofs.Common.{◌≡◌, ◌<◌, ◌≤◌, ◌+◌, ◌-◌, ℕ, suc, List, ◌∷◌, ◌++◌, get_or, drop, drop-cons, length, append_assoc, refl, sym, ap, ◌∙◌, arith}
 use Rattle.std.proofs.lemmas.List.{append-nil, drop_all}
 use Rattle.occ_base.specs.declared.names.Name.{Name}
 use Rattle.occ_syntax.specs.declared.scope.Kind.{Kind}
 use Rattle.occ_nform_table.specs.declared.table.TableRow.{TableRow}
-use Rattle.occ_nform_table.specs.Texts.{state_at_place}
 use Rattle.occ_draw_text.specs.Pictures.{entries_text, entry_text, row_text, rows_text, states_to}
 
 -- ---- rows
@@ -43,28 +42,6 @@ unfolding entries_text
 entries_end params states n count text all past e =
     let none : 0 ≡ count - n = omega (arith, past) in
     sym (append-nil text) ∙ ap (λ m. text ++ entries_text params states n m) none ∙ e
-
--- ---- states
-states_cons : (params : List (Name × Kind)) (n k row : ℕ) (rows : List ℕ) → cond (row == n) (state_at_place params k ∷ []) [] ++ states_to params n (k + 1) rows ≡ states_to params n k (row ∷ rows)
-unfolding states_to
-states_cons params n k row rows = refl
-
-pub states_start : (params : List (Name × Kind)) (rows : List ℕ) (n : ℕ) (states : List (List (Name × ℕ))) → states ≡ [] → states ++ states_to params n 0 rows ≡ states_to params n 0 rows
-states_start params rows n states none = ap (λ l. l ++ states_to params n 0 rows) none
-
-pub states_step : (params : List (Name × Kind)) (rows : List ℕ) (n k d : ℕ) (old new all : List (List (Name × ℕ))) → k < length rows
-    → old ++ states_to params n k (drop k rows) ≡ all → new ≡ old ++ cond (get_or rows k d == n) (state_at_place params k ∷ []) [] → new ++ states_to params n (k + 1) (drop (k + 1) rows) ≡ all
-states_step params rows n k d old new all h e is =
-    let next : suc k ≡ k + 1 = omega arith in
-    let row = get_or rows k d in
-    let own = cond (row == n) (state_at_place params k ∷ []) [] in
-    let here : drop k rows ≡ row ∷ drop (k + 1) rows = drop-cons rows k d h ∙ ap (λ m. row ∷ drop m rows) next in
-    ap (λ l. l ++ states_to params n (k + 1) (drop (k + 1) rows)) is ∙ append_assoc old own (states_to params n (k + 1) (drop (k + 1) rows))
-    ∙ ap (λ l. old ++ l) (states_cons params n k row (drop (k + 1) rows)) ∙ ap (λ l. old ++ states_to params n k l) (sym here) ∙ e
-
-pub states_end : (params : List (Name × Kind)) (rows : List ℕ) (n k : ℕ) (states all : List (List (Name × ℕ))) → length rows ≤ k → states ++ states_to params n k (drop k rows) ≡ all → states ≡ all
-unfolding states_to
-states_end params rows n k states all past e = sym (append-nil states) ∙ ap (λ l. states ++ states_to params n k l) (sym (drop_all k rows past)) ∙ e
 
 -- ---- pieces of a line
 

@@ -4,3 +4,4 @@ pub mod Edges
 pub mod Adding
 pub mod Strings
 pub mod Pictures
+pub mod Grouping

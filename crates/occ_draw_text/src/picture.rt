@@ -13,7 +13,7 @@ use std::alloc::Global;
 /// The picture of a table as a text of the DOT language: a directed graph whose nodes are the rows. A row's label has its
 /// number, its final states and its acceptances; an edge has the events of all offers to one row on one channel, with values
 /// that follow one another as a range; an entry has the initial states that lead to one row. All that is named in the table has
-/// a name in the table of names. The time grows as the number of rows times that of the initial states.
+/// a name in the table of names. The time grows as the table and its picture are long.
 pub fn dot_text(alloc: Global, names: &Names, table: &Table) -> Result<Vec<u8>, Memory>
     requires interface { IsInterface names.now table.now.params }
     requires rows { All (RowIsNamed names.now) table.now.rows }

@@ -32,7 +32,7 @@ const USAGE: &str =
     "USAGE same A B, normalise A, normal T, belongs A T, transform A T, expand A PATH, replay T, stress KIND N, refine A B, deadlock A, run A T, derive A\n";
 
 // A desk with the files A and B, of which the calls with these numbers fail.
-fn desk_with(
+pub(crate) fn desk_with(
     alloc: Global,
     failing: &[u64],
     piece: usize,
@@ -49,7 +49,7 @@ fn desk_with(
     Ok(desk)
 }
 
-fn strings(alloc: Global, words: &[&str]) -> Result<Vec<String>, Memory> {
+pub(crate) fn strings(alloc: Global, words: &[&str]) -> Result<Vec<String>, Memory> {
     let mut strings = Vec::new(alloc);
     for word in words {
         strings.push(String::from_str(alloc, word)?)?;
@@ -69,6 +69,18 @@ fn compare(
 {
     let mut desk = desk_with(alloc, failing, piece, first, second)?;
     let words = strings(alloc, &["occam", "same", "A", "B"])?;
+    let status = run(alloc, words.as_slice(), &mut desk);
+    Ok((status, desk))
+}
+
+// The status and the desk after a command over the file A.
+pub(crate) fn command_on(
+    alloc: Global,
+    words: &[&str],
+    text: &[u8],
+) -> Result<(u8, MemoryDesk), Memory> {
+    let mut desk = desk_with(alloc, &[], 1000, text, b"")?;
+    let words = strings(alloc, words)?;
     let status = run(alloc, words.as_slice(), &mut desk);
     Ok((status, desk))
 }
@@ -149,7 +161,9 @@ fn words_fit_or_are_answered_with_usage(rt: HostRuntime) -> Result<(), Fail> {
     Ok(())
 }
 
-// The answer has 47 bytes, and goes out in ten writes.
+// It has 47 bytes, and goes out in ten writes of five bytes each, of which the last has two.
+const REFUSES_ONE: &str = "DIFFER\nSTATE []\nTRACE\nREFUSES {b!1}\nONLY FIRST\n";
+
 #[test]
 fn each_call_fails_in_turn(rt: HostRuntime) -> Result<(), Fail> {
     for failing in 0..14u64 {
@@ -157,8 +171,8 @@ fn each_call_fails_in_turn(rt: HostRuntime) -> Result<(), Fail> {
             rt.alloc(),
             &[failing],
             5,
-            EXCHANGE.as_bytes(),
-            SEQUENCE.as_bytes(),
+            EITHER_WAY.as_bytes(),
+            BOTH_WAYS.as_bytes(),
         )?;
         let (wanted, sent) = match failing {
             0 | 1 => (4, 0),
@@ -167,7 +181,7 @@ fn each_call_fails_in_turn(rt: HostRuntime) -> Result<(), Fail> {
         };
         assert_eq!(rt; status, wanted);
         assert_eq!(rt; desk.written().len(), sent);
-        assert!(rt; EXCHANGE_DIFFERS.as_bytes().starts_with(desk.written()));
+        assert!(rt; REFUSES_ONE.as_bytes().starts_with(desk.written()));
     }
     Ok(())
 }
@@ -576,7 +590,7 @@ const TWO_OUTPUTS: &str =
 const DROPPED: &str =
     "occam-script 2\nFROM\nPROC p ()\n  SEQ\n    SKIP\n:\nSTEP seq-skip FORWARD /\n  SEQ\nTO\nPROC p ()\n  SEQ\n:\n";
 
-const EXPANDED: &str =
+pub(crate) const EXPANDED: &str =
     "occam-script 2\nFROM\nPROC two (WORD2 x, CHAN OF WORD2 a!, CHAN OF WORD2 b!)\n  PAR\n    a ! x\n    b ! 3\n:\nSTEP io-alt FORWARD /0\n  ALT\n    a ! x\n      SKIP\nSTEP io-alt FORWARD /1\n  ALT\n    b ! 3\n      SKIP\nSTEP par-expand FORWARD /\n  ALT\n    a ! x\n      PAR\n        SKIP\n        ALT\n          b ! 3\n            SKIP\n    b ! 3\n      PAR\n        ALT\n          a ! x\n            SKIP\n        SKIP\nTO\nPROC two (WORD2 x, CHAN OF WORD2 a!, CHAN OF WORD2 b!)\n  ALT\n    a ! x\n      PAR\n        SKIP\n        ALT\n          b ! 3\n            SKIP\n    b ! 3\n      PAR\n        ALT\n          a ! x\n            SKIP\n        SKIP\n:\n";
 
 #[test]
