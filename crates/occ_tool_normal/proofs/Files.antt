@@ -1,0 +1,129 @@
+-- Two files that have normal texts, and what is answered of the two.
+use Rattle.std.proofs.Common.{◌≡◌, ◌⊎◌, inl, inr, ◌↔◌, ◌<◌, ◌^◌, ℕ, true, false, cond, nat_lt, List, [], length, Option, Some, None, Vec, Global, refl, sym, ap, subst, ◌∙◌, arith}
+use Rattle.std.specs.Prelude.{codes}
+use Rattle.std.specs.FinMap.{nat_cmp-IsAntisymmetric, slice_cmp-IsAntisymmetric}
+use Rattle.std.specs.declared.cmp.Ordering.{Ordering}
+use Rattle.std.specs.declared.cmp.Ordering.TheVariants.{Less, Equal, Greater}
+use Rattle.std.proofs.lemmas.Bool.{cases_Bool}
+use Rattle.occ_nform.specs.Written.{IsNormalText}
+use Rattle.occ_base.specs.Names.{IsDistinct}
+use Rattle.occ_parse_reading.specs.Reading.{too_long}
+use Rattle.occ_parse_reading.specs.declared.fault.ParseFault.{ParseFault}
+use Rattle.occ_usage.specs.declared.fault.UsageFault.{UsageFault}
+use Rattle.occ_syntax.specs.View.{tree}
+use Rattle.occ_syntax.specs.declared.scope.Program.{Program}
+use Rattle.occ_behaviour.specs.declared.behaviour.Side.{Side}
+use Rattle.occ_behaviour.specs.declared.behaviour.Side.TheVariants.{First, Second}
+use Rattle.occ_tool_normal.proofs.Texts.{File, IsTextOf, Laws, Table, Told, both, no_misuse, no_refusal, told}
+use Rattle.occ_tool_run.specs.declared.answer.Answer.{Answer}
+use Rattle.occ_tool_run.specs.declared.judge.Question.TheVariants.{WhetherSame}
+use Rattle.occ_tool_run.specs.Accepts.{IsAccepted, IsAcceptedText, IsRefused, IsUnusable}
+use Rattle.occ_tool_run.specs.Answers.{Answers, Compares, IsNormalised, Settles, Takes, TakesBoth, Turned, accepted, accepted_behind, refused, refused_behind, unusable, unusable_behind}
+use Rattle.occ_tool_run.specs.Files.{Files, order_of, short_bytes, text_order}
+use Rattle.occ_tool_run.specs.Texts.{status_of, text_of}
+use Rattle.occ_tool_run.proofs.Judging.{no_name_twice}
+use Rattle.occ_tool_run.proofs.OneAnswer.{Does, back, does}
+use Rattle.occ_tool_run.proofs.Taken.{AreOne, agree, as_taken}
+use Rattle.occ_tool_words.specs.Words.{Job, job_of, normalise, same}
+
+short : (text : Vec ℕ Global) → length text.items < 2 ^ 64
+short text = omega (arith, text.ok, text.small)
+
+-- a file whose normal text is the answer
+normal_of : (file : File) (a : Answer) → Takes First file [] IsNormalised a → status_of a ≡ 0 → IsTextOf file (text_of a)
+normal_of file a (refused f r e) h = let no : status_of a ≡ 3 = ap status_of e in absurd (omega (arith, no, h))
+normal_of file a (unusable n l f r e) h = let no : status_of a ≡ 3 = ap status_of e in absurd (omega (arith, no, h))
+normal_of file a (accepted n p r x) h =
+    let text : x.text.items ≡ text_of a = sym (ap text_of x.answer_is) in
+    record {
+      names = n;
+      program = p;
+      accepted = r;
+      normal = subst (IsNormalText n p.params (tree p.body)) text x.is;
+      small = subst (λ t. length t < 2 ^ 64) text (short x.text);
+    }
+
+-- a text that is neither refused nor misuses what it shares
+taken : (place : Side) (file : File) (old : Table) (R : Table → Program → Answer → Type 0) (a : Answer) (P : Type 0) → ((fault : ParseFault) → IsRefused file old fault → ⊥)
+    → ((new : Table) (line : ℕ) (fault : UsageFault) → IsUnusable file old new line fault → ⊥) → Takes place file old R a
+    → ((names : Table) (p : Program) → IsAccepted file old names p → R names p a → P) → P
+taken place file old R a P g m (refused f r e) next = absurd (g f r)
+taken place file old R a P g m (unusable n l f r e) next = absurd (m n l f r)
+taken place file old R a P g m (accepted n p r x) next = next n p r x
+
+one_order : (x y : Option (List ℕ)) → text_order x y ≡ Equal → x ≡ y
+one_order None None e = refl
+one_order None (Some y) e = absurd (let no : ⊥ = cc in no)
+one_order (Some x) None e = absurd (let no : ⊥ = cc in no)
+one_order (Some x) (Some y) e = ap Some (slice_cmp-IsAntisymmetric nat_cmp-IsAntisymmetric x y e)
+
+module _ (L : Laws) where
+  -- an accepted file isn't too long
+  kept_bytes : (file : File) (names : Table) (p : Program) (a : IsAccepted file [] names p) → short_bytes file ≡ Some a.bytes
+  kept_bytes file names p a = ap short_bytes a.there ∙ by (cases_Bool (nat_lt 65536 (length a.bytes)))
+    where
+      by : ((nat_lt 65536 (length a.bytes) ≡ true) ⊎ (nat_lt 65536 (length a.bytes) ≡ false)) → cond (nat_lt 65536 (length a.bytes)) None (Some a.bytes) ≡ Some a.bytes
+      by (inl e) = absurd (L.once.not_both a.bytes [] names p a.text.numbers _ a.text.read (too_long e))
+      by (inr e) = ap (λ long. cond long None (Some a.bytes)) e
+
+  taken_file : (place : Side) (file : File) (text : List ℕ) (x : IsTextOf file text) (old : Table) → IsDistinct old → (R : Table → Program → Answer → Type 0) (a : Answer) (P : Type 0)
+      → Takes place file old R a → ((names : Table) (p : Program) → IsAccepted file old names p → R names p a → P) → P
+  taken_file place file text x old d R a P h next = taken place file old R a P (no_refusal L file text x old d) (no_misuse L file text x old d) h next
+
+  left_distinct : (file : File) (names : Table) (p : Program) → IsAccepted file [] names p → IsDistinct names
+  left_distinct file names p r = L.distinct r.bytes [] names p.name p.params (tree p.body) r.text.numbers no_name_twice r.text.read
+
+  module _ (c d : File) (s t : List ℕ) (x : IsTextOf c s) (y : IsTextOf d t) (a : Answer) where
+    in_order : TakesBoth Less WhetherSame c d a → Told L s t a
+    in_order h =
+        taken_file First c s x [] no_name_twice (λ m p. Takes Second d m (Compares p)) a (Told L s t a) h
+        (λ m p r k. taken_file Second d t y m (left_distinct c m p r) (Compares p) a (Told L s t a) k
+        (λ n q u z. told L n p q s t a r.text.typed u.text.typed x.small y.small (both L c d s t x y m n p q r u) z))
+
+    turned : Turned WhetherSame c d a → Told L s t a
+    turned (refused_behind f r h) = absurd (no_refusal L d t y [] no_name_twice f r)
+    turned (unusable_behind m l f r h) = absurd (no_misuse L d t y [] no_name_twice m l f r)
+    turned (accepted_behind m q r h) =
+        taken_file First c s x m (left_distinct d m q r) (λ n p. Compares p n q) a (Told L s t a) h
+        (λ n p u z.
+        let b = both L d c t s y x m n q p r u in
+        told L n p q s t a u.text.typed r.text.typed x.small y.small (record { distinct = b.distinct; first = b.second; second = b.first }) z)
+
+    one_file : short_bytes c ≡ short_bytes d → TakesBoth Equal WhetherSame c d a → Told L s t a
+    one_file e h =
+        taken_file First c s x [] no_name_twice (λ n p. Compares p n p) a (Told L s t a) h
+        (λ n p r z.
+        let bytes : y.accepted.bytes ≡ r.bytes =
+        let k : Some y.accepted.bytes ≡ Some r.bytes = sym (kept_bytes d y.names y.program y.accepted) ∙ (sym e ∙ kept_bytes c n p r) in cc in
+        let other : IsAccepted c [] y.names y.program =
+        record { bytes = r.bytes; there = r.there; text = subst (λ u. IsAcceptedText u [] y.names y.program) bytes y.accepted.text } in
+        let mine : AreOne n x.names p x.program = agree L.once c [] (as_taken n p) (as_taken x.names x.program) r x.accepted in
+        let theirs : AreOne n y.names p y.program = agree L.once c [] (as_taken n p) (as_taken y.names y.program) r other in
+        told L n p p s t a r.text.typed r.text.typed x.small y.small (record {
+          distinct = left_distinct c n p r;
+          first = back (λ ns ps u. IsNormalText ns ps u s) n x.names p.params x.program.params (tree p.body) (tree x.program.body) mine.names mine.params mine.body x.normal;
+          second = back (λ ns ps u. IsNormalText ns ps u t) n y.names p.params y.program.params (tree p.body) (tree y.program.body) theirs.names theirs.params theirs.body y.normal;
+        }) z)
+
+    ways : (order : Ordering) → order_of c d ≡ order → TakesBoth order WhetherSame c d a → Told L s t a
+    ways Less e h = in_order h
+    ways Equal e h = one_file (one_order (short_bytes c) (short_bytes d) e) h
+    ways Greater e h = turned h
+
+    settled : Settles WhetherSame c d a → Told L s t a
+    settled h = ways (order_of c d) refl h.judged
+
+  asked : (files : Files) (words : List (List ℕ)) (job : Job) (status : ℕ) (text : List ℕ) → job_of words ≡ Some job → (h : Answers files words status text) → Does files (Some job) h.answer
+  asked files words job status text e h = subst (λ j. Does files j h.answer) e (does files words h.answer h.is)
+
+  pub files_apart : (files : Files) (words again pair : List (List ℕ)) (first second : List ℕ) (status : ℕ) (x y z : List ℕ) → job_of words ≡ Some (normalise first)
+      → Answers files words 0 x → job_of again ≡ Some (normalise second) → Answers files again 0 y → job_of pair ≡ Some (same first second)
+      → Answers files pair status z → (x ≡ y) ↔ (z ≡ codes "SAME\n")
+  files_apart files words again pair first second status x y z jx ax jy ay jz az =
+      let one = normal_of (files first) ax.answer (asked files words (normalise first) 0 x jx ax) (sym ax.status_is) in
+      let two = normal_of (files second) ay.answer (asked files again (normalise second) 0 y jy ay) (sym ay.status_is) in
+      let law = settled (files first) (files second) (text_of ax.answer) (text_of ay.answer) one two az.answer
+      (asked files pair (same first second) status z jz az) in (
+        λ e. az.text_is ∙ law.0 (sym ax.text_is ∙ (e ∙ ay.text_is)),
+        λ e. ax.text_is ∙ (law.1 (sym az.text_is ∙ e) ∙ sym ay.text_is),
+      )
