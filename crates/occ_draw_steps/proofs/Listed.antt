@@ -110,8 +110,3 @@ module _ (S : List (Name × Kind)) where
   unfolding steps_text
   told_whole p n steps i text all past is =
       sym is ∙ ap (λ l. with_front text (steps_text S p n (map shown_step l))) (drop_all i steps past) ∙ ap Ok (append-nil text)
-
--- nothing in front of a list is the list
-pub nothing_in_front : (text : List ℕ) (list : Result (List ℕ) (ℕ × Lack)) → text ≡ [] → with_front text list ≡ list
-nothing_in_front text (Ok l) e = ap (λ t. Ok (t ++ l)) e
-nothing_in_front text (Err found) e = refl

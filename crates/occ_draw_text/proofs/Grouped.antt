@@ -2,7 +2,7 @@
 use Rattle.std.proofs.Common.{◌≡◌, ◌<◌, ◌≤◌, ◌+◌, ◌==◌, ℕ, cond, List, [], ◌∷◌, ◌++◌, get_or, take, set, replicate, length, inl, inr, refl, sym, ap, subst, ◌∙◌, arith}
 use Rattle.std.specs.Prelude.{◌⊎◌, ◌≢◌, ◌-◌}
 use Rattle.std.proofs.lemmas.Bool.{cases_eq, cond-false, cond-true, eq-eqb, ne_eqb}
-use Rattle.std.proofs.lemmas.List.{append-nil, append_assoc, get_or-replicate, get_or-set_other, get_or-set_same, get_or_default, length-replicate, length-set, length-take-le, set_past, take_all, take_more}
+use Rattle.std.proofs.lemmas.List.{append-nil, append_assoc, get_or-replicate, get_or-set_other, get_or-set_same, get_or_default, length-replicate, length-set, length-take-le, take_all, take_more}
 use Rattle.occ_base.specs.declared.names.Name.{Name}
 use Rattle.occ_syntax.specs.declared.scope.Kind.{Kind}
 use Rattle.occ_nform_table.specs.Texts.{state_at_place}
@@ -11,16 +11,6 @@ use Rattle.occ_draw_text.specs.Pictures.{entries_text, entry_text, states_to}
 use Rattle.occ_draw_text.proofs.Written.{entries_end, entries_step}
 
 -- ---- a group with a state more
-
--- the group of the row, found and exchanged
-pub state_set : (groups : Groups) (row : ℕ) (group longer : List (List (Name × ℕ))) (state : List (Name × ℕ)) → row < length groups
-    → group ≡ get_or groups row group → longer ≡ group ++ state ∷ [] → set groups row longer ≡ with_state groups row state
-state_set groups row group longer state h at is =
-    ap (set groups row) (is ∙ ap (λ g. g ++ state ∷ []) (at ∙ get_or_default groups row group [] h))
-
--- no group is of the row
-pub state_past : (groups : Groups) (row : ℕ) (state : List (Name × ℕ)) → length groups ≤ row → groups ≡ with_state groups row state
-state_past groups row state past = sym (set_past groups row (get_or groups row [] ++ state ∷ []) past)
 
 group_of : (groups : Groups) (row n : ℕ) (state : List (Name × ℕ)) → n < length groups
     → get_or (with_state groups row state) n [] ≡ get_or groups n [] ++ cond (row == n) (state ∷ []) []
