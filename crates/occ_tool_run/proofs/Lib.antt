@@ -1,4 +1,5 @@
 pub mod Judging
+pub mod Measured
 pub mod Pairs
 pub mod Leaving
 pub mod Once

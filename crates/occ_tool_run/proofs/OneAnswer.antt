@@ -37,7 +37,7 @@ use Rattle.occ_tool_run.specs.Runs.{IsRun, too_long_schedule, faulty_schedule, f
 use Rattle.occ_tool_run.specs.Transforms.{IsExpandedTo, IsTransformed}
 use Rattle.occ_tool_run.specs.Texts.{status_of, text_of}
 use Rattle.occ_tool_run.specs.Accepts.{IsAccepted}
-use Rattle.occ_tool_run.specs.Answers.{Takes, TakesBoth, Turned, refused_behind, unusable_behind, accepted_behind, Compares, apart, compared, Refines, other, allowed, Replies, Settles, IsSought, Seeks, IsNormalised, Normalises, IsChecked, too_long_table, faulty_table, normal_table, Checks}
+use Rattle.occ_tool_run.specs.Answers.{Takes, accepted, TakesBoth, Turned, refused_behind, unusable_behind, accepted_behind, Compares, apart, compared, Refines, other, allowed, Replies, Settles, IsSought, Seeks, IsNormalised, Normalises, IsChecked, too_long_table, faulty_table, normal_table, Checks}
 use Rattle.occ_tool_run.specs.Answers.{IsJudged, too_long_claim, faulty_claim, judged_claim, Judges, IsStressed, Stresses, IsAnswer, usage, comparison, normalisation, checking, membership, stressing, refinement, seeking, replaying, running, transforming, expanding, normalisation_by_laws, Answers, Steps, Transforms, Expands, Derives, IsDetermined}
 use Rattle.occ_tool_run.proofs.Once.{AreAlike, IsOnce, IsOneText, alike, same_bytes}
 use Rattle.occ_tool_run.proofs.OneReplay.{IsOneScript, replays_alike}
@@ -206,6 +206,9 @@ module _ (once : IsOnce) (only : IsOneVerdict) (single : IsOneText) (scripts : I
       let e : f.text.items ≡ g.text.items = one_text file m p f.text.items g.text.items x (short f.text) (short g.text) f.is (back P m n p.params q.params (tree p.body) (tree q.body) d.names d.params d.body g.is) in
       record { status = ap status_of f.answer_is ∙ sym (ap status_of g.answer_is); text = ap text_of f.answer_is ∙ e ∙ sym (ap text_of g.answer_is) }
 
+  stress_taken : (shape : Shape) (stages : ℕ) (a : Answer) → Stresses shape stages a → Takes First (Some (program_text shape stages)) [] (IsStressed shape stages) a
+  stress_taken shape stages a s = accepted s.names s.program (record { bytes = program_text shape stages; there = refl; text = s.text }) s.stressed
+
   stressed_alike : (file : Option (List ℕ)) (shape : Shape) (stages : ℕ) (m n : List (List ℕ)) (p q : Program) (a b : Answer) → IsAccepted file [] m p → AreOne m n p q
       → IsStressed shape stages m p a → IsStressed shape stages n q b → AreAlike a b
   stressed_alike file shape stages m n p q a b x d f g =
@@ -311,7 +314,8 @@ module _ (once : IsOnce) (only : IsOneVerdict) (single : IsOneText) (scripts : I
       takes_alike once First (files x) [] (IsExpandedTo path) (IsExpandedTo path) a b (λ m n p q y d. expanded_alike outcome path m n p q d a b) s t
   does_alike files (Some (belongs x y)) a b fixed s t = judges_alike (files x) (files y) a b s t
   does_alike files (Some (stress shape n)) a b fixed s t =
-      takes_alike once First (Some (program_text shape n)) [] (IsStressed shape n) (IsStressed shape n) a b (λ j k p q y d. stressed_alike (Some (program_text shape n)) shape n j k p q a b y d) s t
+      takes_alike once First (Some (program_text shape n)) [] (IsStressed shape n) (IsStressed shape n) a b (λ j k p q y d. stressed_alike (Some (program_text shape n)) shape n j k p q a b y d)
+      (stress_taken shape n a s) (stress_taken shape n b t)
   does_alike files (Some (derive x)) a b fixed s t = absurd fixed
 
   pub one_answer : (files : Files) (words : List (List ℕ)) (s t : ℕ) (a b : List ℕ) → IsDetermined (job_of words) → Answers files words s a → Answers files words t b → (s ≡ t) × (a ≡ b)

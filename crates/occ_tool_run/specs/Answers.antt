@@ -28,7 +28,7 @@ use Rattle.occ_tool_run.specs.declared.answer.Answer.{Answer}
 use Rattle.occ_tool_run.specs.declared.answer.Answer.TheVariants.{Usage, Refused, Unusable, TooLong, RefusedTable, RefusedClaim, InterfacesDiffer, Compared, Written, Counted, Member, Stressed, Allowed, Sought}
 use Rattle.occ_tool_run.specs.declared.judge.Question.{Question}
 use Rattle.occ_tool_run.specs.declared.judge.Question.TheVariants.{WhetherSame, WhetherRefined}
-use Rattle.occ_tool_run.specs.Accepts.{IsAccepted, IsRefused, IsUnusable, IsThere}
+use Rattle.occ_tool_run.specs.Accepts.{IsAccepted, IsAcceptedText, IsRefused, IsUnusable, IsThere}
 use Rattle.occ_tool_run.specs.Derivations.{Replays}
 use Rattle.occ_tool_run.specs.Derived.{IsDerived}
 use Rattle.occ_tool_run.specs.Runs.{IsRun}
@@ -174,9 +174,12 @@ pub record IsStressed (shape : Shape) (stages : ℕ) (names : List (List ℕ)) (
   pub has : HasCounts names p.params (tree p.body) counts
   pub answer_is : answer ≡ Stressed shape stages counts
 
--- The answer to the order to measure a generated program: its text goes through all rules, as the text of a file.
-abbrev pub Stresses : Shape → ℕ → Answer → Type 0
-Stresses shape stages answer = Takes First (Some (program_text shape stages)) [] (IsStressed shape stages) answer
+-- The answer to the order to measure a generated program, whose text is that of an accepted one.
+pub record Stresses (shape : Shape) (stages : ℕ) (answer : Answer) : Type 0 where
+  pub names : List (List ℕ)
+  pub program : Program
+  pub text : IsAcceptedText (program_text shape stages) [] names program
+  pub stressed : IsStressed shape stages names program answer
 
 -- ---- command lines
 

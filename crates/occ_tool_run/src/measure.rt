@@ -1,22 +1,20 @@
-ghost use Rattle.std.specs.Prelude.{◌≡◌, ◌≢◌, ◌≤◌, Some, IfOk};
-ghost use Rattle.occ_gen.specs.Programs.{program_text};
+ghost use Rattle.std.specs.Prelude.{◌≢◌, ◌≤◌, Some, IfOk};
 ghost use Rattle.occ_tool_run.specs.Files.{IsLoaded, IsShort, most_bytes};
 ghost use Rattle.occ_tool_run.specs.Judged.{HasInterface};
 ghost use Rattle.occ_tool_run.specs.Texts.{IsPrintable};
 ghost use Rattle.occ_tool_run.specs.Answers.{IsStressed, Stresses};
 
-use crate::accept::{accept_first, refused};
+use crate::accept::{Refusal, accept_first};
 use crate::answer::Answer;
 use crate::load::{Loaded, MOST_BYTES};
 use occ_base::{Memory, Names};
-use occ_behaviour::Side;
 use occ_gen::{GenFault, Shape, generate};
+use occ_gen_accepted::generated_programs_are_never_refused;
 use occ_nform_program::measured;
 use occ_usage::Accepted;
 use std::alloc::Global;
 
-/// The answer to the order to measure a generated program of that many stages, from 1 to 48. Its text goes through all rules,
-/// as the text of a file does.
+/// The answer to the order to measure a generated program of that many stages, from 1 to 48, whose text is accepted.
 pub fn stress(alloc: Global, shape: Shape, stages: u64) -> Result<Answer, Memory>
     requires some { 1 ≤ stages }
     requires most { stages ≤ 48 }
@@ -31,9 +29,12 @@ pub fn stress(alloc: Global, shape: Shape, stages: u64) -> Result<Answer, Memory
     };
     let loaded = as_loaded(text);
     let mut names = Names::new(alloc);
+    generated_programs_are_never_refused();
     match accept_first(alloc, &mut names, &loaded) {
         Ok(accepted) => figures(alloc, &names, &accepted, shape, stages),
-        Err(refusal) => refused(names, Side::First, refusal),
+        Err(Refusal::Memory) => Err(Memory),
+        Err(Refusal::Text(_)) => unreachable!(),
+        Err(Refusal::Usage { .. }) => unreachable!(),
     }
 }
 

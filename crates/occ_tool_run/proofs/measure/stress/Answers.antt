@@ -1,16 +1,24 @@
-use Rattle.occ_gen.specs.Programs.{program_text}
-use Rattle.occ_tool_run.specs.Answers.{IsStressed}
-use Rattle.occ_tool_run.proofs.Judging.{of_text, refuse, take}
+use Rattle.std.proofs.Common.{sym, ◌∙◌}
+use Rattle.occ_tool_run.proofs.Measured.{refusal_absurd, stressed_from, text_other, usage_other}
 use Rattle.occ_tool_run.proofs.measure.stress.Goals as goal
 
 pub returns-in-Ok-accept_first-clause-stresses : goal.returns-in-Ok-accept_first-clause-stresses
 returns-in-Ok-accept_first-clause-stresses c =
-    of_text c.figures.result c.as_loaded-loaded.result c.in-Ok.text.items (program_text c.args.shape c.args.stages) (IsStressed c.args.shape c.args.stages) c.in-Ok.ensures.text
-    c.as_loaded-loaded.ensures.loaded
-    (take c.figures.result c.as_loaded-loaded.result _ c.in-Ok-accept_first.accepted.program (IsStressed c.args.shape c.args.stages) c.in-Ok-accept_first.ensures.accepted c.figures.ensures.stressed)
+    stressed_from c.args.shape c.args.stages c.figures.result c.as_loaded-loaded.result _ c.in-Ok-accept_first.accepted.program c.in-Ok.ensures.text
+    c.as_loaded-loaded.ensures.loaded c.in-Ok-accept_first.ensures.accepted c.figures.ensures.stressed
 
-pub returns-clause-stresses : goal.returns-clause-stresses
-returns-clause-stresses c =
-    of_text c.refused.result c.as_loaded-loaded.result c.in-Ok.text.items (program_text c.args.shape c.args.stages) (IsStressed c.args.shape c.args.stages) c.in-Ok.ensures.text
-    c.as_loaded-loaded.ensures.loaded
-    (refuse c.refused.result c.as_loaded-loaded.result _ c.in-Err.refusal (IsStressed c.args.shape c.args.stages) c.refused.ensures.refused c.in-Err.ensures.refused)
+pub unreachable-requires-in-Err-Text : goal.unreachable-requires-in-Err-Text
+unreachable-requires-in-Err-Text c =
+    let law = c.generated_programs_are_never_refused.ensures in
+    refusal_absurd c.args.shape c.args.stages c.as_loaded-loaded.result _ c.in-Err-Text.field-0 c.in-Ok.ensures.text c.as_loaded-loaded.ensures.loaded
+    c.in-Err-Text.ensures.refused (λ e. text_other c.in-Err-Text.field-0-0 (sym c.in-Err-Text.field-0-is ∙ e))
+    (λ fault r. law.read c.args.shape c.args.stages fault c.requires.some c.requires.most r)
+    (λ new program lines r. law.used c.args.shape c.args.stages new program lines c.requires.some c.requires.most r)
+
+pub unreachable-requires-in-Err-Usage : goal.unreachable-requires-in-Err-Usage
+unreachable-requires-in-Err-Usage c =
+    let law = c.generated_programs_are_never_refused.ensures in
+    refusal_absurd c.args.shape c.args.stages c.as_loaded-loaded.result _ c.in-Err-Usage.field-0 c.in-Ok.ensures.text c.as_loaded-loaded.ensures.loaded
+    c.in-Err-Usage.ensures.refused (λ e. usage_other c.in-Err-Usage.field-0-0 c.in-Err-Usage.field-0-1 (sym c.in-Err-Usage.field-0-is ∙ e))
+    (λ fault r. law.read c.args.shape c.args.stages fault c.requires.some c.requires.most r)
+    (λ new program lines r. law.used c.args.shape c.args.stages new program lines c.requires.some c.requires.most r)

@@ -1,0 +1,10 @@
+mod Chains
+mod Spoken
+mod Same
+mod Tables
+mod Texts
+mod Lists
+mod Usage
+mod Checked
+mod Read
+mod Judged
