@@ -1,0 +1,10 @@
+pub mod Places
+pub mod Arriving
+pub mod Noting
+pub mod Scanning
+pub mod Deciding
+pub mod Tracing
+pub mod Written
+pub mod Showing
+pub mod Telling
+pub mod Inside
