@@ -1,11 +1,10 @@
 -- A script that was printed is joined.
-use Rattle.std.proofs.Common.{◌≡◌, ◌≢◌, ℕ, ◌≤◌, Bool, true, nat_le, List, [], ◌∷◌, length, Option, None, Some, refl, sym, ap, subst, ◌∙◌, arith}
+use Rattle.std.proofs.Common.{◌≡◌, ◌≢◌, ℕ, ◌≤◌, true, List, [], ◌∷◌, length, Option, None, Some, refl, sym, ap, subst, ◌∙◌, arith}
 use Rattle.std.specs.Prelude.{codes}
 use Rattle.std.specs.List.{AllByRecursion}
 use Rattle.std.proofs.lemmas.Bool.{le-leb}
 use Rattle.occ_base.specs.Names.{with_text}
 use Rattle.occ_base.specs.declared.names.Name.{Name}
-use Rattle.occ_behaviour.specs.declared.behaviour.Side.TheVariants.{First, Second}
 use Rattle.occ_engine.specs.Moved.{moves_of}
 use Rattle.occ_engine_known.specs.Known.{NamesAreBelow}
 use Rattle.occ_engine_rules.specs.Moves.{Moves}
@@ -23,7 +22,7 @@ use Rattle.occ_print_back.specs.Back.{deepest}
 use Rattle.occ_print_back.specs.Placed.{IsTable}
 use Rattle.occ_print_part_back.specs.Tables.{Grows}
 use Rattle.occ_prove_joined.proofs.Replayed.{IsDerived, OneLaw, replay_joined}
-use Rattle.occ_prove_joined.proofs.Told.{refusing, settled}
+use Rattle.occ_prove_joined.proofs.Told.{settled}
 use Rattle.occ_prove_joined.specs.Joined.{IsJoined}
 use Rattle.occ_prove_run.specs.declared.proof.Proof.{Proof}
 use Rattle.occ_prove_run.specs.Answers.{Answers, AnswersNames}
@@ -48,10 +47,8 @@ use Rattle.occ_tool_run.specs.Accepts.{IsAccepted}
 use Rattle.occ_tool_run.specs.Answers.{Answers as ToolAnswers, IsAnswer}
 use Rattle.occ_tool_run.specs.declared.answer.Answer.{Answer}
 use Rattle.occ_tool_run.specs.Derivations.{Replays}
-use Rattle.occ_tool_run.specs.Derived.{AreSteps}
 use Rattle.occ_tool_run.specs.Files.{Files, most_script_bytes}
 use Rattle.occ_tool_run.specs.Texts.{figure_text, status_of, text_of}
-use Rattle.occ_tool_run.specs.Transforms.{IsScriptOf}
 use Rattle.occ_tool_words.specs.Words.{Job, job_of, replay}
 
 abbrev Table : Type 0

@@ -1,5 +1,5 @@
 -- What `same` says with status 0.
-use Rattle.std.proofs.Common.{◌≡◌, ◌∙◌, ℕ, ◌≤◌, List, [], Option, sym, ap, refl, codes, arith}
+use Rattle.std.proofs.Common.{◌≡◌, ℕ, ◌≤◌, List, [], Option, ap, codes, arith}
 use Rattle.std.specs.declared.cmp.Ordering.{Ordering}
 use Rattle.std.specs.declared.cmp.Ordering.TheVariants.{Less, Equal, Greater}
 use Rattle.occ_behaviour.specs.declared.behaviour.Side.{Side}
@@ -26,7 +26,7 @@ of_verdict names Same answer e z = ap text_of e
 of_verdict names (Differ b side) answer e z = absurd (refusing answer 1 z (ap status_of e) (omega arith))
 
 compares : (p : Program) (names : List (List ℕ)) (q : Program) (answer : Answer) → Compares p names q answer → Says answer
-compares p names q answer (apart no e) z = absurd (refusing answer 7 z (ap status_of e) (omega arith))
+compares p names q answer (apart others e) z = absurd (refusing answer 7 z (ap status_of e) (omega arith))
 compares p names q answer (compared v is e) z = of_verdict names v answer e z
 
 takes : (place : Side) (file : Option (List ℕ)) (old : List (List ℕ)) (rest : List (List ℕ) → Program → Answer → Type 0) (answer : Answer)

@@ -1,13 +1,12 @@
 -- What is left behind: what was written.
-use Rattle.std.proofs.Common.{◌≡◌, ℕ, List, Option, Some, None, Result, IfSome, IfOk, refl, sym, ap, ◌∙◌, subst}
+use Rattle.std.proofs.Common.{◌≡◌, ℕ, List, Option, Some, None, IfSome, refl, ap, ◌∙◌, subst}
 use Rattle.occ_desk.specs.Desk.{with_more, IsCutShort}
 use Rattle.occ_prove_run.specs.declared.proof.Proof.{Proof}
 use Rattle.occ_prove_run.specs.Answers.{Answers, AnswersNames, Ran, answered, cut_short}
 use Rattle.occ_prove_run.specs.Proofs.{Proves, status_of_proof, text_of_proof}
-use Rattle.occ_prove_run.specs.Words.{file_words, names_in}
+use Rattle.occ_prove_run.specs.Words.{file_words}
 use Rattle.occ_tool_run.specs.declared.load.Loaded.{Loaded}
-use Rattle.occ_tool_run.specs.declared.load.Stop.{Stop}
-use Rattle.occ_tool_run.specs.Files.{AsksFor, Files, IsLoaded, most_bytes}
+use Rattle.occ_tool_run.specs.Files.{Files, IsLoaded, most_bytes}
 
 pub answers_with : (told : Option Files) (words : List (List ℕ)) (proof : Proof) (status : ℕ) (text : List ℕ)
     → IfSome told (λ files. AnswersNames files (file_words words) proof) → status ≡ status_of_proof proof → text ≡ text_of_proof proof
@@ -29,19 +28,6 @@ wrote_front (Some files) words whole text bytes old between new a b e n =
     let P : Option (List ℕ) → Type 0 = λ o. IsCutShort o new text in
     let Q : List ℕ → Type 0 = λ t. IsCutShort between new t in
     cut_short refl whole text a (subst P b (subst Q e n))
-
--- the two words that name files
-abbrev Wanted : Type 0
-Wanted = Option (List ℕ × List ℕ)
-
-pub found_answer : (told : Option Files) (wanted : Wanted) (names : List ℕ × List ℕ) (r : Result Proof Stop) → wanted ≡ Some names
-    → IfOk r (λ proof. IfSome told (λ files. AnswersNames files (Some names) proof)) → IfOk r (λ proof. IfSome told (λ files. AnswersNames files wanted proof))
-found_answer told wanted names r e h =
-    let P : Wanted → Type 0 = λ w. IfOk r (λ proof. IfSome told (λ files. AnswersNames files w proof)) in subst P (sym e) h
-
-pub found_asked : (wanted : Wanted) (names : List ℕ × List ℕ) (r : Result Proof Stop) (old new : Option (List (List ℕ))) → wanted ≡ Some names
-    → AsksFor old new (names_in (Some names)) r → AsksFor old new (names_in wanted) r
-found_asked wanted names r old new e h = let P : Wanted → Type 0 = λ w. AsksFor old new (names_in w) r in subst P (sym e) h
 
 -- two files that were read
 pub both_proved : (told : Option Files) (a b : List ℕ) (one two : Loaded) (proof : Proof) → IfSome told (λ files. IsLoaded most_bytes (files a) one)

@@ -4,19 +4,17 @@ use Rattle.std.specs.Prelude.{IfNone, IfSome, OnOk}
 use Rattle.std.proofs.lemmas.Bool.{false≢true}
 use Rattle.std.specs.List.{AllByRecursion}
 use Rattle.occ_base.specs.declared.memory.Memory.{Memory}
-use Rattle.occ_behaviour.specs.declared.behaviour.Side.TheVariants.{First, Second}
+use Rattle.occ_behaviour.specs.declared.behaviour.Side.TheVariants.{Second}
 use Rattle.occ_derive.specs.Derived.{IsDerivation}
 use Rattle.occ_derive.specs.declared.fault.DeriveFault.{DeriveFault}
 use Rattle.occ_derive.specs.declared.fault.DeriveFault.TheVariants as fault
 use Rattle.occ_engine.specs.declared.outcome.Outcome.{Outcome}
 use Rattle.occ_engine.specs.Moved.{moves_of}
-use Rattle.occ_engine.specs.Outcomes.{IsOutcome, IsTabled}
-use Rattle.occ_engine_rules.specs.Moves.{Moves}
+use Rattle.occ_engine.specs.Outcomes.{IsTabled}
 use Rattle.occ_fresh.proofs.Growing.{grows_not, grows_on}
 use Rattle.occ_fresh.specs.Growth.{GrowsByNames}
 use Rattle.occ_nform_program.specs.Tabled.{IsTableOf}
 use Rattle.occ_nform_table.specs.declared.table.Table.{Table}
-use Rattle.occ_print.specs.Known.{ProgramIsKnown}
 use Rattle.occ_print.specs.Spelled.{program_text}
 use Rattle.occ_prove_run.specs.declared.pair.Pair.{Pair}
 use Rattle.occ_prove_run.specs.declared.proof.Proof.{Proof}
@@ -24,7 +22,7 @@ use Rattle.occ_prove_run.specs.declared.proof.Proof.TheVariants.{Told}
 use Rattle.occ_prove_run.specs.Normal.{IsLong, IsShort, IsToNormal, IsWide}
 use Rattle.occ_prove_run.specs.Pairs.{AreApartAll, IsPairOf}
 use Rattle.occ_prove_run.specs.Paths.{HasShortPath}
-use Rattle.occ_prove_run.specs.Proofs.{IsProved, IsSame, IsStuck, Proves, as_same, by_laws, long_first, long_second, proved, unfinished_first, unfinished_second}
+use Rattle.occ_prove_run.specs.Proofs.{IsProved, IsSame, IsStuck, Proves, as_same, by_laws, long_second, proved, unfinished_second}
 use Rattle.occ_prove_steps.specs.Joined.{AreWritable, IsProof, IsTooWide}
 use Rattle.occ_script_write.specs.declared.writing.Done.{Done}
 use Rattle.occ_script_write.specs.Text.{line, steps_text, text_of_program}
@@ -43,7 +41,6 @@ use Rattle.occ_tool_run.specs.declared.load.Loaded.{Loaded}
 use Rattle.occ_tool_run.specs.Answers.{Settles}
 use Rattle.occ_tool_run.specs.Derived.{IsNormalBody}
 use Rattle.occ_tool_run.specs.Files.{IsLoaded, most_bytes}
-use Rattle.occ_tool_run.specs.Transformed.{CanBeWritten}
 use Rattle.occ_tool_run.specs.Transforms.{IsScriptOf}
 
 -- what is found, or isn't
@@ -121,13 +118,6 @@ pub is_wide : (names mid : List (List ℕ)) (q : Program) (o : Outcome) → Grow
 is_wide names mid q o g h w = record { new = mid; grown = g; body = tree o.to.body; is = h.is; moves = moves_of o.steps; led = h.outcome_is.moves; wide = w }
 
 -- a normal program isn't derived
-pub stuck_there : (r : Result Proof Memory) (f : DeriveFault) (names : List (List ℕ)) (p q : Program) → IfOk r (IsStuck First f)
-    → (f ≡ fault.Long → IsLong names p) → (f ≡ fault.Unfinished → IsShort names p) → IfOk r (IsProved names p q)
-stuck_there (Err m) f names p q s long short = tt
-stuck_there (Ok proof) fault.Long names p q s long short = long_first (long refl) s
-stuck_there (Ok proof) fault.Unfinished names p q s long short = unfinished_first (short refl) s
-stuck_there (Ok proof) fault.Memory names p q s long short = absurd s
-
 pub stuck_back : (r : Result Proof Memory) (f : DeriveFault) (names mid : List (List ℕ)) (p q : Program) → IfOk r (IsStuck Second f) → IsShort names p
     → GrowsByNames names mid → (f ≡ fault.Long → IsLong mid q) → (f ≡ fault.Unfinished → IsShort mid q) → IfOk r (IsProved names p q)
 stuck_back (Err m) f names mid p q s few g long short = tt
@@ -149,25 +139,6 @@ steps_said [] t h = tt
 steps_said (s ∷ steps) t h = (record { low = t.0.low; high = t.0.high; path = h.0 }, steps_said steps t.1 h.1)
 
 -- ---- the script to a copy of a program
-
-pub copied_outcome : (left right to : Program) (steps : List Done) → to.name ≡ right.name → to.params ≡ right.params → tree to.body ≡ tree right.body → IsProof left right steps
-    → IsOutcome left (record { steps = steps; to = to })
-copied_outcome left right to steps name params body is = record {
-  name = name ∙ is.name;
-  params = params ∙ is.params;
-  moves = subst (Moves left.params (tree left.body) (moves_of steps)) (sym body) is.moves;
-  tabled = is.tabled;
-}
-
-pub copied_written : (names : List (List ℕ)) (left right to : Program) (steps : List Done) → to.name ≡ right.name → to.params ≡ right.params → tree to.body ≡ tree right.body
-    → AreWritable names steps → ProgramIsKnown names left.name.0 left.params (tree left.body) → ProgramIsKnown names right.name.0 right.params (tree right.body)
-    → CanBeWritten names left (record { steps = steps; to = to })
-copied_written names left right to steps name params body w l r = record {
-  first = l;
-  steps = w;
-  last = subst (λ n. ProgramIsKnown names n.0 to.params (tree to.body)) (sym name)
-      (subst (λ ps. ProgramIsKnown names right.name.0 ps (tree to.body)) (sym params) (subst (ProgramIsKnown names right.name.0 right.params) (sym body) r));
-}
 
 pub copied_script : (r : Result Answer Memory) (names : List (List ℕ)) (left right to : Program) (steps : List Done) → to.name ≡ right.name → to.params ≡ right.params
     → tree to.body ≡ tree right.body → IfOk r (IsScriptOf names left steps to) → IfOk r (IsScriptOf names left steps right)

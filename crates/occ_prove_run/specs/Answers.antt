@@ -25,7 +25,8 @@ pub record Answers (files : Files) (words : List (List ℕ)) (status : ℕ) (tex
 -- memory ran out.
 pub data Ran (files : Files) (words : List (List ℕ)) (status : ℕ) (old new : Option (List ℕ)) : Type 0 where
   answered : (text : List ℕ) → Answers files words status text → new ≡ with_more old text → Ran files words status old new
-  cut_short : status ≡ 5 → (whole : ℕ) (text : List ℕ) → Answers files words whole text → IsCutShort old new text → Ran files words status old new
+  cut_short : status ≡ 5 → (whole : ℕ) (text : List ℕ) → Answers files words whole text → IsCutShort old new text
+      → Ran files words status old new
   unread : status ≡ 4 → new ≡ old → Ran files words status old new
   no_memory : status ≡ 6 → new ≡ old → Ran files words status old new
 

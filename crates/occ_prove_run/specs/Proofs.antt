@@ -25,9 +25,9 @@ use Rattle.occ_tool_run.specs.Texts.{refusal_text, status_of, text_of}
 use Rattle.occ_tool_run.specs.Transforms.{IsScriptOf}
 
 -- What two accepted programs of one header are answered with, which mean the same. The normal program of one has more than 4,096
--- controls: the first one's is looked at first. Or it has no more, and no derivation of it was found; for the second that is also said where
--- its derivation doesn't end as the first one's does. Or steps that lead from the second to its normal program can't be undone. Or steps lead
--- from the one program to the other, each a move by a law of the table, and the answer is the script that says so.
+-- controls: the first one's is looked at first. Or it has no more, and no derivation of it was found; for the second that is also said
+-- where its derivation doesn't end as the first one's does. Or steps that lead from the second to its normal program can't be undone. Or
+-- steps lead from the one program to the other, each a move by a law of the table, and the answer is the script that says so.
 pub data IsProved (names : List (List ℕ)) (p q : Program) (proof : Proof) : Type 0 where
   long_first : IsLong names p → proof ≡ Long First → IsProved names p q proof
   unfinished_first : IsShort names p → proof ≡ Unfinished First → IsProved names p q proof
@@ -35,8 +35,8 @@ pub data IsProved (names : List (List ℕ)) (p q : Program) (proof : Proof) : Ty
   unfinished_second : IsShort names p → IsShort names q → proof ≡ Unfinished Second → IsProved names p q proof
   too_wide : IsShort names p → IsShort names q → IsWide names q → proof ≡ Wide → IsProved names p q proof
   proved : (new : List (List ℕ)) (steps : List Done) (answer : Answer) → IsShort names p → IsShort names q
-      → Moves p.params (tree p.body) (moves_of steps) (tree q.body) → AreSteps names new steps → IsScriptOf new p steps q answer → proof ≡ Told answer
-      → IsProved names p q proof
+      → Moves p.params (tree p.body) (moves_of steps) (tree q.body) → AreSteps names new steps → IsScriptOf new p steps q answer
+      → proof ≡ Told answer → IsProved names p q proof
 
 -- the answer where a normal program isn't derived
 abbrev pub IsStuck : Side → DeriveFault → Proof → Type 0
@@ -50,12 +50,14 @@ IsSame answer = (names : List (List ℕ)) × (answer ≡ Compared names Same)
 
 -- Of two files, of which the first is read first, one is refused, or the headers of their programs differ.
 abbrev pub AreApart : Option (List ℕ) → Option (List ℕ) → Type 0
-AreApart one two = (answer : Answer) × Takes First one [] (λ between p. Takes Second two between (λ names q a. HaveOneHeader p q → ⊥)) answer
+AreApart one two =
+    (answer : Answer) × Takes First one [] (λ between p. Takes Second two between (λ names q a. HaveOneHeader p q → ⊥)) answer
 
 -- What two files are answered with: where their programs have one header and mean the same, whether steps lead from the one to the
 -- other; else what `same` says of them.
 pub data Proves (one two : Option (List ℕ)) (proof : Proof) : Type 0 where
-  as_same : (answer : Answer) → Settles WhetherSame one two answer → (IsSame answer → AreApart one two) → proof ≡ Told answer → Proves one two proof
+  as_same : (answer : Answer) → Settles WhetherSame one two answer → (IsSame answer → AreApart one two) → proof ≡ Told answer
+      → Proves one two proof
   by_laws : (answer : Answer) (between names : List (List ℕ)) (p q : Program) → Settles WhetherSame one two answer → IsSame answer
       → IsAccepted one [] between p → IsAccepted two between names q → HaveOneHeader p q → IsProved names p q proof → Proves one two proof
 
