@@ -1,3 +1,2 @@
-mod Replayed
 mod Told
 mod Printed

@@ -21,7 +21,7 @@ use Rattle.occ_print.specs.Lines.{part_lines}
 use Rattle.occ_print_back.specs.Back.{deepest}
 use Rattle.occ_print_back.specs.Placed.{IsTable}
 use Rattle.occ_print_part_back.specs.Tables.{Grows}
-use Rattle.occ_prove_joined.proofs.Replayed.{IsDerived, OneLaw, replay_joined}
+use Rattle.occ_tool_joined.proofs.Replayed.{IsDerived, OneLaw, replay_joined}
 use Rattle.occ_prove_joined.proofs.Told.{settled}
 use Rattle.occ_prove_joined.specs.Joined.{IsJoined}
 use Rattle.occ_prove_run.specs.declared.proof.Proof.{Proof}

@@ -1,3 +1,3 @@
 mod Asked
-mod Replayed
+pub mod Replayed
 mod Printed

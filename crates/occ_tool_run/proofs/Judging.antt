@@ -71,12 +71,6 @@ pub take : (r : Result Answer Memory) (l : Loaded) (new : List (List ℕ)) (p : 
 take (Err m) l new p rest read h = tt
 take (Ok a) l new p rest read h = λ file k. accepted new p (accepted_file l file [] new p read k) h
 
--- the same of the text of a program that is no file's
-pub of_text : (r : Result Answer Memory) (l : Loaded) (text program : List ℕ) (rest : List (List ℕ) → Program → Answer → Type 0) → text ≡ program → IsLoaded most_bytes (Some text) l
-    → IfOk r (λ a. (file : Option (List ℕ)) → IsLoaded most_bytes file l → Takes First file [] rest a) → IfOk r (Takes First (Some program) [] rest)
-of_text (Err m) l text program rest e read h = tt
-of_text (Ok a) l text program rest e read h = let P : List ℕ → Type 0 = λ t. IsLoaded most_bytes (Some t) l in h (Some program) (subst P e read)
-
 -- ---- a program and a behaviour
 
 abbrev JudgesAll : Loaded → Loaded → Answer → Type 0
