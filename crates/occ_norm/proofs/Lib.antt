@@ -1,6 +1,8 @@
 pub mod Changing
-pub mod Sequences
 pub mod Simple
+pub mod From
+pub mod Sequences
+pub mod Between
 pub mod Laying
 pub mod Opening
 pub mod Steps

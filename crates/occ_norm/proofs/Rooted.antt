@@ -1,6 +1,6 @@
 -- What the root of a program says: its nodes are there and of the interface, and what they do is what the program does; and
 -- a root stays one as its world grows.
-use Rattle.std.proofs.Common.{◌≡◌, ◌<◌, ◌≤◌, ◌^◌, ◌/◌, ◌%◌, ◌+◌, ◌↔◌, inl, inr, ℕ, Bool, true, false, cond, List, [], ◌∷◌, Option, Some, None, is_some, Result, Ok, Err, IfOk, refl, sym, ap, ◌∙◌, subst, arith}
+use Rattle.std.proofs.Common.{◌≡◌, ◌<◌, ◌≤◌, ◌^◌, ◌/◌, ◌%◌, ◌+◌, inl, inr, ℕ, Bool, true, false, cond, List, [], ◌∷◌, Option, Some, None, is_some, refl, sym, ap, ◌∙◌, subst, arith}
 use Rattle.std.proofs.lemmas.Bool.{and_from, eq-eqb, lt-ltb}
 use Rattle.std.proofs.lemmas.Nat.{pow_pos}
 use Rattle.std.proofs.Math.Nat.{mod-lt}
@@ -15,15 +15,11 @@ use Rattle.occ_syntax.specs.declared.scope.Kind.{Kind}
 use Rattle.occ_syntax.specs.declared.scope.Kind.TheVariants.{Var, Chan}
 use Rattle.occ_syntax.specs.Counts.{bits_of_scope}
 use Rattle.occ_syntax.specs.Meaning.{ended, refusing, fails as part_fails, ends as part_ends}
-use Rattle.occ_syntax.specs.Same.{SAME}
 use Rattle.occ_syntax.specs.Scopes.{EventSet, IsState, Trace, Values, among, environment, in_interface, values, variable_width, with_value}
 use Rattle.occ_syntax.specs.Tree.{Tree}
 use Rattle.occ_syntax.specs.Types.{scope_kept, types_kept}
 use Rattle.occ_meaning.specs.Foundation.{AreWithin}
-use Rattle.occ_meaning.proofs.Frame.{written_in_scope}
-use Rattle.occ_meaning.proofs.Frame.{part_value}
 use Rattle.occ_meaning.proofs.Interface.{part_in_interface}
-use Rattle.occ_meaning.proofs.States.{part_states}
 use Rattle.occ_bits.specs.Layout.{assignment_of, environment_in, entry_of, laid_out, state_of, scope_in}
 use Rattle.occ_bits.proofs.Laid.{found_width, laid_bits, laid_width, layout_of, missing}
 use Rattle.occ_bits.proofs.Arithmetic.{low_bit}
@@ -32,29 +28,23 @@ use Rattle.occ_mdd.specs.declared.map.MapId.{MapId}
 use Rattle.occ_node.specs.Canonical.{HasTrace}
 use Rattle.occ_node.specs.World.{IsNode, ends}
 use Rattle.occ_node.specs.declared.node.NodeId.{NodeId}
-use Rattle.occ_node.specs.declared.root.Root.{Root}
 use Rattle.occ_node.specs.declared.world.World.{World}
 use Rattle.occ_behaviour.specs.declared.behaviour.Behaviour.{Behaviour}
 use Rattle.occ_behaviour.specs.declared.behaviour.Last.{Last}
 use Rattle.occ_behaviour.specs.declared.behaviour.Last.TheVariants.{Refuses, Ends}
-use Rattle.occ_behaviour.specs.declared.behaviour.Side.{Side}
-use Rattle.occ_behaviour.specs.declared.behaviour.Side.TheVariants.{First, Second}
-use Rattle.occ_behaviour.specs.declared.behaviour.Verdict.{Verdict}
-use Rattle.occ_behaviour.specs.declared.behaviour.Verdict.TheVariants.{Same, Differ}
-use Rattle.occ_behaviour.specs.Members.{IsRight, Stands as StandsIn}
+use Rattle.occ_behaviour.specs.Members.{Stands as StandsIn}
 use Rattle.occ_behaviour.specs.States.{is_state}
-use Rattle.occ_compare.specs.Interface.{AreComparable, HasNodes as HasAllNodes, IsOfInterface}
+use Rattle.occ_compare.specs.Interface.{HasNodes as HasAllNodes, IsOfInterface}
 use Rattle.occ_compare.specs.Places.{state_at, values_at}
-use Rattle.occ_base.specs.declared.memory.Memory.{Memory}
 use Rattle.occ_norm_maps.specs.Maps.{Extends}
-use Rattle.occ_compare.specs.Verdicts.{BelongsToOne, IsFirst, IsMember, IsPrintable, MeanTheSame, Stands}
+use Rattle.occ_compare.specs.Verdicts.{Stands}
 use Rattle.occ_norm_frame.specs.After.{AgreeBelow}
 use Rattle.occ_norm_frame.specs.Placed.{IsFrame}
 use Rattle.occ_bits.proofs.States.{are_states, state_fits}
 use Rattle.occ_norm_frame.proofs.After.{map_node, over-extends, same_truth, state_below, value_was, zero_off}
 use Rattle.occ_norm_frame.proofs.Bits.{pow_more}
 use Rattle.occ_norm.specs.Root.{IsRoot}
-use Rattle.occ_meaning.proofs.Overlay.{does_over, over}
+use Rattle.occ_meaning.proofs.Overlay.{over}
 
 -- ---- states as lists and as values
 pub values_state : (layout : List (Name × Width × ℕ)) (x : ℕ) → values (values_at layout x) ≡ state_of layout x

@@ -1,13 +1,13 @@
 -- The operators of the language on maps, in every environment of the variables in scope.
-use Rattle.std.proofs.Common.{◌≡◌, ◌<◌, ◌≤◌, ◌^◌, ◌==◌, ◌&&◌, ℕ, Bool, true, List, Result, Ok, Err, IfOk, bit_or, cond, refl, sym, ap, subst, arith}
-use Rattle.std.proofs.lemmas.Bool.{and_parts}
+use Rattle.std.proofs.Common.{◌≡◌, ◌<◌, ◌≤◌, ◌^◌, ◌&&◌, ℕ, Bool, true, List, Result, Ok, Err, IfOk, bit_or, cond, refl, sym, ap, ◌∙◌, subst, arith}
+use Rattle.std.proofs.lemmas.Bool.{and_from, and_parts}
 use Rattle.std.proofs.lemmas.Nat.{or_lt}
 use Rattle.occ_base.specs.declared.names.Name.{Name}
 use Rattle.occ_base.specs.declared.width.Width.{Width}
-use Rattle.occ_bits.specs.Layout.{environment_in, state_of}
+use Rattle.occ_bits.specs.Layout.{state_of}
 use Rattle.occ_syntax.specs.declared.scope.Kind.{Kind}
 use Rattle.occ_syntax.specs.Eval.{is_true}
-use Rattle.occ_syntax.specs.Scopes.{Environment, Values}
+use Rattle.occ_syntax.specs.Scopes.{Environment}
 use Rattle.occ_syntax.specs.Tree.{Exp, Tree, Trees, Cases, skip, stop, seq, par, select, no_tree, and_tree, no_case, and_case}
 use Rattle.occ_syntax.specs.Types.{all_types_kept, cases_kept, is_condition, types_kept}
 use Rattle.occ_mdd.specs.Maps.{value}
@@ -19,9 +19,16 @@ use Rattle.occ_norm_frame.specs.After.{IsOver}
 use Rattle.occ_norm_frame.specs.Placed.{Fits, IsAround, IsFrame}
 use Rattle.occ_norm_frame.proofs.After.{after-extends, after-over, state_back, states_reached}
 use Rattle.occ_norm_frame.proofs.Bits.{pow_more}
-use Rattle.occ_norm_frame.proofs.Placing.{width_here}
-use Rattle.occ_meaning.proofs.Named.{eval_by_names}
+use Rattle.occ_meaning.proofs.Sequence.{all_of_followed, followed_all_of}
+use Rattle.occ_meaning.specs.Parallel.{all_of}
+use Rattle.occ_norm_maps.proofs.Worlds.{extends_trans, has_nodes-extends}
+use Rattle.occ_norm_transfer.proofs.Moving.{types_first}
+use Rattle.occ_dd.specs.Store.{IsKnown, has as is_member}
+use Rattle.occ_dd.specs.declared.set.SetId.{SetId}
+use Rattle.occ_dd.specs.declared.store.Store.{Store}
+use Rattle.occ_norm_reached.specs.States.{EndsIn}
 use Rattle.occ_norm.specs.Parts.{IsAfterIn}
+use Rattle.occ_norm.proofs.From.{IsAfterFromIn, after_alike, after_all, after_fewer, after_later, after_some}
 use Rattle.occ_norm.proofs.Sequences.{Reaches, seq_after}
 use Rattle.occ_norm.proofs.Simple.{after_as, case_after, skip_after, stop_after}
 
@@ -35,16 +42,39 @@ pub as_is : (w : World) (vars : List (Name × Kind)) (layout : List (Name × Wid
     → IsAfterIn w vars layout keep closed q rest r → IsAfterIn w vars layout keep closed p rest r
 as_is w vars layout keep closed p q rest r e is = subst (λ t. IsAfterIn w vars layout keep closed t rest r) (sym e) is
 
--- the truth of a condition doesn't depend on what else is in scope
-pub truth_here : (vars : List (Name × Kind)) (layout : List (Name × Width × ℕ)) (n : ℕ) → IsFrame vars layout n → (Γ : Environment) → IsAround Γ vars → (e : Exp) (s : Values)
-    → is_true (environment_in layout) e s ≡ is_true Γ e s
-truth_here vars layout n frame Γ around e s =
-    ap (λ v. v == 1) (eval_by_names (environment_in layout) Γ s s e (λ y h. sym (width_here Γ vars layout n frame around y)) (λ y h. refl))
-
 -- ---- as the world grows
 pub in-extends : (v w : World) (k : Extends v w) (vars : List (Name × Kind)) (layout : List (Name × Width × ℕ)) (keep : ℕ) (closed : List Name) (p : Tree) (rest r : MapId)
     → HasNodes v rest → HasNodes v r → IsAfterIn v vars layout keep closed p rest r → IsAfterIn w vars layout keep closed p rest r
 in-extends v w k vars layout keep closed p rest r has hr is Γ around types = after-extends v w k layout keep closed Γ p rest r has hr (is Γ around types)
+
+pub from-extends : (v w : World) (k : Extends v w) (vars : List (Name × Kind)) (layout : List (Name × Width × ℕ)) (keep : ℕ) (closed : List Name) (from : ℕ → Bool) (p : Tree) (rest r : MapId)
+    → HasNodes v rest → HasNodes v r → IsAfterFromIn v vars layout keep closed from p rest r → IsAfterFromIn w vars layout keep closed from p rest r
+from-extends v w k vars layout keep closed from p rest r has hr is Γ around types = after_later v w k layout keep closed Γ p rest r has hr from (is Γ around types)
+
+pub some_in : (w : World) (vars : List (Name × Kind)) (layout : List (Name × Width × ℕ)) (keep : ℕ) (closed : List Name) (from : ℕ → Bool) (p : Tree) (rest r : MapId)
+    → IsAfterIn w vars layout keep closed p rest r → IsAfterFromIn w vars layout keep closed from p rest r
+some_in w vars layout keep closed from p rest r is Γ around types = after_some w layout keep closed Γ p rest r from (is Γ around types)
+
+pub all_in : (w : World) (vars : List (Name × Kind)) (layout : List (Name × Width × ℕ)) (keep : ℕ) (closed : List Name) (from : ℕ → Bool) (p : Tree) (rest r : MapId) → ((x : ℕ) → from x ≡ true)
+    → IsAfterFromIn w vars layout keep closed from p rest r → IsAfterIn w vars layout keep closed p rest r
+all_in w vars layout keep closed from p rest r all is Γ around types = after_all w layout keep closed Γ p rest r from all (is Γ around types)
+
+pub fewer_in : (w : World) (vars : List (Name × Kind)) (layout : List (Name × Width × ℕ)) (keep : ℕ) (closed : List Name) (from fewer : ℕ → Bool) (p : Tree) (rest r other : MapId)
+    → ((x : ℕ) → fewer x ≡ true → from x ≡ true) → ((x : ℕ) → fewer x ≡ true → value w.maps other x ≡ value w.maps r x)
+    → IsAfterFromIn w vars layout keep closed from p rest r → IsAfterFromIn w vars layout keep closed fewer p rest other
+fewer_in w vars layout keep closed from fewer p rest r other inside same is Γ around types = after_fewer w layout keep closed Γ p rest r from fewer other inside same (is Γ around types)
+
+-- a map that is limited to a set is right in its states; the worlds: before that, after it, and at the end
+pub limited_in : (v u w : World) → Extends v u → Extends u w → (vars : List (Name × Kind)) (layout : List (Name × Width × ℕ)) (keep : ℕ) (closed : List Name) (a set : SetId) → a ≡ set → IsKnown v.store set → (p : Tree) (rest map r : MapId)
+    → HasNodes v rest → HasNodes v map → HasNodes u r → ((x : ℕ) → is_member v.store a x ≡ true → value u.maps r x ≡ value v.maps map x)
+    → IsAfterFromIn v vars layout keep closed (is_member v.store set) p rest map → IsAfterFromIn w vars layout keep closed (is_member w.store set) p rest r
+limited_in v u w vu uw vars layout keep closed a set at known p rest map r rest_nodes nodes limited same is =
+    let vw = extends_trans v u w vu uw in
+    from-extends u w uw vars layout keep closed (is_member w.store set) p rest r (has_nodes-extends v u vu rest rest_nodes) limited
+    (fewer_in u vars layout keep closed (is_member v.store set) (is_member w.store set) p rest map r
+    (λ x h. sym (vw.grows.stored.same set x known) ∙ h)
+    (λ x h. same x (ap (λ b. is_member v.store b x) at ∙ sym (vw.grows.stored.same set x known) ∙ h) ∙ sym (vu.maps.same map x nodes.known))
+    (from-extends v u vu vars layout keep closed (is_member v.store set) p rest map rest_nodes nodes is))
 
 pub keep_below : (keep needed both n : ℕ) → keep < 2 ^ n → needed < 2 ^ n → both ≡ bit_or keep needed → both < 2 ^ n
 keep_below keep needed both n h k e = subst (λ b. b < 2 ^ n) (sym e) (or_lt n keep needed h k)
@@ -78,11 +108,24 @@ module _ (w : World) (vars : List (Name × Kind)) (layout : List (Name × Width 
   pub no_case_in : (rest r : MapId) → IsStop w r → IsAfterIn w vars layout keep closed (select no_case) rest r
   no_case_in rest r is Γ around types = stop_after w layout keep closed Γ (select no_case) rest r is (λ s t o. (λ d. d, λ d. d))
 
-  pub seq_in : (p : Tree) (ps : Trees) (rest map r : MapId) → HasNodes w map → IsAfterIn w vars layout keep closed (seq ps) rest map → IsAfterIn w vars layout keep closed p map r
-      → IsAfterIn w vars layout keep closed (seq (and_tree p ps)) rest r
-  seq_in p ps rest map r has second first Γ around types =
+  -- one part and then others, at the states of a set: the others begin in those of another set
+  pub seq_from_in : (s : Store) (a b : SetId) (p : Tree) (ps : Trees) (rest map r : MapId) → HasNodes w map → EndsIn s vars layout p a b
+      → IsAfterFromIn w vars layout keep closed (is_member s b) (seq ps) rest map → IsAfterIn w vars layout keep closed p map r
+      → IsAfterFromIn w vars layout keep closed (is_member s a) (seq (and_tree p ps)) rest r
+  seq_from_in s a b p ps rest map r nodes ends second first Γ around types =
       let t = and_parts (types_kept p Γ) (all_types_kept ps Γ) types in
-      seq_after w layout keep closed Γ p ps rest map r small has (reaches_in Γ p around t.0) (first Γ around t.0) (second Γ around t.1)
+      seq_after w layout keep closed Γ (is_member s a) (is_member s b) p ps rest map r small nodes (reaches_in Γ p around t.0) (λ x y u h d. ends Γ around t.0 x y u h d)
+      (after_some w layout keep closed Γ p map r (is_member s a) (first Γ around t.0)) (second Γ around t.1)
+
+  -- some parts and then others, in the same way
+  pub run_from_in : (s : Store) (a b : SetId) (qs ps : Trees) (rest map r : MapId) → HasNodes w map → EndsIn s vars layout (seq qs) a b
+      → IsAfterFromIn w vars layout keep closed (is_member s b) (seq ps) rest map → IsAfterIn w vars layout keep closed (seq qs) map r
+      → IsAfterFromIn w vars layout keep closed (is_member s a) (seq (all_of qs ps)) rest r
+  run_from_in s a b qs ps rest map r nodes ends second first Γ around types =
+      let t = types_first qs ps Γ types in
+      after_alike w layout keep closed Γ (seq (all_of qs ps)) rest r (is_member s a) (seq (and_tree (seq qs) ps))
+      (λ x u o. ((followed_all_of Γ qs ps).gives (state_of layout x) u o, (all_of_followed Γ qs ps).gives (state_of layout x) u o))
+      (seq_from_in s a b (seq qs) ps rest map r nodes ends second first Γ around (and_from _ _ t.0 t.1))
 
   pub one_in : (p : Tree) (rest r : MapId) → IsAfterIn w vars layout keep closed p rest r → IsAfterIn w vars layout keep closed (par (and_tree p no_tree)) rest r
   one_in p rest r is Γ around types =

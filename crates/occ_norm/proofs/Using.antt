@@ -8,7 +8,7 @@ use Rattle.occ_syntax.specs.declared.proc.Proc.{Proc}
 use Rattle.occ_syntax.specs.declared.scope.Kind.{Kind}
 use Rattle.occ_syntax.specs.declared.scope.Kind.TheVariants.{Var, Chan}
 use Rattle.occ_syntax.specs.Declarations.{declaring}
-use Rattle.occ_syntax.specs.Tree.{Tree, and_branch, and_case, and_tree, no_tree}
+use Rattle.occ_syntax.specs.Tree.{Tree, and_branch, and_tree, no_tree}
 use Rattle.occ_syntax.specs.Scopes.{Environment}
 use Rattle.occ_syntax.specs.Types.{all_types_kept, types_kept}
 use Rattle.occ_syntax.specs.Usage.{AllKeepUsage, BranchesKeepUsage, CasesKeepUsage, KeepsUsage}
@@ -34,10 +34,6 @@ usage_inside p q x (Var w) e h = subst KeepsUsage e h
 usage_inside p q x (Chan w d) e h = subst KeepsUsage e h
 
 -- ---- what is left of a list
-pub dropped_all : {A : Type 0} (xs : List A) → drop (length xs) xs ≡ []
-dropped_all [] = refl
-dropped_all (x ∷ xs) = dropped_all xs
-
 one_back : (n : ℕ) → zero < n → n - 1 + 1 ≡ n
 one_back n h = omega (arith, h)
 
@@ -46,9 +42,6 @@ left_here xs n x h k e = drop_more xs (n - 1) x (omega (arith, h, k)) ∙ (λ i.
 
 pub trees_left : (ps : List Proc) (n : ℕ) (p : Proc) → zero < n → n ≤ length ps → p ≡ get_or ps (n - 1) p → trees (drop (n - 1) ps) ≡ and_tree (tree p) (trees (drop n ps))
 trees_left ps n p h k e = ap trees (left_here ps n p h k e)
-
-pub cases_left : (cs : List (Expr × Proc)) (n : ℕ) (c : Expr × Proc) → zero < n → n ≤ length cs → c ≡ get_or cs (n - 1) c → cases (drop (n - 1) cs) ≡ and_case (exp c.0) (tree c.1) (cases (drop n cs))
-cases_left cs n c h k e = ap cases (left_here cs n c h k e)
 
 pub branches_left : (bs : List (Guard × Proc)) (n : ℕ) (b : Guard × Proc) → zero < n → n ≤ length bs → b ≡ get_or bs (n - 1) b
     → branches (drop (n - 1) bs) ≡ and_branch (exp b.0.condition) (waiting b.0.wait) (tree b.1) (branches (drop n bs))

@@ -18,6 +18,8 @@ use occ_norm_ending::ending;
 use occ_norm_frame::{Frame, freed, holds};
 use occ_norm_maps::{choose, stop};
 use occ_norm_par::{Sides, joined, sequel, side_frame};
+use occ_norm_reached::{all_states, limited, states_between};
+use occ_norm_transfer::straight;
 use occ_syntax::{Expr, Guard, Proc};
 use std::alloc::Global;
 
@@ -81,7 +83,8 @@ fn undeclared(
     }
 }
 
-// The parts of a SEQ, and then what another map has.
+// The parts of a SEQ, and then what another map has. What follows a part has no rows for states that can't be reached there, and
+// straight parts in a row are gone through at once.
 #[cycle(after)]
 fn in_turn(
     alloc: Global,
@@ -97,12 +100,20 @@ fn in_turn(
     ensures nodes { IfOk result (HasNodes world.new) }
     ensures after { IfOk result (IsAfterIn world.new frame.now.vars frame.now.layout frame.now.keep frame.now.closed.items (seq (trees parts.now)) rest) }
 {
+    let all = all_states(world, frame);
+    let sets = states_between(alloc, world, frame, parts, all)?;
     let mut map = rest;
     let mut left = parts.len();
     while left > 0 {
+        let next = limited(alloc, world, frame, sets[left], map)?;
+        if let Some((start, made)) = straight(alloc, world, frame, &parts[..left], next)? {
+            left = start;
+            map = made;
+            continue;
+        }
         left -= 1;
-        let next = after(alloc, world, frame, &parts[left], map)?;
-        map = next;
+        let front = after(alloc, world, frame, &parts[left], next)?;
+        map = front;
     }
     Ok(map)
 }

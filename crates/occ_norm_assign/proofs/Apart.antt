@@ -30,7 +30,7 @@ abbrev OutOf : ℕ → ℕ → List Write → Type 0
 OutOf f n [] = Unit {0}
 OutOf f n (w ∷ ws) = ((w.bit < f) ⊎ (f + n ≤ w.bit)) × OutOf f n ws
 
-off_append : (b : ℕ) (first second : List Write) → IsOff b first → IsOff b second → IsOff b (first ++ second)
+pub off_append : (b : ℕ) (first second : List Write) → IsOff b first → IsOff b second → IsOff b (first ++ second)
 off_append b [] second h k = k
 off_append b (w ∷ first) second h k = (h.0, off_append b first second h.1 k)
 

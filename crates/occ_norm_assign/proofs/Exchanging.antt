@@ -277,6 +277,3 @@ exchanged_none w writes keep left change map r e is = subst (λ n. IsExchanged w
 
 pub set_still : (s t : Store) → Keeps s t → (set : SetId) (f : ℕ → Bool) → IsSet s set f → IsSet t set f
 set_still s t k set f is = record { known = known-keeps s t k set is.known; members = λ x. k.same set x is.known ∙ is.members x }
-
-pub exchanged_by : (w : World) (writes all : List Write) (keep left change : ℕ) (map r : MapId) → writes ≡ all → left ≡ length all → IsExchanged w writes keep left change map r → IsExchanged w all keep (length all) change map r
-exchanged_by w writes all keep left change map r e size is = subst (λ n. IsExchanged w all keep n change map r) size (subst (λ ws. IsExchanged w ws keep left change map r) e is)

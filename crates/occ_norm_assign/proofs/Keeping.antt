@@ -31,7 +31,7 @@ pub no_writes : (s : Store) (writes : List Write) → writes ≡ [] → AreWrite
 no_writes s writes e = subst (AreWrites s) (sym e) (λ i d h. absurd (omega (arith, h)))
 
 -- ---- the writes of digits and of variables, as they are gathered
-digits_push : (first : ℕ) (sets : List SetId) (set : SetId) → digit_writes first (sets ++ set ∷ []) ≡ digit_writes first sets ++ record { bit = first + length sets; set = set } ∷ []
+pub digits_push : (first : ℕ) (sets : List SetId) (set : SetId) → digit_writes first (sets ++ set ∷ []) ≡ digit_writes first sets ++ record { bit = first + length sets; set = set } ∷ []
 digits_push first [] set = ap (λ n. record { bit = n; set = set } ∷ []) (let e : first ≡ first + 0 = omega arith in e)
 digits_push first (a ∷ sets) set = ap (λ (ws : List Write). record { bit = first; set = a } ∷ ws)
     (digits_push (first + 1) sets set ∙ ap (λ n. digit_writes (first + 1) sets ++ record { bit = n; set = set } ∷ []) (let e : first + 1 + length sets ≡ first + suc (length sets) = omega arith in e))

@@ -58,9 +58,6 @@ keep_substituted_learnt w writes old new call r keep is learns = record {
 pub keep_substituted_none : (w : World) (writes : List Write) (memo : Memo) → ((k : Call) → recalled memo k ≡ None) → KeepSubstituted w writes memo
 keep_substituted_none w writes memo none = record { each = λ k r e. absurd (let f : None ≡ Some r = sym (none k) ∙ e in cc) }
 
-pub substituted_by : (w : World) (writes all : List Write) (left : ℕ) (map r : MapId) → writes ≡ all → left ≡ length all → IsSubstituted w writes left map r → IsSubstituted w all (length all) map r
-substituted_by w writes all left map r e size is = subst (λ n. IsSubstituted w all n map r) size (subst (λ ws. IsSubstituted w ws left map r) e is)
-
 -- ---- one write more
 pub cofactor_later : (u v w : World) → Extends u v → Extends v w → (map r : MapId) (b d : ℕ) → IsKnown u.maps map → IsMap v.maps r (λ x. value u.maps map (with_bit x b d)) → (x : ℕ) → value w.maps r x ≡ value w.maps map (with_bit x b d)
 cofactor_later u v w k l map r b d known is x = l.maps.same r x is.known ∙ is.values x ∙ sym (k.maps.same map _ known) ∙ sym (l.maps.same map _ (map-keeps u v k.maps map known))

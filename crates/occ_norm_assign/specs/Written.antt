@@ -103,6 +103,16 @@ pub record IsExchanged (w : World) (writes : List Write) (keep left change : ℕ
   pub exchanged : (x : ℕ) (a b : NodeId) → x < 2 ^ 64 → value w.maps map (onto w.store (take left writes) x x) ≡ Some a → value w.maps r x ≡ Some b
       → IsTurned w (bit_xor change (change_by w.store keep (take left writes) x)) a b
 
+-- a node of a map that goes on as that of `rest` at another state, turned by a change
+pub record Leads (w : World) (rest : MapId) (to change : ℕ) (a : NodeId) : Type 0 where
+  pub m : NodeId
+  pub leads : value w.maps rest to ≡ Some m
+  pub turned : IsTurned w change m a
+
+-- at each assignment the node of r is what `rest` has once the writes are made, turned by their change
+pub record IsApplied (w : World) (writes : List Write) (keep : ℕ) (rest r : MapId) : Type 0 where
+  pub each : (x : ℕ) (a : NodeId) → x < 2 ^ 64 → value w.maps r x ≡ Some a → Leads w rest (onto w.store writes x x) (change_by w.store keep writes x) a
+
 -- ---- maps of what writes make of a state
 -- at each assignment r has what the map has once the first writes, so many, are made
 pub record IsSubstituted (w : World) (writes : List Write) (left : ℕ) (map r : MapId) : Type 0 where

@@ -3,4 +3,4 @@
 
 mod writes;
 
-pub use writes::assigned;
+pub use writes::{Write, applied, assigned, writes_of};

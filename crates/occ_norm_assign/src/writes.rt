@@ -14,7 +14,7 @@ ghost use Rattle.occ_norm_frame.specs.After.{IsAfter, IsOver};
 ghost use Rattle.occ_norm_frame.specs.Changes.{IsChanged};
 ghost use Rattle.occ_norm_frame.specs.Placed.{IsAround};
 ghost use Rattle.occ_norm_assign.specs.Writes.{AreWrites, IsWrite};
-ghost use Rattle.occ_norm_assign.specs.Written.{Adds, AreAssigned, AreDistinct, AreFree, IsExchanged, IsFree, IsSubstituted, KeepSubstituted, digit_writes, step};
+ghost use Rattle.occ_norm_assign.specs.Written.{Adds, AreAssigned, AreDistinct, AreFree, IsApplied, IsExchanged, IsFree, IsSubstituted, KeepSubstituted, digit_writes, step};
 
 use occ_base::{Memory, Name};
 use occ_dd::SetId;
@@ -72,8 +72,8 @@ fn add_writes(
     Ok(())
 }
 
-// The bits that an assignment writes.
-fn writes_of(
+/// The bits that an assignment writes.
+pub fn writes_of(
     alloc: Global,
     world: &mut World,
     frame: &Frame,
@@ -267,6 +267,35 @@ fn exchanged(
     choose(world, turns, high, low)
 }
 
+/// The map where some writes are made, and then what another map has.
+pub fn applied(
+    alloc: Global,
+    world: &mut World,
+    keep: u64,
+    writes: &[Write],
+    rest: MapId,
+) -> Result<MapId, Memory>
+    requires writes { AreWrites world.old.store writes.now }
+    requires distinct { AreDistinct writes.now }
+    requires rest { HasNodes world.old rest }
+    ensures extends { Extends world.old world.new }
+    ensures nodes { IfOk result (HasNodes world.new) }
+    ensures applied { IfOk result (IsApplied world.new writes.now keep rest) }
+{
+    let joint = are_joint(world, writes, rest)?;
+    if joint {
+        let other = stop(alloc, world)?;
+        return exchanged(alloc, world, keep, writes, writes.len(), 0, rest, other);
+    }
+    let mut memo = Memo::new(alloc);
+    let mut map = substituted(world, writes, writes.len(), rest, &mut memo)?;
+    for write in writes {
+        let next = written(alloc, world, keep, *write, map)?;
+        map = next;
+    }
+    Ok(map)
+}
+
 /// The map of an assignment and then what another map has.
 pub fn assigned(
     alloc: Global,
@@ -284,25 +313,5 @@ pub fn assigned(
         → IsAfter world.new frame.now.layout frame.now.keep frame.now.closed.items Γ (assign (numbers vars.now) (exps values.now)) rest r) }
 {
     let writes = writes_of(alloc, world, frame, vars, values)?;
-    let joint = are_joint(world, &writes, rest)?;
-    if joint {
-        let other = stop(alloc, world)?;
-        return exchanged(
-            alloc,
-            world,
-            frame.keep,
-            &writes,
-            writes.len(),
-            0,
-            rest,
-            other,
-        );
-    }
-    let mut memo = Memo::new(alloc);
-    let mut map = substituted(world, &writes, writes.len(), rest, &mut memo)?;
-    for write in &writes {
-        let next = written(alloc, world, frame.keep, *write, map)?;
-        map = next;
-    }
-    Ok(map)
+    applied(alloc, world, frame.keep, &writes, rest)
 }

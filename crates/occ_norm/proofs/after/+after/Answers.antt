@@ -8,18 +8,21 @@ use Rattle.occ_syntax.specs.View.{numbers, exp, exps, tree, trees, cases, branch
 use Rattle.occ_syntax.proofs.Views.{tree-Seq, tree-Par, tree-If, tree-Alt}
 use Rattle.occ_syntax.proofs.Weights.{weight, weight-seq, weight-par, weight-select, weight-alt, weight_in_all, weight_in_cases, weight_in_branches}
 use Rattle.occ_syntax.proofs.Counting.{weight-declaring}
-use Rattle.occ_dd.specs.Store.{has}
+use Rattle.occ_dd.specs.Store.{IsKnown, has}
+use Rattle.occ_norm_reached.specs.States.{AreBetween, AreStates, EndsIn, set_at}
+use Rattle.occ_norm_reached.proofs.Reaching.{between-keeps, other_default, part_between}
+use Rattle.occ_norm.proofs.From.{IsAfterFromIn}
 use Rattle.occ_norm_frame.specs.Placed.{Fits, IsAround}
 use Rattle.occ_norm_frame.proofs.After.{after-extends, over-extends}
 use Rattle.occ_norm_frame.proofs.Placing.{branch_at, branch_condition, branch_wait, case_at, case_condition, fit_at, fits_alt, fits_assign, fits_can, fits_next, fits_par, fits_receive, fits_select, fits_send, fits_seq}
-use Rattle.std.proofs.Common.{true, ◌-◌, ◌≡◌, ◌≤◌, ◌<◌, ◌+◌, [], ◌∷◌, cond, drop, length, get_or, sym, ap, ◌∙◌, subst, arith}
-use Rattle.occ_norm_maps.proofs.Worlds.{extends_refl, extends_trans, has_nodes-extends}
+use Rattle.std.proofs.Common.{true, ◌-◌, ◌≡◌, ◌≤◌, ◌<◌, ◌+◌, [], ◌∷◌, cond, drop, take, length, get_or, sym, ap, ◌∙◌, subst, arith}
+use Rattle.occ_norm_maps.proofs.Worlds.{extends_trans, has_nodes-extends}
 use Rattle.occ_norm.specs.Parts.{IsAfterIn}
 use Rattle.occ_norm.proofs.Declaring.{bits_grow, opens_next}
 use Rattle.occ_norm.proofs.Opening.{after_from, freed_after}
 use Rattle.std.proofs.Common.{bit_or, ◌^◌, ℕ}
 use Rattle.std.proofs.lemmas.Option.{same_Some, slice_get-get_or}
-use Rattle.std.proofs.lemmas.List.{length-append}
+use Rattle.std.proofs.lemmas.List.{length-append, length-take-le}
 use Rattle.occ_syntax.specs.declared.proc.Proc.{Skip}
 use Rattle.occ_bits.specs.Layout.{laid_out}
 use Rattle.occ_syntax.specs.Counts.{bits_of_scope}
@@ -30,8 +33,12 @@ use Rattle.occ_norm_par.proofs.Writing.{write_all, writes_within, written_in}
 use Rattle.occ_norm_par.specs.Joined.{HaveNodes}
 use Rattle.occ_norm.proofs.Beside.{AreMade, made_more, nodes_more, parts_after}
 use Rattle.occ_norm_par.proofs.Closing.{closed_all}
-use Rattle.occ_norm.proofs.Steps.{as_is, case_in, empty_in, if_ok, in-extends, no_case_in, keep_below, none_in, one_in, over_in, seq_in, skip_in, stop_in, truth_here}
-use Rattle.occ_norm.proofs.Using.{no_parts, branch_usage_at, branches_left, case_usage_at, cases_left, dropped_all, one_tree, trees_left, types_at, usage_at, usage_inside}
+use Rattle.occ_norm.proofs.Between.{run_ends}
+use Rattle.occ_norm.proofs.Steps.{all_in, as_is, case_in, empty_in, if_ok, in-extends, limited_in, no_case_in, keep_below, none_in, one_in, over_in, run_from_in, seq_from_in, skip_in, some_in, stop_in}
+use Rattle.occ_norm_transfer.proofs.Choosing.{truth_here}
+use Rattle.occ_norm_transfer.proofs.Runs.{cases_left, dropped_all, fit_before, fit_from, seq_fits, some_found, trees_between}
+use Rattle.occ_norm_transfer.specs.Transfer.{IsBehind}
+use Rattle.occ_norm.proofs.Using.{no_parts, branch_usage_at, branches_left, case_usage_at, one_tree, trees_left, types_at, usage_at, usage_inside}
 use Rattle.occ_norm.proofs.after.+after.Goals as goal
 
 -- ---- declarations
@@ -80,13 +87,75 @@ after-returns-clause-after t c =
 
 -- ---- SEQ
 pub in_turn-loop-left-init : goal.in_turn-loop-left-init
-in_turn-loop-left-init t c = record {
-  extends = extends_refl c.args.world.now;
-  over = c.requires.rest;
-  below = omega arith;
-  after = subst (λ ps. IsAfterIn c.args.world.now c.args.frame.now.vars c.args.frame.now.layout c.args.frame.now.keep c.args.frame.now.closed.items (seq (trees ps)) c.args.rest c.args.rest) (sym (dropped_all c.args.parts.now))
-      (none_in c.args.world.now c.args.frame.now.vars c.args.frame.now.layout c.args.frame.now.bits c.args.frame.now.keep c.args.frame.now.closed.items c.args.frame.now.kept c.args.frame.now.inside c.args.rest c.requires.rest);
-}
+in_turn-loop-left-init t c =
+    let frame = c.args.frame.now in
+    let v = c.args.world.now in
+    let w = c.states_between.new.world in
+    let between = c.in_ok-sets.ensures.between in
+    let over = over-extends v w c.states_between.ensures.extends frame.bits c.args.rest c.requires.rest in
+    let none = none_in w frame.vars frame.layout frame.bits frame.keep frame.closed.items frame.kept frame.inside c.args.rest over in
+    let all : (x : ℕ) → has w.store (set_at c.in_ok-sets.sets.items 0) x ≡ true =
+    λ x. ap (λ a. has w.store a x) between.first ∙ c.states_between.ensures.extends.grows.stored.same c.all_states-all.result x c.all_states-all.ensures.states.known ∙ c.all_states-all.ensures.all x in
+    record {
+      extends = c.states_between.ensures.extends;
+      over = over;
+      below = omega arith;
+      between = subst (λ a. AreBetween w.store frame.vars frame.layout frame.bits a c.args.parts.now c.in_ok-sets.sets.items) (sym between.first) between;
+      all = all;
+      after = subst (λ ps. IsAfterFromIn w frame.vars frame.layout frame.keep frame.closed.items (has w.store (set_at c.in_ok-sets.sets.items (length c.args.parts.now))) (seq (trees ps)) c.args.rest c.args.rest) (sym (dropped_all c.args.parts.now))
+          (some_in w frame.vars frame.layout frame.keep frame.closed.items (has w.store (set_at c.in_ok-sets.sets.items (length c.args.parts.now))) (seq no_tree) c.args.rest c.args.rest none);
+    }
+
+pub in_turn-limited-requires-clause-set : goal.in_turn-limited-requires-clause-set
+in_turn-limited-requires-clause-set t c =
+    let frame = c.args.frame.now in
+    let sets = c.in_ok-sets.sets.items in
+    let count = c.loop-left.invariant.between.count in
+    let here : c.loop-left.left < length sets = omega (arith, count, c.loop-left.invariant.below) in
+    subst (AreStates c.loop-left.world.store frame.bits) (sym (c.index.ensures ∙ other_default sets c.loop-left.left c.index.result.now (record { 0 = 0 }) here)) (c.loop-left.invariant.between.states c.loop-left.left here)
+
+pub in_turn-straight-requires-clause-parts : goal.in_turn-straight-requires-clause-parts
+in_turn-straight-requires-clause-parts t c = fit_before c.args.frame.now.vars c.args.parts.now c.loop-left.left c.requires.parts
+
+pub in_turn-loop-left-preserved-in-Some : goal.in_turn-loop-left-preserved-in-Some
+in_turn-loop-left-preserved-in-Some t c =
+    let frame = c.args.frame.now in
+    let parts = c.args.parts.now in
+    let left = c.loop-left.left in
+    let start = c.in-Some.start in
+    let made = c.in-Some.made in
+    let v = c.loop-left.world in
+    let u = c.limited.new.world in
+    let w = c.straight.new.world in
+    let vw = extends_trans v u w c.limited.ensures.extends c.straight.ensures.extends in
+    let old = c.loop-left.map in
+    let next = c.in_ok-next.next in
+    let sets = c.in_ok-sets.sets.items in
+    let behind : IsBehind w frame (take left parts) next start made = some_found _ c.in_ok-start.field-0 (start, made) c.in-Some.is c.in_ok-start.ensures.behind in
+    let before : start < left = let size = length-take-le left parts c.loop-left.invariant.below in let within = behind.within in omega (arith, size, within) in
+    let qs = trees (drop start (take left parts)) in
+    let ps = trees (drop left parts) in
+    let over = over-extends u w c.straight.ensures.extends frame.bits next c.in_ok-next.ensures.over in
+    let fits = seq_fits frame.vars qs (fit_from frame.vars (take left parts) start (fit_before frame.vars parts left c.requires.parts)) in
+    let rest_nodes = has_nodes-extends c.args.world.now v c.loop-left.invariant.extends c.args.rest c.requires.rest.has in
+    let between = between-keeps v.store w.store vw.grows.stored frame.vars frame.layout frame.bits (set_at sets 0) parts sets c.loop-left.invariant.between in
+    let count = between.count in
+    let known : (i : ℕ) → i < length sets → IsKnown v.store (set_at sets i) = λ i h. (c.loop-left.invariant.between.states i h).known in
+    let here : left < length sets = omega (arith, count, c.loop-left.invariant.below) in
+    let at : c.index.result.now ≡ set_at sets left = c.index.ensures ∙ other_default sets left c.index.result.now (record { 0 = 0 }) here in
+    record {
+      extends = extends_trans c.args.world.now v w c.loop-left.invariant.extends vw;
+      over = over_in w frame.vars frame.layout frame.bits frame.keep frame.closed.items frame.kept frame.inside (seq qs) next made fits behind.nodes over behind.after;
+      below = omega (arith, before, c.loop-left.invariant.below);
+      between = between;
+      all = λ x. vw.grows.stored.same (set_at sets 0) x (known 0 (omega (arith, count))) ∙ c.loop-left.invariant.all x;
+      after = subst (λ ts. IsAfterFromIn w frame.vars frame.layout frame.keep frame.closed.items (has w.store (set_at sets start)) (seq ts) c.args.rest made) (sym (trees_between parts start left (omega (arith, before))))
+          (run_from_in w frame.vars frame.layout frame.bits frame.keep frame.closed.items frame.kept frame.inside w.store (set_at sets start) (set_at sets left) qs ps c.args.rest next made over.has
+          (run_ends w.store frame.vars frame.layout frame.bits (set_at sets 0) parts sets between start left (omega (arith, before)) c.loop-left.invariant.below frame.kept)
+          (limited_in v u w c.limited.ensures.extends c.straight.ensures.extends frame.vars frame.layout frame.keep frame.closed.items c.index.result.now (set_at sets left) at (known left here) (seq ps) c.args.rest old next
+          rest_nodes c.loop-left.invariant.over.has c.in_ok-next.ensures.over.has c.in_ok-next.ensures.same c.loop-left.invariant.after)
+          behind.after);
+    }
 
 pub in_turn-after-requires : goal.in_turn-after-requires
 in_turn-after-requires t c =
@@ -96,7 +165,7 @@ in_turn-after-requires t c =
         fit_at c.args.frame.now.vars c.args.parts.now (c.loop-left.left - 1) c.index-parts-left.result c.requires.parts lt c.index-parts-left.is,
         (
           usage_at c.args.parts.now (c.loop-left.left - 1) c.index-parts-left.result c.requires.usage lt c.index-parts-left.is,
-          c.loop-left.invariant.over,
+          over-extends c.limited.new.world c.straight.new.world c.straight.ensures.extends c.args.frame.now.bits c.in_ok-next.next c.in_ok-next.ensures.over,
         ),
       ),
     )
@@ -104,28 +173,49 @@ in_turn-after-requires t c =
 pub in_turn-loop-left-preserved : goal.in_turn-loop-left-preserved
 in_turn-loop-left-preserved t c =
     let frame = c.args.frame.now in
-    let lt : c.loop-left.left - 1 < length c.args.parts.now = omega (arith, c.loop-left.invariant.below, c.loop-left-test.true) in
+    let left = c.loop-left.left in
+    let lt : left - 1 < length c.args.parts.now = omega (arith, c.loop-left.invariant.below, c.loop-left-test.true) in
     let v = c.loop-left.world in
+    let u = c.limited.new.world in
     let w = c.after.new.world in
+    let uw = extends_trans u c.straight.new.world w c.straight.ensures.extends c.after.ensures.extends in
+    let vw = extends_trans v u w c.limited.ensures.extends uw in
     let old = c.loop-left.map in
-    let over = over-extends v w c.after.ensures.extends frame.bits old c.loop-left.invariant.over in
-    let fits = fit_at frame.vars c.args.parts.now (c.loop-left.left - 1) c.index-parts-left.result c.requires.parts lt c.index-parts-left.is in
+    let next = c.in_ok-next.next in
+    let front = c.in_ok-front.front in
+    let part = c.index-parts-left.result in
+    let sets = c.in_ok-sets.sets.items in
+    let over = over-extends u w uw frame.bits next c.in_ok-next.ensures.over in
+    let fits = fit_at frame.vars c.args.parts.now (left - 1) part c.requires.parts lt c.index-parts-left.is in
     let rest_nodes = has_nodes-extends c.args.world.now v c.loop-left.invariant.extends c.args.rest c.requires.rest.has in
+    let between = between-keeps v.store w.store vw.grows.stored frame.vars frame.layout frame.bits (set_at sets 0) c.args.parts.now sets c.loop-left.invariant.between in
+    let count = between.count in
+    let known : (i : ℕ) → i < length sets → IsKnown v.store (set_at sets i) = λ i h. (c.loop-left.invariant.between.states i h).known in
+    let here : left < length sets = omega (arith, count, c.loop-left.invariant.below) in
+    let back : left - 1 + 1 ≡ left = omega (arith, c.loop-left-test.true) in
+    let at : c.index.result.now ≡ set_at sets left = c.index.ensures ∙ other_default sets left c.index.result.now (record { 0 = 0 }) here in
     record {
-      extends = extends_trans c.args.world.now v w c.loop-left.invariant.extends c.after.ensures.extends;
-      over = over_in w frame.vars frame.layout frame.bits frame.keep frame.closed.items frame.kept frame.inside (tree c.index-parts-left.result) old c.in_ok-next.next fits c.in_ok-next.ensures.nodes over c.in_ok-next.ensures.after;
+      extends = extends_trans c.args.world.now v w c.loop-left.invariant.extends vw;
+      over = over_in w frame.vars frame.layout frame.bits frame.keep frame.closed.items frame.kept frame.inside (tree part) next front fits c.in_ok-front.ensures.nodes over c.in_ok-front.ensures.after;
       below = omega (arith, c.loop-left.invariant.below);
-      after = subst (λ ps. IsAfterIn w frame.vars frame.layout frame.keep frame.closed.items (seq ps) c.args.rest c.in_ok-next.next)
-          (sym (trees_left c.args.parts.now c.loop-left.left c.index-parts-left.result (omega (arith, c.loop-left-test.true)) c.loop-left.invariant.below c.index-parts-left.is))
-          (seq_in w frame.vars frame.layout frame.bits frame.keep frame.closed.items frame.kept frame.inside (tree c.index-parts-left.result) (trees (drop c.loop-left.left c.args.parts.now)) c.args.rest old c.in_ok-next.next over.has
-          (in-extends v w c.after.ensures.extends frame.vars frame.layout frame.keep frame.closed.items (seq (trees (drop c.loop-left.left c.args.parts.now))) c.args.rest old rest_nodes c.loop-left.invariant.over.has c.loop-left.invariant.after)
-          c.in_ok-next.ensures.after);
+      between = between;
+      all = λ x. vw.grows.stored.same (set_at sets 0) x (known 0 (omega (arith, count))) ∙ c.loop-left.invariant.all x;
+      after = subst (λ ps. IsAfterFromIn w frame.vars frame.layout frame.keep frame.closed.items (has w.store (set_at sets (left - 1))) (seq ps) c.args.rest front)
+          (sym (trees_left c.args.parts.now left part (omega (arith, c.loop-left-test.true)) c.loop-left.invariant.below c.index-parts-left.is))
+          (seq_from_in w frame.vars frame.layout frame.bits frame.keep frame.closed.items frame.kept frame.inside w.store (set_at sets (left - 1)) (set_at sets left) (tree part) (trees (drop left c.args.parts.now)) c.args.rest next front over.has
+          (subst (λ i. EndsIn w.store frame.vars frame.layout (tree part) (set_at sets (left - 1)) (set_at sets i)) back (part_between w.store frame.vars frame.layout frame.bits (set_at sets 0) c.args.parts.now sets (left - 1) part between lt c.index-parts-left.is))
+          (limited_in v u w c.limited.ensures.extends uw frame.vars frame.layout frame.keep frame.closed.items c.index.result.now (set_at sets left) at (known left here) (seq (trees (drop left c.args.parts.now))) c.args.rest old next
+          rest_nodes c.loop-left.invariant.over.has c.in_ok-next.ensures.over.has c.in_ok-next.ensures.same c.loop-left.invariant.after)
+          c.in_ok-front.ensures.after);
     }
 
 pub in_turn-returns-clause-after : goal.in_turn-returns-clause-after
 in_turn-returns-clause-after t c =
+    let frame = c.args.frame.now in
+    let w = c.loop-left.world in
     let none : c.loop-left.left ≡ 0 = omega (arith, c.loop-left-test.false) in
-    subst (λ k. IsAfterIn c.loop-left.world c.args.frame.now.vars c.args.frame.now.layout c.args.frame.now.keep c.args.frame.now.closed.items (seq (trees (drop k c.args.parts.now))) c.args.rest c.loop-left.map) none c.loop-left.invariant.after
+    all_in w frame.vars frame.layout frame.keep frame.closed.items (has w.store (set_at c.in_ok-sets.sets.items 0)) (seq (trees c.args.parts.now)) c.args.rest c.loop-left.map c.loop-left.invariant.all
+    (subst (λ k. IsAfterFromIn w frame.vars frame.layout frame.keep frame.closed.items (has w.store (set_at c.in_ok-sets.sets.items k)) (seq (trees (drop k c.args.parts.now))) c.args.rest c.loop-left.map) none c.loop-left.invariant.after)
 
 -- ---- IF
 pub first_choice-loop-left-init : goal.first_choice-loop-left-init

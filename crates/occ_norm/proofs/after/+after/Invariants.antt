@@ -1,10 +1,13 @@
-use Rattle.std.proofs.Common.{◌+◌, ◌*◌, ◌≤◌, ◌≡◌, true, drop, length}
+use Rattle.std.proofs.Common.{ℕ, ◌+◌, ◌*◌, ◌≤◌, ◌≡◌, true, drop, length}
 use Rattle.occ_syntax.specs.Scopes.{Environment}
 use Rattle.occ_syntax.specs.Tree.{select, seq}
 use Rattle.occ_syntax.specs.Types.{branches_kept}
 use Rattle.occ_syntax.specs.Usage.{KeepsUsage}
 use Rattle.occ_syntax.specs.View.{tree, trees, cases, branches}
 use Rattle.occ_syntax.proofs.Weights.{weight, weight_of_all, weight_of_cases, weight_of_branches}
+use Rattle.occ_dd.specs.Store.{has}
+use Rattle.occ_norm_reached.specs.States.{AreBetween, set_at}
+use Rattle.occ_norm.proofs.From.{IsAfterFromIn}
 use Rattle.occ_follow.specs.Sequence.{HasNodes}
 use Rattle.occ_norm_maps.specs.Maps.{Extends, MayHaveNodes}
 use Rattle.occ_norm_frame.specs.After.{IsOver}
@@ -53,7 +56,10 @@ invariant-in_turn-loop-left l = record {
   extends : Extends l.fn.world l.world;
   over : IsOver l.world l.frame.bits l.map;
   below : l.left ≤ length l.parts;
-  after : IsAfterIn l.world l.frame.vars l.frame.layout l.frame.keep l.frame.closed.items (seq (trees (drop l.left l.parts))) l.fn.rest l.map;
+  between : AreBetween l.world.store l.frame.vars l.frame.layout l.frame.bits (set_at l.sets.items 0) l.parts l.sets.items;
+  all : (x : ℕ) → has l.world.store (set_at l.sets.items 0) x ≡ true;
+  after : IsAfterFromIn l.world l.frame.vars l.frame.layout l.frame.keep l.frame.closed.items (has l.world.store (set_at l.sets.items l.left))
+      (seq (trees (drop l.left l.parts))) l.fn.rest l.map;
 }
 
 abbrev pub decreases-in_turn-loop-left : goal.decreases-in_turn-loop-left

@@ -4,12 +4,12 @@ use Rattle.occ_norm_frame.specs.Changes.{IsChanged}
 use Rattle.occ_norm_maps.specs.Maps.{Extends}
 use Rattle.occ_norm_assign.specs.Writes.{AreWrites}
 use Rattle.occ_norm_assign.specs.Written.{change_by}
-use Rattle.occ_norm_assign.proofs.writes.assigned.Given as goal
+use Rattle.occ_norm_assign.proofs.writes.applied.Given as goal
 
 abbrev pub invariant-loop-write : goal.invariant-loop-write
 invariant-loop-write l = record {
   extends : Extends l.initial.world l.world;
   nodes : HasNodes l.world l.map;
-  writes : AreWrites l.world.store l.write-items;
-  changed : IsChanged l.world (change_by l.initial.world.store l.frame.keep (take l.write-index l.write-items)) l.initial.map l.map;
+  writes : AreWrites l.world.store l.writes;
+  changed : IsChanged l.world (change_by l.initial.world.store l.keep (take l.write-index l.writes)) l.initial.map l.map;
 }

@@ -1,0 +1,124 @@
+-- Maps of a part and of what follows it that are right at some assignments alone.
+use Rattle.std.proofs.Common.{◌≡◌, ◌<◌, ◌^◌, ◌↔◌, ◌⊎◌, inl, inr, ⊎_elim, ℕ, Bool, true, List, Some, sym, ◌∙◌, bit_xor}
+use Rattle.occ_base.specs.declared.event.Event.{Event}
+use Rattle.occ_base.specs.declared.names.Name.{Name}
+use Rattle.occ_base.specs.declared.width.Width.{Width}
+use Rattle.occ_syntax.specs.declared.scope.Kind.{Kind}
+use Rattle.occ_bits.specs.Layout.{state_of}
+use Rattle.occ_syntax.specs.Meaning.{Outcome, meaning, refusing}
+use Rattle.occ_syntax.specs.Scopes.{Environment}
+use Rattle.occ_syntax.specs.Tree.{Tree}
+use Rattle.occ_syntax.specs.Types.{types_kept}
+use Rattle.occ_mdd.specs.Maps.{value}
+use Rattle.occ_mdd.specs.declared.map.MapId.{MapId}
+use Rattle.occ_node.specs.World.{IsNode, fails, ends}
+use Rattle.occ_node.specs.declared.node.NodeId.{NodeId}
+use Rattle.occ_node.specs.declared.world.World.{World}
+use Rattle.occ_follow.specs.Sequence.{HasNodes}
+use Rattle.occ_norm_maps.specs.Maps.{Extends}
+use Rattle.occ_norm_frame.specs.After.{IsAfter, QuietlyFails, Resumes, change_of}
+use Rattle.occ_norm_frame.specs.Placed.{IsAround}
+use Rattle.occ_norm_frame.proofs.After.{map_node, value_is, value_was}
+use Rattle.occ_weave.specs.Weave.{off_channels}
+use Rattle.occ_norm.proofs.Simple.{resumes_as}
+
+-- At the assignments that pass the test the map r is that of the part and then what the map `rest` has.
+pub record IsAfterFrom (w : World) (layout : List (Name × Width × ℕ)) (keep : ℕ) (closed : List Name) (Γ : Environment) (from : ℕ → Bool) (p : Tree) (rest r : MapId) : Type 0 where
+  pub after_fails : (x : ℕ) (a : NodeId) → x < 2 ^ 64 → from x ≡ true → value w.maps r x ≡ Some a → (t : List Event) (X : Event → Bool)
+      → (fails w a t X ≡ true) ↔ (QuietlyFails layout closed Γ p x t X ⊎ Resumes w layout closed Γ p rest x (λ y m u. fails w m u X) t)
+  pub after_ends : (x : ℕ) (a : NodeId) → x < 2 ^ 64 → from x ≡ true → value w.maps r x ≡ Some a → (t : List Event) (z : ℕ) → z < 2 ^ 64
+      → (ends w a t z ≡ true) ↔ Resumes w layout closed Γ p rest x (λ y m u. ends w m u (bit_xor z (change_of keep x y))) t
+
+-- wherever the part keeps types among these variables
+abbrev pub IsAfterFromIn : World → List (Name × Kind) → List (Name × Width × ℕ) → ℕ → List Name → (ℕ → Bool) → Tree → MapId → MapId → Type 0
+IsAfterFromIn w vars layout keep closed from p rest r = (Γ : Environment) → IsAround Γ vars → types_kept p Γ ≡ true → IsAfterFrom w layout keep closed Γ from p rest r
+
+module _ (w : World) (layout : List (Name × Width × ℕ)) (keep : ℕ) (closed : List Name) (Γ : Environment) (p : Tree) (rest r : MapId) where
+  pub after_some : (from : ℕ → Bool) → IsAfter w layout keep closed Γ p rest r → IsAfterFrom w layout keep closed Γ from p rest r
+  after_some from is = record { after_fails = λ x a hx o at t X. is.after_fails x a hx at t X; after_ends = λ x a hx o at t z hz. is.after_ends x a hx at t z hz }
+
+  pub after_all : (from : ℕ → Bool) → ((x : ℕ) → from x ≡ true) → IsAfterFrom w layout keep closed Γ from p rest r → IsAfter w layout keep closed Γ p rest r
+  after_all from all is = record { after_fails = λ x a hx at t X. is.after_fails x a hx (all x) at t X; after_ends = λ x a hx at t z hz. is.after_ends x a hx (all x) at t z hz }
+
+  -- at fewer assignments, and another map with the same nodes there
+  pub after_fewer : (from fewer : ℕ → Bool) (other : MapId) → ((x : ℕ) → fewer x ≡ true → from x ≡ true) → ((x : ℕ) → fewer x ≡ true → value w.maps other x ≡ value w.maps r x)
+      → IsAfterFrom w layout keep closed Γ from p rest r → IsAfterFrom w layout keep closed Γ fewer p rest other
+  after_fewer from fewer other inside same is = record {
+    after_fails = λ x a hx o at t X. is.after_fails x a hx (inside x o) (sym (same x o) ∙ at) t X;
+    after_ends = λ x a hx o at t z hz. is.after_ends x a hx (inside x o) (sym (same x o) ∙ at) t z hz;
+  }
+
+  -- parts that do the same from all states have the same maps
+  pub after_alike : (from : ℕ → Bool) (q : Tree) → ((x : ℕ) (u : List Event) (o : Outcome) → (meaning q).does Γ (state_of layout x) u o ↔ (meaning p).does Γ (state_of layout x) u o)
+      → IsAfterFrom w layout keep closed Γ from q rest r → IsAfterFrom w layout keep closed Γ from p rest r
+  after_alike from q alike is = record {
+    after_fails = λ x a hx o at t X. let iff = is.after_fails x a hx o at t X in (
+      λ h. ⊎_elim
+          (λ (s : QuietlyFails layout closed Γ q x t X). inl (s.0, (alike x t (refusing (off_channels closed X))).0 s.1))
+          (λ (s : Resumes w layout closed Γ q rest x (λ y m u. fails w m u X) t). inr (resumes_as w layout closed Γ q p rest x (λ y m u. fails w m u X) t (λ u o. (alike x u o).0) s))
+          (iff.0 h),
+      ⊎_elim
+          (λ (s : QuietlyFails layout closed Γ p x t X). iff.1 (inl (s.0, (alike x t (refusing (off_channels closed X))).1 s.1)))
+          (λ (s : Resumes w layout closed Γ p rest x (λ y m u. fails w m u X) t). iff.1 (inr (resumes_as w layout closed Γ p q rest x (λ y m u. fails w m u X) t (λ u o. (alike x u o).1) s))),
+    );
+    after_ends = λ x a hx o at t z hz. let iff = is.after_ends x a hx o at t z hz in (
+      λ h. resumes_as w layout closed Γ q p rest x (λ y m u. ends w m u (bit_xor z (change_of keep x y))) t (λ u o. (alike x u o).0) (iff.0 h),
+      λ s. iff.1 (resumes_as w layout closed Γ p q rest x (λ y m u. ends w m u (bit_xor z (change_of keep x y))) t (λ u o. (alike x u o).1) s),
+    );
+  }
+
+-- ---- as the world grows
+module _ (v w : World) (k : Extends v w) (layout : List (Name × Width × ℕ)) (keep : ℕ) (closed : List Name) (Γ : Environment) (p : Tree) (rest r : MapId) (has : HasNodes v rest) (hr : HasNodes v r) where
+  later : (x : ℕ) (F G : ℕ → NodeId → List Event → Bool) → ((y : ℕ) (m : NodeId) (u : List Event) → IsNode v m → G y m u ≡ F y m u) → (t : List Event)
+      → Resumes v layout closed Γ p rest x F t → Resumes w layout closed Γ p rest x G t
+  later x F G alike t s = record {
+    t1 = s.t1;
+    t2 = s.t2;
+    y = s.y;
+    m = s.m;
+    whole = s.whole;
+    below = s.below;
+    silent = s.silent;
+    ended = s.ended;
+    leads = value_is v w k rest has s.y (Some s.m) s.leads;
+    behaved = alike s.y s.m s.t2 (map_node v rest has s.y s.below s.m s.leads) ∙ s.behaved;
+  }
+
+  before : (x : ℕ) (F G : ℕ → NodeId → List Event → Bool) → ((y : ℕ) (m : NodeId) (u : List Event) → IsNode v m → G y m u ≡ F y m u) → (t : List Event)
+      → Resumes w layout closed Γ p rest x G t → Resumes v layout closed Γ p rest x F t
+  before x F G alike t s =
+      let led : value v.maps rest s.y ≡ Some s.m = value_was v w k rest has s.y (Some s.m) s.leads in
+      record {
+        t1 = s.t1;
+        t2 = s.t2;
+        y = s.y;
+        m = s.m;
+        whole = s.whole;
+        below = s.below;
+        silent = s.silent;
+        ended = s.ended;
+        leads = led;
+        behaved = sym (alike s.y s.m s.t2 (map_node v rest has s.y s.below s.m led)) ∙ s.behaved;
+      }
+
+  pub after_later : (from : ℕ → Bool) → IsAfterFrom v layout keep closed Γ from p rest r → IsAfterFrom w layout keep closed Γ from p rest r
+  after_later from is = record {
+    after_fails = λ x a h o e t X.
+        let was = value_was v w k r hr x (Some a) e in
+        let same_at = k.grows.same_fails a t X (map_node v r hr x h a was) in
+        let F : ℕ → NodeId → List Event → Bool = λ y m u. fails v m u X in
+        let G : ℕ → NodeId → List Event → Bool = λ y m u. fails w m u X in
+        let alike : (y : ℕ) (m : NodeId) (u : List Event) → IsNode v m → G y m u ≡ F y m u = λ y m u l. k.grows.same_fails m u X l in (
+          λ b. ⊎_elim (λ (q : QuietlyFails layout closed Γ p x t X). inl q) (λ (s : Resumes v layout closed Γ p rest x F t). inr (later x F G alike t s)) ((is.after_fails x a h o was t X).0 (sym same_at ∙ b)),
+          λ s. same_at ∙ (is.after_fails x a h o was t X).1 (⊎_elim (λ (q : QuietlyFails layout closed Γ p x t X). inl q) (λ (z : Resumes w layout closed Γ p rest x G t). inr (before x F G alike t z)) s),
+        );
+    after_ends = λ x a h o e t z b.
+        let was = value_was v w k r hr x (Some a) e in
+        let same_at = k.grows.same_ends a t z (map_node v r hr x h a was) in
+        let F : ℕ → NodeId → List Event → Bool = λ y m u. ends v m u (bit_xor z (change_of keep x y)) in
+        let G : ℕ → NodeId → List Event → Bool = λ y m u. ends w m u (bit_xor z (change_of keep x y)) in
+        let alike : (y : ℕ) (m : NodeId) (u : List Event) → IsNode v m → G y m u ≡ F y m u = λ y m u l. k.grows.same_ends m u (bit_xor z (change_of keep x y)) l in (
+          λ c. later x F G alike t ((is.after_ends x a h o was t z b).0 (sym same_at ∙ c)),
+          λ s. same_at ∙ (is.after_ends x a h o was t z b).1 (before x F G alike t s),
+        );
+  }

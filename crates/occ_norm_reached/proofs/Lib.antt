@@ -1,0 +1,5 @@
+pub mod Freeing
+pub mod Valued
+pub mod Reaching
+pub mod Branching
+pub mod Limiting

@@ -1,0 +1,9 @@
+//! The states that can be reached in front of each part of a sequence.
+#![tactic(auto)]
+
+mod forward;
+mod limits;
+mod sets;
+
+pub use forward::{between, reached};
+pub use limits::{all_states, limited, states_between};

@@ -1,0 +1,5 @@
+pub mod Writing
+pub mod Moving
+pub mod Choosing
+pub mod Runs
+pub mod Putting

@@ -1,0 +1,22 @@
+use Rattle.std.proofs.Common.{arith, ap, sym, ◌∙◌}
+use Rattle.occ_syntax.specs.Tree.{select, seq}
+use Rattle.occ_syntax.specs.View.{cases, tree, trees}
+use Rattle.occ_syntax.proofs.Views.{tree-If, tree-Seq}
+use Rattle.occ_syntax.proofs.Weights.{weight-select, weight-seq, weight_in_all, weight_in_cases}
+use Rattle.occ_norm_transfer.proofs.run.+is_straight.Goals as goal
+
+pub are_straight-is_straight-requires : goal.are_straight-is_straight-requires
+are_straight-is_straight-requires t c = (omega (arith, weight_in_all _ _ _ c.loop-part-test.true c.part-item.is, c.decreases), tt)
+
+pub leads_straight-is_straight-requires : goal.leads_straight-is_straight-requires
+leads_straight-is_straight-requires t c = (omega (arith, weight_in_cases _ _ _ c.loop-part-test.true c.loop-part-item.is, c.decreases), tt)
+
+pub is_straight-are_straight-requires : goal.is_straight-are_straight-requires
+is_straight-are_straight-requires t c =
+    let e = weight-seq _ _ (ap tree c.in-Seq.is ∙ tree-Seq c.in-Seq.parts ∙ ap (λ ps. seq (trees ps)) (sym c.items.ensures)) in
+    (omega (arith, e, c.decreases), tt)
+
+pub is_straight-leads_straight-requires : goal.is_straight-leads_straight-requires
+is_straight-leads_straight-requires t c =
+    let e = weight-select _ _ (ap tree c.in-If.is ∙ tree-If c.in-If.choices ∙ ap (λ ps. select (cases ps)) (sym c.items-then-has_last.ensures)) in
+    (omega (arith, e, c.decreases), tt)

@@ -1,0 +1,52 @@
+ghost use Rattle.std.specs.Prelude.{IfOk};
+ghost use Rattle.occ_dd.specs.Store.{IsKnown};
+ghost use Rattle.occ_digits.specs.Digits.{AreDigits, IsComposed, IsEither, IsIdentity, KeepComposed};
+ghost use Rattle.occ_norm_maps.specs.Maps.{Extends};
+
+use occ_base::Memory;
+use occ_dd::SetId;
+use occ_diagram::Memo;
+use occ_node::World;
+use std::alloc::Global;
+
+/// The digits of a state that stays as it is.
+pub(crate) fn identity(alloc: Global, world: &mut World) -> Result<Vec<SetId>, Memory>
+    ensures extends { Extends world.old world.new }
+    ensures identity { IfOk result (λ r. IsIdentity world.new.store r.items) }
+{
+    occ_digits::identity(alloc, &mut world.store)
+}
+
+/// The assignments from which digits lead into a set.
+pub(crate) fn leading(
+    world: &mut World,
+    digits: &[SetId],
+    set: SetId,
+    memo: &mut Memo,
+) -> Result<SetId, Memory>
+    requires digits { AreDigits world.old.store digits.now }
+    requires set { IsKnown world.old.store set }
+    requires memo { KeepComposed world.old.store digits.now memo.old }
+    ensures extends { Extends world.old world.new }
+    ensures memo { KeepComposed world.new.store digits.now memo.new }
+    ensures composed { IfOk result (IsComposed world.new.store digits.now 64 set) }
+{
+    occ_digits::leading(&mut world.store, digits, set, memo)
+}
+
+/// The digits that lead where the one list leads from members of a set, and where the other leads from others.
+pub(crate) fn either(
+    alloc: Global,
+    world: &mut World,
+    set: SetId,
+    yes: &[SetId],
+    no: &[SetId],
+) -> Result<Vec<SetId>, Memory>
+    requires set { IsKnown world.old.store set }
+    requires yes { AreDigits world.old.store yes.now }
+    requires no { AreDigits world.old.store no.now }
+    ensures extends { Extends world.old world.new }
+    ensures either { IfOk result (λ r. IsEither world.new.store set yes.now no.now r.items) }
+{
+    occ_digits::either(alloc, &mut world.store, set, yes, no)
+}

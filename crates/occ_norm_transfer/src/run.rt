@@ -1,0 +1,165 @@
+ghost use Rattle.std.specs.Prelude.{◌≤◌, length, IfOk, IfSome};
+ghost use Rattle.occ_syntax.specs.Tree.{seq};
+ghost use Rattle.occ_syntax.specs.View.{trees};
+ghost use Rattle.occ_mdd.specs.Maps.{IsKnown};
+ghost use Rattle.occ_norm_assign.specs.Writes.{AreWrites};
+ghost use Rattle.occ_norm_assign.specs.Written.{AreDistinct};
+ghost use Rattle.occ_norm_maps.specs.Maps.{Extends};
+ghost use Rattle.occ_norm_frame.specs.After.{IsOver};
+ghost use Rattle.occ_norm_frame.specs.Placed.{FitAll};
+ghost use Rattle.occ_digits.specs.Digits.{AreDigits};
+ghost use Rattle.occ_norm_transfer.specs.Transfer.{IsBehind, IsFunction, SameWrites};
+
+use crate::digits::identity;
+use crate::moves::moved;
+use occ_base::Memory;
+use occ_dd::SetId;
+use occ_mdd::MapId;
+use occ_node::World;
+use occ_norm_assign::{Write, applied};
+use occ_norm_frame::{Frame, bit_set, depth};
+use occ_syntax::{Expr, Proc};
+use std::alloc::Global;
+
+// Whether the last choice of an IF is always taken where no other is.
+fn has_last(choices: &[(Expr, Proc)]) -> bool {
+    if choices.is_empty() {
+        return false;
+    }
+    let last = &choices[choices.len() - 1];
+    matches!(&last.0, Expr::Bool(true))
+}
+
+// Whether a part doesn't communicate, and always ends in one state.
+#[cycle(is_straight)]
+fn is_straight(part: &Proc) -> bool {
+    match part {
+        Proc::Skip | Proc::Assign { .. } => true,
+        Proc::Seq(parts) => are_straight(parts.items()),
+        Proc::If(choices) => has_last(choices.items()) && leads_straight(choices.items()),
+        _ => false,
+    }
+}
+
+// The same of each of some parts.
+#[cycle(is_straight)]
+fn are_straight(parts: &[Proc]) -> bool {
+    for part in parts {
+        if !is_straight(part) {
+            return false;
+        }
+    }
+    true
+}
+
+// The same of the part of each of some choices.
+#[cycle(is_straight)]
+fn leads_straight(choices: &[(Expr, Proc)]) -> bool {
+    for (_, part) in choices {
+        if !is_straight(part) {
+            return false;
+        }
+    }
+    true
+}
+
+// The first of the straight parts at the end of some.
+fn run_start(parts: &[Proc]) -> usize
+    ensures { result ≤ length parts.now }
+{
+    let mut start = parts.len();
+    while start > 0 && is_straight(&parts[start - 1]) {
+        start -= 1;
+    }
+    start
+}
+
+// The bits that digits change, as writes.
+fn writes_made(alloc: Global, world: &mut World, digits: &[SetId]) -> Result<Vec<Write>, Memory>
+    requires digits { AreDigits world.old.store digits.now }
+    ensures extends { Extends world.old world.new }
+    ensures writes { IfOk result (λ r. AreWrites world.new.store r.items) }
+    ensures distinct { IfOk result (λ r. AreDistinct r.items) }
+    ensures same { IfOk result (λ r. SameWrites world.new.store digits.now r.items) }
+{
+    let mut writes = Vec::new(alloc);
+    for place in 0..digits.len() {
+        let bit = place as u32;
+        let stays = bit_set(world, bit)?;
+        let set = digits[place];
+        if set.0 == stays.0 {
+            continue;
+        }
+        writes.push(Write { bit, set })?;
+    }
+    Ok(writes)
+}
+
+// The digits behind the parts of a list, by those of each state as it is; None where a part isn't straight, or where the digits
+// take more sets than some.
+fn composed(
+    alloc: Global,
+    world: &mut World,
+    frame: &Frame,
+    parts: &[Proc],
+    most: usize,
+) -> Result<Option<Vec<SetId>>, Memory>
+    requires parts { FitAll frame.now.vars (trees parts.now) }
+    ensures extends { Extends world.old world.new }
+    ensures function { IfOk result (λ found. IfSome found
+        (λ r. IsFunction world.new frame.now.vars frame.now.layout (seq (trees parts.now)) r.items)) }
+{
+    let limit = world.store.sets().saturating_add(most);
+    let before = identity(alloc, world)?;
+    let mut now = Vec::from_slice(alloc, &before)?;
+    for place in 0..parts.len() {
+        let Some(next) = moved(alloc, world, frame, &now, &parts[place])? else {
+            return Ok(None);
+        };
+        now = next;
+        if world.store.sets() > limit {
+            return Ok(None);
+        }
+    }
+    Ok(Some(now))
+}
+
+// How many sets the digits behind some parts may take: none where a map is of more than 4096 states, since going through it by
+// wide functions may take longer than part by part.
+fn most_sets(world: &mut World, rest: MapId) -> Result<usize, Memory>
+    requires { IsKnown world.old.maps rest }
+    ensures { Extends world.old world.new }
+{
+    let bits = depth(world, rest)?;
+    Ok(if bits > 12 { 0 } else { 5000 })
+}
+
+/// Where two or more parts at the end of some don't communicate and always end in one state, and their function takes few sets
+/// and what follows looks at few bits: the place of the first of them, and the map of them and then what another map has.
+pub fn straight(
+    alloc: Global,
+    world: &mut World,
+    frame: &Frame,
+    parts: &[Proc],
+    rest: MapId,
+) -> Result<Option<(usize, MapId)>, Memory>
+    requires parts { FitAll frame.now.vars (trees parts.now) }
+    requires rest { IsOver world.old frame.now.bits rest }
+    ensures extends { Extends world.old world.new }
+    ensures behind { IfOk result (λ found. IfSome found (λ run. IsBehind world.new frame.now parts.now rest run.0 run.1)) }
+{
+    let start = run_start(parts);
+    if parts.len() - start < 2 {
+        return Ok(None);
+    }
+    let most = most_sets(world, rest)?;
+    if most == 0 {
+        return Ok(None);
+    }
+    let Some(digits) = composed(alloc, world, frame, &parts[start..], most)? else {
+        return Ok(None);
+    };
+    let writes = writes_made(alloc, world, &digits)?;
+    let map = applied(alloc, world, frame.keep, &writes, rest)?;
+    Ok(Some((start, map)))
+}
