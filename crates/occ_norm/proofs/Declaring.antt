@@ -15,12 +15,12 @@ use Rattle.occ_syntax.specs.Types.{can_declare, is_width, types_kept}
 use Rattle.occ_usage.proofs.Scoped.{environment-push}
 use Rattle.occ_mdd.specs.declared.map.MapId.{MapId}
 use Rattle.occ_node.specs.declared.world.World.{World}
-use Rattle.occ_norm_frame.specs.After.{IsOver}
+use Rattle.occ_norm_frame.specs.After.{AgreeBelow, IsOver}
 use Rattle.occ_norm_frame.specs.Placed.{IsAround, IsFrame, closed_by, entered}
 use Rattle.occ_norm_frame.proofs.After.{state_back, state_below}
 use Rattle.occ_norm_frame.proofs.Bits.{pow_more}
 use Rattle.occ_norm.proofs.Laying.{IsFresh, fresh_laid, fresh_state, laid-push, state-push}
-use Rattle.occ_norm.proofs.Opening.{IsAfterFrom, channel_from, variable_from}
+use Rattle.occ_norm.proofs.Opening.{IsAfterOpen, channel_from, variable_from}
 use Rattle.occ_norm.proofs.Steps.{reaches_in}
 
 pub over_more : (w : World) (m n : ℕ) (map : MapId) → m ≤ n → IsOver w m map → IsOver w n map
@@ -67,9 +67,9 @@ around_channel Γ vars c wd a fresh = record {
 -- of the bits from those of the outer frame on.
 pub record Opens (vars : List (Name × Kind)) (layout : List (Name × Width × ℕ)) (n keep : ℕ) (closed : List Name) (p : Tree)
     (vars' : List (Name × Kind)) (layout' : List (Name × Width × ℕ)) (n' : ℕ) (closed' : List Name) (q : Tree) : Type 0 where
-  pub opens : (w : World) (rest map : MapId) (top : ℕ) → n' ≤ top → top ≤ 24 → IsOver w n rest
-      → ((Γ : Environment) → IsAround Γ vars' → types_kept q Γ ≡ true → IsAfterFrom w n' top layout' keep closed' Γ q rest map)
-      → (Γ : Environment) → IsAround Γ vars → types_kept p Γ ≡ true → IsAfterFrom w n top layout keep closed Γ p rest map
+  pub opens : (w : World) (from : ℕ → Bool) (rest map : MapId) (top : ℕ) → ((x y : ℕ) → AgreeBelow n x y → from x ≡ true → from y ≡ true) → n' ≤ top → top ≤ 24 → IsOver w n rest
+      → ((Γ : Environment) → IsAround Γ vars' → types_kept q Γ ≡ true → IsAfterOpen w n' top layout' keep closed' Γ from q rest map)
+      → (Γ : Environment) → IsAround Γ vars → types_kept p Γ ≡ true → IsAfterOpen w n top layout keep closed Γ from p rest map
 
 module _ (vars : List (Name × Kind)) (layout : List (Name × Width × ℕ)) (n keep : ℕ) (closed : List Name) (p : Tree) (inside : keep < 2 ^ n)
     (vars' : List (Name × Kind)) (layout' : List (Name × Width × ℕ)) (n' : ℕ) (closed' : List Name) (q : Tree) (frame : IsFrame vars' layout' n') (more : n ≤ n') where
@@ -93,10 +93,10 @@ module _ (vars : List (Name × Kind)) (layout : List (Name × Width × ℕ)) (n 
       → vars'' ≡ entered vars' x k → closed'' ≡ closed_by closed' x k → IsFrame vars'' layout'' n''
       → Opens vars layout n keep closed p vars' layout' n' closed' q → Opens vars layout n keep closed p vars'' layout'' n'' closed'' q'
   opens_next x (Var wd) q' vars'' layout'' n'' closed'' e v c f'' o = record {
-    opens = λ w rest map top h l over f.
+    opens = λ w from rest map top stays h l over f.
         let frame'' : IsFrame (vars' ++ (x, Var wd) ∷ []) layout'' n'' = subst (λ vs. IsFrame vs layout'' n'') v f'' in
         let next : n'' ≡ n' + bits_of wd = bits_next x wd layout'' n'' frame'' in
-        o.opens w rest map top (omega (arith, next, h)) l over
+        o.opens w from rest map top stays (omega (arith, next, h)) l over
         (λ Γ around types.
         let kept : types_kept (declaring x.0 (Var wd) q') Γ ≡ true = ap (λ t. types_kept t Γ) (sym e) ∙ types in
         let t = and_parts (can_declare Γ x.0 wd) (types_kept q' (with_name Γ x.0 (Var wd))) kept in
@@ -105,30 +105,31 @@ module _ (vars : List (Name × Kind)) (layout : List (Name × Width × ℕ)) (n 
         let given = f (with_name Γ x.0 (Var wd)) (subst (λ vs. IsAround (with_name Γ x.0 (Var wd)) vs) (sym v) inner_around) t.1 in
         let unnamed : environment vars' x.0 ≡ None = around.none x.0 fresh in
         let zero : (u : ℕ) → state_of layout' u x.0 ≡ 0 = λ u. fresh_state layout' x.0 u (subst (λ l. IsFresh l x.0) (sym frame.layout_is) (fresh_laid 0 vars' x.0 unnamed)) in
-        subst (λ t. IsAfterFrom w n' top layout' keep closed' Γ t rest map) (sym e)
-        (variable_from w n' top layout' layout'' keep closed' Γ x wd q' rest map (pow_more n n' keep more inside) (omega (arith, next, h)) (omega (arith, l)) (over_more w n n' rest more over)
+        subst (λ t. IsAfterOpen w n' top layout' keep closed' Γ from t rest map) (sym e)
+        (variable_from w n' top layout' layout'' keep closed' Γ from x wd q' rest map (pow_more n n' keep more inside) (omega (arith, next, h)) (omega (arith, l)) (over_more w n n' rest more over)
         (pushed_state x wd layout'' n'' frame'' unnamed) (state_below vars' layout' n' frame) (state_back vars' layout' n' frame)
         (reaches_in w (vars' ++ (x, Var wd) ∷ []) layout'' n'' keep closed' frame'' (pow_more n n'' keep (omega (arith, next, more)) inside) (with_name Γ x.0 (Var wd)) q' inner_around t.1)
-        (subst (λ m. IsAfterFrom w m top layout'' keep closed' (with_name Γ x.0 (Var wd)) q' rest map) next
-        (subst (λ cs. IsAfterFrom w n'' top layout'' keep cs (with_name Γ x.0 (Var wd)) q' rest map) c given))
+        (λ a b agree. stays a b (λ k l. agree k (omega (arith, l, more))))
+        (subst (λ m. IsAfterOpen w m top layout'' keep closed' (with_name Γ x.0 (Var wd)) from q' rest map) next
+        (subst (λ cs. IsAfterOpen w n'' top layout'' keep cs (with_name Γ x.0 (Var wd)) from q' rest map) c given))
         (λ a b. zero a ∙ sym (zero b))));
   }
   opens_next x (Chan wd d) q' vars'' layout'' n'' closed'' e v c f'' o = record {
-    opens = λ w rest map top h l over f.
+    opens = λ w from rest map top stays h l over f.
         let frame'' : IsFrame vars' layout'' n'' = subst (λ vs. IsFrame vs layout'' n'') v f'' in
         let next : n'' ≡ n' = frame''.bits_are ∙ sym frame.bits_are in
         let laid : layout'' ≡ layout' = frame''.layout_is ∙ sym frame.layout_is in
-        o.opens w rest map top (omega (arith, next, h)) l over
+        o.opens w from rest map top stays (omega (arith, next, h)) l over
         (λ Γ around types.
         let kept : types_kept (declaring x.0 (Chan wd d) q') Γ ≡ true = ap (λ t. types_kept t Γ) (sym e) ∙ types in
         let t = and_parts (can_declare Γ x.0 wd) (types_kept q' (with_name Γ x.0 (Chan wd None))) kept in
         let fresh : Γ x.0 ≡ None = none_is (Γ x.0) (and_parts (is_none (Γ x.0)) (is_width wd) t.0).0 in
         let given = f (with_name Γ x.0 (Chan wd None)) (subst (λ vs. IsAround (with_name Γ x.0 (Chan wd None)) vs) (sym v) (around_channel Γ vars' x wd around fresh)) t.1 in
-        subst (λ t. IsAfterFrom w n' top layout' keep closed' Γ t rest map) (sym e)
-        (channel_from w n' top layout' keep closed' Γ x wd q' rest map
-        (subst (λ m. IsAfterFrom w m top layout' keep (closed' ++ x ∷ []) (with_name Γ x.0 (Chan wd None)) q' rest map) next
-        (subst (λ ls. IsAfterFrom w n'' top ls keep (closed' ++ x ∷ []) (with_name Γ x.0 (Chan wd None)) q' rest map) laid
-        (subst (λ cs. IsAfterFrom w n'' top layout'' keep cs (with_name Γ x.0 (Chan wd None)) q' rest map) c given)))));
+        subst (λ t. IsAfterOpen w n' top layout' keep closed' Γ from t rest map) (sym e)
+        (channel_from w n' top layout' keep closed' Γ from x wd q' rest map
+        (subst (λ m. IsAfterOpen w m top layout' keep (closed' ++ x ∷ []) (with_name Γ x.0 (Chan wd None)) from q' rest map) next
+        (subst (λ ls. IsAfterOpen w n'' top ls keep (closed' ++ x ∷ []) (with_name Γ x.0 (Chan wd None)) from q' rest map) laid
+        (subst (λ cs. IsAfterOpen w n'' top layout'' keep cs (with_name Γ x.0 (Chan wd None)) from q' rest map) c given)))));
   }
 
 -- a declaration takes no bits away

@@ -1,5 +1,5 @@
 -- Maps of a part and of what follows it that are right at some assignments alone.
-use Rattle.std.proofs.Common.{◌≡◌, ◌<◌, ◌^◌, ◌↔◌, ◌⊎◌, inl, inr, ⊎_elim, ℕ, Bool, true, List, Some, sym, ◌∙◌, bit_xor}
+use Rattle.std.proofs.Common.{◌≡◌, ◌<◌, ◌^◌, ◌↔◌, ◌⊎◌, inl, inr, ⊎_elim, ℕ, Bool, true, false, List, Some, MatchBool, cond, refl, sym, ap, ◌∙◌, subst, bit_xor}
 use Rattle.occ_base.specs.declared.event.Event.{Event}
 use Rattle.occ_base.specs.declared.names.Name.{Name}
 use Rattle.occ_base.specs.declared.width.Width.{Width}
@@ -7,7 +7,8 @@ use Rattle.occ_syntax.specs.declared.scope.Kind.{Kind}
 use Rattle.occ_bits.specs.Layout.{state_of}
 use Rattle.occ_syntax.specs.Meaning.{Outcome, meaning, refusing}
 use Rattle.occ_syntax.specs.Scopes.{Environment}
-use Rattle.occ_syntax.specs.Tree.{Tree}
+use Rattle.occ_syntax.specs.Eval.{is_true}
+use Rattle.occ_syntax.specs.Tree.{Exp, Tree, Cases, and_case, select}
 use Rattle.occ_syntax.specs.Types.{types_kept}
 use Rattle.occ_mdd.specs.Maps.{value}
 use Rattle.occ_mdd.specs.declared.map.MapId.{MapId}
@@ -20,18 +21,8 @@ use Rattle.occ_norm_frame.specs.After.{IsAfter, QuietlyFails, Resumes, change_of
 use Rattle.occ_norm_frame.specs.Placed.{IsAround}
 use Rattle.occ_norm_frame.proofs.After.{map_node, value_is, value_was}
 use Rattle.occ_weave.specs.Weave.{off_channels}
+use Rattle.occ_norm.specs.From.{IsAfterFrom}
 use Rattle.occ_norm.proofs.Simple.{resumes_as}
-
--- At the assignments that pass the test the map r is that of the part and then what the map `rest` has.
-pub record IsAfterFrom (w : World) (layout : List (Name × Width × ℕ)) (keep : ℕ) (closed : List Name) (Γ : Environment) (from : ℕ → Bool) (p : Tree) (rest r : MapId) : Type 0 where
-  pub after_fails : (x : ℕ) (a : NodeId) → x < 2 ^ 64 → from x ≡ true → value w.maps r x ≡ Some a → (t : List Event) (X : Event → Bool)
-      → (fails w a t X ≡ true) ↔ (QuietlyFails layout closed Γ p x t X ⊎ Resumes w layout closed Γ p rest x (λ y m u. fails w m u X) t)
-  pub after_ends : (x : ℕ) (a : NodeId) → x < 2 ^ 64 → from x ≡ true → value w.maps r x ≡ Some a → (t : List Event) (z : ℕ) → z < 2 ^ 64
-      → (ends w a t z ≡ true) ↔ Resumes w layout closed Γ p rest x (λ y m u. ends w m u (bit_xor z (change_of keep x y))) t
-
--- wherever the part keeps types among these variables
-abbrev pub IsAfterFromIn : World → List (Name × Kind) → List (Name × Width × ℕ) → ℕ → List Name → (ℕ → Bool) → Tree → MapId → MapId → Type 0
-IsAfterFromIn w vars layout keep closed from p rest r = (Γ : Environment) → IsAround Γ vars → types_kept p Γ ≡ true → IsAfterFrom w layout keep closed Γ from p rest r
 
 module _ (w : World) (layout : List (Name × Width × ℕ)) (keep : ℕ) (closed : List Name) (Γ : Environment) (p : Tree) (rest r : MapId) where
   pub after_some : (from : ℕ → Bool) → IsAfter w layout keep closed Γ p rest r → IsAfterFrom w layout keep closed Γ from p rest r
@@ -122,3 +113,57 @@ module _ (v w : World) (k : Extends v w) (layout : List (Name × Width × ℕ)) 
           λ s. same_at ∙ (is.after_ends x a h o was t z b).1 (before x F G alike t s),
         );
   }
+
+-- ---- the first choice of an IF
+-- a map that has at each of the assignments the node of the map of a part that behaves so from there
+pub from_as : (w : World) (layout : List (Name × Width × ℕ)) (keep : ℕ) (closed : List Name) (Γ : Environment) (from : ℕ → Bool) (q : Tree) (rest r : MapId)
+    → ((x : ℕ) → x < 2 ^ 64 → from x ≡ true → (p : Tree) × (map : MapId) × (there : ℕ → Bool) × IsAfterFrom w layout keep closed Γ there p rest map × (there x ≡ true) × (value w.maps r x ≡ value w.maps map x)
+    × ((u : List Event) (o : Outcome) → (meaning p).does Γ (state_of layout x) u o ↔ (meaning q).does Γ (state_of layout x) u o))
+    → IsAfterFrom w layout keep closed Γ from q rest r
+from_as w layout keep closed Γ from q rest r there = record {
+  after_fails = λ x a hx o at t X. let k = there x hx o in let iff = k.3.after_fails x a hx k.4 (sym k.5 ∙ at) t X in (
+    λ h. ⊎_elim
+        (λ (s : QuietlyFails layout closed Γ k.0 x t X). inl (s.0, (k.6 t (refusing (off_channels closed X))).0 s.1))
+        (λ (s : Resumes w layout closed Γ k.0 rest x (λ y m u. fails w m u X) t). inr (resumes_as w layout closed Γ k.0 q rest x (λ y m u. fails w m u X) t (λ u o. (k.6 u o).0) s))
+        (iff.0 h),
+    ⊎_elim
+        (λ (s : QuietlyFails layout closed Γ q x t X). iff.1 (inl (s.0, (k.6 t (refusing (off_channels closed X))).1 s.1)))
+        (λ (s : Resumes w layout closed Γ q rest x (λ y m u. fails w m u X) t). iff.1 (inr (resumes_as w layout closed Γ q k.0 rest x (λ y m u. fails w m u X) t (λ u o. (k.6 u o).1) s))),
+  );
+  after_ends = λ x a hx o at t z hz. let k = there x hx o in let iff = k.3.after_ends x a hx k.4 (sym k.5 ∙ at) t z hz in (
+    λ h. resumes_as w layout closed Γ k.0 q rest x (λ y m u. ends w m u (bit_xor z (change_of keep x y))) t (λ u o. (k.6 u o).0) (iff.0 h),
+    λ s. iff.1 (resumes_as w layout closed Γ q k.0 rest x (λ y m u. ends w m u (bit_xor z (change_of keep x y))) t (λ u o. (k.6 u o).1) s),
+  );
+}
+
+-- the tests: where the whole begins, where its choice does, and where the others do
+pub case_after : (w : World) (layout : List (Name × Width × ℕ)) (keep : ℕ) (closed : List Name) (Γ : Environment) (from here others : ℕ → Bool) (e : Exp) (p : Tree) (cs : Cases) (rest chosen map r : MapId) (test : ℕ → Bool)
+    → ((x : ℕ) → x < 2 ^ 64 → test x ≡ is_true Γ e (state_of layout x)) → ((x : ℕ) → value w.maps r x ≡ cond (test x) (value w.maps chosen x) (value w.maps map x))
+    → ((x : ℕ) → from x ≡ true → test x ≡ true → here x ≡ true) → ((x : ℕ) → from x ≡ true → test x ≡ false → others x ≡ true)
+    → IsAfterFrom w layout keep closed Γ here p rest chosen → IsAfterFrom w layout keep closed Γ others (select cs) rest map → IsAfterFrom w layout keep closed Γ from (select (and_case e p cs)) rest r
+case_after w layout keep closed Γ from here others e p cs rest chosen map r test tests is taken left first second = from_as w layout keep closed Γ from (select (and_case e p cs)) rest r (λ x hx o. at x hx o (test x) refl)
+  where
+    at : (x : ℕ) → x < 2 ^ 64 → from x ≡ true → (b : Bool) → test x ≡ b → (q : Tree) × (m : MapId) × (there : ℕ → Bool) × IsAfterFrom w layout keep closed Γ there q rest m × (there x ≡ true) × (value w.maps r x ≡ value w.maps m x)
+        × ((u : List Event) (o : Outcome) → (meaning q).does Γ (state_of layout x) u o ↔ (meaning (select (and_case e p cs))).does Γ (state_of layout x) u o)
+    at x hx o true h = (
+      p,
+      chosen,
+      here,
+      first,
+      taken x o h,
+      is x ∙ ap (λ c. cond c (value w.maps chosen x) (value w.maps map x)) h,
+      λ u o. let b : true ≡ is_true Γ e (state_of layout x) = sym h ∙ tests x hx in
+          let M : Bool → Type 0 = λ c. MatchBool c ((meaning p).does Γ (state_of layout x) u o) ((meaning (select cs)).does Γ (state_of layout x) u o) in
+          (λ d. subst M b d, λ d. subst M (sym b) d),
+    )
+    at x hx o false h = (
+      select cs,
+      map,
+      others,
+      second,
+      left x o h,
+      is x ∙ ap (λ c. cond c (value w.maps chosen x) (value w.maps map x)) h,
+      λ u o. let b : false ≡ is_true Γ e (state_of layout x) = sym h ∙ tests x hx in
+          let M : Bool → Type 0 = λ c. MatchBool c ((meaning p).does Γ (state_of layout x) u o) ((meaning (select cs)).does Γ (state_of layout x) u o) in
+          (λ d. subst M b d, λ d. subst M (sym b) d),
+    )

@@ -5,6 +5,7 @@ pub mod Sequences
 pub mod Between
 pub mod Laying
 pub mod Opening
+pub mod Freeing
 pub mod Steps
 pub mod Declaring
 pub mod Rooting

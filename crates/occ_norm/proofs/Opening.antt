@@ -23,42 +23,44 @@ use Rattle.occ_node.specs.World.{fails, ends}
 use Rattle.occ_node.specs.declared.node.NodeId.{NodeId}
 use Rattle.occ_node.specs.declared.world.World.{World}
 use Rattle.occ_weave.specs.Weave.{is_open, is_silent_on, off_channels}
-use Rattle.occ_norm_frame.specs.After.{AgreeBelow, IsAfter, IsOver, QuietlyFails, Resumes, change_of}
+use Rattle.occ_norm_frame.specs.After.{AgreeBelow, IsOver, QuietlyFails, Resumes, change_of}
 use Rattle.occ_norm_frame.specs.Changes.{AgreeOutside, IsFreed, Somewhere}
+use Rattle.occ_norm.specs.From.{IsAfterFrom}
 use Rattle.occ_norm.proofs.Laying.{placed, placed_agrees, placed_lt, placed_value, value_dropped}
 use Rattle.occ_norm.proofs.Sequences.{Reaches}
 use Rattle.occ_norm.proofs.Simple.{TellsBits, change_same}
 
--- The map, for some values of the bits from n to below `top`, is that of the part and then what the map `rest` has.
-pub record IsAfterFrom (w : World) (n top : ℕ) (layout : List (Name × Width × ℕ)) (keep : ℕ) (closed : List Name) (Γ : Environment) (p : Tree) (rest map : MapId) : Type 0 where
-  pub from_fails : (x : ℕ) → x < 2 ^ 64 → (t : List Event) (X : Event → Bool)
+-- The map, for some values of the bits from n to below `top`, is that of the part and then what the map `rest` has, at the
+-- assignments that pass the test.
+pub record IsAfterOpen (w : World) (n top : ℕ) (layout : List (Name × Width × ℕ)) (keep : ℕ) (closed : List Name) (Γ : Environment) (from : ℕ → Bool) (p : Tree) (rest map : MapId) : Type 0 where
+  pub from_fails : (x : ℕ) → x < 2 ^ 64 → from x ≡ true → (t : List Event) (X : Event → Bool)
       → Somewhere w map n top x (λ m. fails w m t X) ↔ (QuietlyFails layout closed Γ p x t X ⊎ Resumes w layout closed Γ p rest x (λ y m u. fails w m u X) t)
-  pub from_ends : (x : ℕ) → x < 2 ^ 64 → (t : List Event) (z : ℕ) → z < 2 ^ 64
+  pub from_ends : (x : ℕ) → x < 2 ^ 64 → from x ≡ true → (t : List Event) (z : ℕ) → z < 2 ^ 64
       → Somewhere w map n top x (λ m. ends w m t z) ↔ Resumes w layout closed Γ p rest x (λ y m u. ends w m u (bit_xor z (change_of keep x y))) t
 
 -- ---- no bits
 one_place : (n x y : ℕ) → x < 2 ^ 64 → y < 2 ^ 64 → AgreeOutside n n x y → x ≡ y
 one_place n x y hx hy agree = same_from_bits_below 64 x y hx hy (λ k h. agree k h (cases_lt k n))
 
-pub after_from : (w : World) (n : ℕ) (layout : List (Name × Width × ℕ)) (keep : ℕ) (closed : List Name) (Γ : Environment) (p : Tree) (rest map : MapId)
-    → ((x : ℕ) → x < 2 ^ 64 → (a : NodeId) × (value w.maps map x ≡ Some a)) → IsAfter w layout keep closed Γ p rest map → IsAfterFrom w n n layout keep closed Γ p rest map
-after_from w n layout keep closed Γ p rest map there is = record {
-  from_fails = λ x hx t X. (
-    λ s. (is.after_fails x s.m hx (ap (value w.maps map) (one_place n x s.y hx s.below s.agree) ∙ s.leads) t X).0 s.behaved,
-    λ h. let at = there x hx in record { y = x; m = at.0; below = hx; agree = λ k l o. refl; leads = at.1; behaved = (is.after_fails x at.0 hx at.1 t X).1 h },
+pub after_from : (w : World) (n : ℕ) (layout : List (Name × Width × ℕ)) (keep : ℕ) (closed : List Name) (Γ : Environment) (from : ℕ → Bool) (p : Tree) (rest map : MapId)
+    → ((x : ℕ) → x < 2 ^ 64 → (a : NodeId) × (value w.maps map x ≡ Some a)) → IsAfterFrom w layout keep closed Γ from p rest map → IsAfterOpen w n n layout keep closed Γ from p rest map
+after_from w n layout keep closed Γ from p rest map there is = record {
+  from_fails = λ x hx o t X. (
+    λ s. (is.after_fails x s.m hx o (ap (value w.maps map) (one_place n x s.y hx s.below s.agree) ∙ s.leads) t X).0 s.behaved,
+    λ h. let at = there x hx in record { y = x; m = at.0; below = hx; agree = λ k l outside. refl; leads = at.1; behaved = (is.after_fails x at.0 hx o at.1 t X).1 h },
   );
-  from_ends = λ x hx t z hz. (
-    λ s. (is.after_ends x s.m hx (ap (value w.maps map) (one_place n x s.y hx s.below s.agree) ∙ s.leads) t z hz).0 s.behaved,
-    λ h. let at = there x hx in record { y = x; m = at.0; below = hx; agree = λ k l o. refl; leads = at.1; behaved = (is.after_ends x at.0 hx at.1 t z hz).1 h },
+  from_ends = λ x hx o t z hz. (
+    λ s. (is.after_ends x s.m hx o (ap (value w.maps map) (one_place n x s.y hx s.below s.agree) ∙ s.leads) t z hz).0 s.behaved,
+    λ h. let at = there x hx in record { y = x; m = at.0; below = hx; agree = λ k l outside. refl; leads = at.1; behaved = (is.after_ends x at.0 hx o at.1 t z hz).1 h },
   );
 }
 
 -- ---- once the bits have any values
-pub freed_after : (w : World) (n top : ℕ) (layout : List (Name × Width × ℕ)) (keep : ℕ) (closed : List Name) (Γ : Environment) (p : Tree) (rest map r : MapId)
-    → IsAfterFrom w n top layout keep closed Γ p rest map → IsFreed w n top map r → IsAfter w layout keep closed Γ p rest r
-freed_after w n top layout keep closed Γ p rest map r is freed = record {
-  after_fails = λ x a hx at t X. (λ h. (is.from_fails x hx t X).0 ((freed.freed_fails x a hx at t X).0 h), λ h. (freed.freed_fails x a hx at t X).1 ((is.from_fails x hx t X).1 h));
-  after_ends = λ x a hx at t z hz. (λ h. (is.from_ends x hx t z hz).0 ((freed.freed_ends x a hx at t z hz).0 h), λ h. (freed.freed_ends x a hx at t z hz).1 ((is.from_ends x hx t z hz).1 h));
+pub freed_after : (w : World) (n top : ℕ) (layout : List (Name × Width × ℕ)) (keep : ℕ) (closed : List Name) (Γ : Environment) (from : ℕ → Bool) (p : Tree) (rest map r : MapId)
+    → IsAfterOpen w n top layout keep closed Γ from p rest map → IsFreed w n top map r → IsAfterFrom w layout keep closed Γ from p rest r
+freed_after w n top layout keep closed Γ from p rest map r is freed = record {
+  after_fails = λ x a hx o at t X. (λ h. (is.from_fails x hx o t X).0 ((freed.freed_fails x a hx at t X).0 h), λ h. (freed.freed_fails x a hx at t X).1 ((is.from_fails x hx o t X).1 h));
+  after_ends = λ x a hx o at t z hz. (λ h. (is.from_ends x hx o t z hz).0 ((freed.freed_ends x a hx at t z hz).0 h), λ h. (freed.freed_ends x a hx at t z hz).1 ((is.from_ends x hx o t z hz).1 h));
 }
 
 -- ---- a declared channel
@@ -95,8 +97,8 @@ off_more closed c X = fun_ext (λ e. ap (λ b. b && X e) (open_more e) ∙ mix (
     mix false true x = refl
     mix false false x = refl
 
-module _ (w : World) (n top : ℕ) (layout : List (Name × Width × ℕ)) (keep : ℕ) (closed : List Name) (Γ : Environment) (c : Name) (wd : Width) (q : Tree) (rest map : MapId)
-    (is : IsAfterFrom w n top layout keep (closed ++ c ∷ []) (with_name Γ c.0 (Chan wd None)) q rest map) where
+module _ (w : World) (n top : ℕ) (layout : List (Name × Width × ℕ)) (keep : ℕ) (closed : List Name) (Γ : Environment) (from : ℕ → Bool) (c : Name) (wd : Width) (q : Tree) (rest map : MapId)
+    (is : IsAfterOpen w n top layout keep (closed ++ c ∷ []) (with_name Γ c.0 (Chan wd None)) from q rest map) where
   quiet_out : (x : ℕ) (t : List Event) (X : Event → Bool) → QuietlyFails layout (closed ++ c ∷ []) (with_name Γ c.0 (Chan wd None)) q x t X → QuietlyFails layout closed Γ (connect c.0 wd q) x t X
   quiet_out x t X s =
       let quiet = and_parts _ _ (sym (silent_more closed c t) ∙ s.0) in
@@ -120,31 +122,31 @@ module _ (w : World) (n top : ℕ) (layout : List (Name × Width × ℕ)) (keep 
       let k = ended_in x s.y s.t1 s.ended in
       record { t1 = s.t1; t2 = s.t2; y = s.y; m = s.m; whole = s.whole; below = s.below; silent = silent_more closed c s.t1 ∙ and_from _ _ s.silent k.0; ended = k.1; leads = s.leads; behaved = s.behaved }
 
-  pub channel_from : IsAfterFrom w n top layout keep closed Γ (connect c.0 wd q) rest map
+  pub channel_from : IsAfterOpen w n top layout keep closed Γ from (connect c.0 wd q) rest map
   channel_from = record {
-    from_fails = λ x hx t X. (
+    from_fails = λ x hx o t X. (
       λ s. ⊎_elim
           (λ (k : QuietlyFails layout (closed ++ c ∷ []) (with_name Γ c.0 (Chan wd None)) q x t X). inl (quiet_out x t X k))
           (λ (k : Resumes w layout (closed ++ c ∷ []) (with_name Γ c.0 (Chan wd None)) q rest x (λ y m u. fails w m u X) t). inr (chan_out x t (λ y m u. fails w m u X) k))
-          ((is.from_fails x hx t X).0 s),
-      λ h. (is.from_fails x hx t X).1 (⊎_elim
+          ((is.from_fails x hx o t X).0 s),
+      λ h. (is.from_fails x hx o t X).1 (⊎_elim
           (λ (k : QuietlyFails layout closed Γ (connect c.0 wd q) x t X). inl (quiet_in x t X k.0 k.1))
           (λ (k : Resumes w layout closed Γ (connect c.0 wd q) rest x (λ y m u. fails w m u X) t). inr (chan_in x t (λ y m u. fails w m u X) k))
           h),
     );
-    from_ends = λ x hx t z hz. (
-      λ s. chan_out x t (λ y m u. ends w m u (bit_xor z (change_of keep x y))) ((is.from_ends x hx t z hz).0 s),
-      λ h. (is.from_ends x hx t z hz).1 (chan_in x t (λ y m u. ends w m u (bit_xor z (change_of keep x y))) h),
+    from_ends = λ x hx o t z hz. (
+      λ s. chan_out x t (λ y m u. ends w m u (bit_xor z (change_of keep x y))) ((is.from_ends x hx o t z hz).0 s),
+      λ h. (is.from_ends x hx o t z hz).1 (chan_in x t (λ y m u. ends w m u (bit_xor z (change_of keep x y))) h),
     );
   }
 
 -- ---- a declared variable
-module _ (w : World) (n top : ℕ) (layout inner : List (Name × Width × ℕ)) (keep : ℕ) (closed : List Name) (Γ : Environment) (v : Name) (wd : Width) (q : Tree) (rest map : MapId)
+module _ (w : World) (n top : ℕ) (layout inner : List (Name × Width × ℕ)) (keep : ℕ) (closed : List Name) (Γ : Environment) (from : ℕ → Bool) (v : Name) (wd : Width) (q : Tree) (rest map : MapId)
     (inside : keep < 2 ^ n) (room : n + bits_of wd ≤ top) (few : top ≤ 64) (over : IsOver w n rest)
     (pushed : (u : ℕ) → state_of inner u ≡ with_value (state_of layout u) v.0 (u / 2 ^ n % 2 ^ bits_of wd))
     (below : (x y : ℕ) → AgreeBelow n x y → state_of layout x ≡ state_of layout y) (tells : TellsBits layout n)
-    (reaches : Reaches inner (with_name Γ v.0 (Var wd)) q)
-    (is : IsAfterFrom w (n + bits_of wd) top inner keep closed (with_name Γ v.0 (Var wd)) q rest map) where
+    (reaches : Reaches inner (with_name Γ v.0 (Var wd)) q) (stays : (x y : ℕ) → AgreeBelow n x y → from x ≡ true → from y ≡ true)
+    (is : IsAfterOpen w (n + bits_of wd) top inner keep closed (with_name Γ v.0 (Var wd)) from q rest map) where
   low_agree : (x y : ℕ) → AgreeOutside n top x y → AgreeBelow n x y
   low_agree x y agree k h = agree k (omega (arith, h, room, few)) (inl h)
 
@@ -190,6 +192,9 @@ module _ (w : World) (n top : ℕ) (layout inner : List (Name × Width × ℕ)) 
     at_state : (x z : ℕ) → z < 2 ^ bits_of wd → with_value (state_of layout x) v.0 z ≡ state_of inner (at x z)
     at_state x z h = sym (state_inside x (at x z) (at_agrees x z h) ∙ ap (λ c. with_value (state_of layout x) v.0 c) (placed_value n (bits_of wd) z x (omega (arith, room, few)) h))
 
+    there : (x z : ℕ) → z < 2 ^ bits_of wd → from x ≡ true → from (at x z) ≡ true
+    there x z h o = stays x (at x z) (low_agree x (at x z) (at_agrees x z h)) o
+
     further : (x z : ℕ) (f : NodeId → Bool) → z < 2 ^ bits_of wd → Somewhere w map (n + bits_of wd) top (at x z) f → Somewhere w map n top x f
     further x z f h s = record {
       y = s.y;
@@ -203,22 +208,22 @@ module _ (w : World) (n top : ℕ) (layout inner : List (Name × Width × ℕ)) 
     nearer : (x : ℕ) (f : NodeId → Bool) → (s : Somewhere w map n top x f) → Somewhere w map (n + bits_of wd) top s.y f
     nearer x f s = record { y = s.y; m = s.m; below = s.below; agree = λ k l o. refl; leads = s.leads; behaved = s.behaved }
 
-    quiet_var_in : (x : ℕ) (t : List Event) (X : Event → Bool) → x < 2 ^ 64 → is_silent_on closed t ≡ true → WithVariable v.0 wd (meaning q) Γ (state_of layout x) t (refusing (off_channels closed X))
+    quiet_var_in : (x : ℕ) (t : List Event) (X : Event → Bool) → x < 2 ^ 64 → from x ≡ true → is_silent_on closed t ≡ true → WithVariable v.0 wd (meaning q) Γ (state_of layout x) t (refusing (off_channels closed X))
         → Somewhere w map n top x (λ m. fails w m t X)
-    quiet_var_in x t X hx h (at_rest z small d) = further x z (λ m. fails w m t X) small
-        ((is.from_fails (at x z) (placed_lt n (bits_of wd) z x (omega (arith, room, few)) small) t X).1 (inl (h, subst (λ st. part_fails (with_name Γ v.0 (Var wd)) q st t (off_channels closed X)) (at_state x z small) d)))
+    quiet_var_in x t X hx o h (at_rest z small d) = further x z (λ m. fails w m t X) small
+        ((is.from_fails (at x z) (placed_lt n (bits_of wd) z x (omega (arith, room, few)) small) (there x z small o) t X).1 (inl (h, subst (λ st. part_fails (with_name Γ v.0 (Var wd)) q st t (off_channels closed X)) (at_state x z small) d)))
 
-    var_in : (x : ℕ) (t t1 t2 : List Event) (y : ℕ) (m : NodeId) (f : ℕ → ℕ → NodeId → List Event → Bool) (g : NodeId → Bool) → x < 2 ^ 64 → t ≡ t1 ++ t2 → y < 2 ^ 64 → is_silent_on closed t1 ≡ true
+    var_in : (x : ℕ) (t t1 t2 : List Event) (y : ℕ) (m : NodeId) (f : ℕ → ℕ → NodeId → List Event → Bool) (g : NodeId → Bool) → x < 2 ^ 64 → from x ≡ true → t ≡ t1 ++ t2 → y < 2 ^ 64 → is_silent_on closed t1 ≡ true
         → value w.maps rest y ≡ Some m → f x y m t2 ≡ true
         → ((x' y' : ℕ) → AgreeBelow n x x' → AgreeBelow n y y' → f x y m t2 ≡ f x' y' m t2)
-        → ((x' : ℕ) → x' < 2 ^ 64 → Resumes w inner closed (with_name Γ v.0 (Var wd)) q rest x' (f x') t → Somewhere w map (n + bits_of wd) top x' g)
+        → ((x' : ℕ) → x' < 2 ^ 64 → from x' ≡ true → Resumes w inner closed (with_name Γ v.0 (Var wd)) q rest x' (f x') t → Somewhere w map (n + bits_of wd) top x' g)
         → WithVariable v.0 wd (meaning q) Γ (state_of layout x) t1 (ended (state_of layout y)) → Somewhere w map n top x g
-    var_in x t t1 t2 y m f g hx whole hy quiet leads behaved same_f found (at_end z s1 small e d) =
+    var_in x t t1 t2 y m f g hx o whole hy quiet leads behaved same_f found (at_end z s1 small e d) =
         let d' = subst (λ st. part_ends (with_name Γ v.0 (Var wd)) q st t1 s1) (at_state x z small) d in
         let to = reaches (at x z) t1 s1 (placed_lt n (bits_of wd) z x (omega (arith, room, few)) small) d' in
         let outside : state_of layout y ≡ state_of layout to.0 = e ∙ ap (λ s. with_value s v.0 (state_of layout x v.0)) to.2 ∙ sym (missing x to.0 (dropped x to.0)) in
         let agree : AgreeBelow n y to.0 = tells y to.0 outside in
-        further x z g small (found (at x z) (placed_lt n (bits_of wd) z x (omega (arith, room, few)) small) (record {
+        further x z g small (found (at x z) (placed_lt n (bits_of wd) z x (omega (arith, room, few)) small) (there x z small o) (record {
           t1 = t1;
           t2 = t2;
           y = to.0;
@@ -240,25 +245,25 @@ module _ (w : World) (n top : ℕ) (layout inner : List (Name × Width × ℕ)) 
             flip : (x y : ℕ) → change_of keep x y ≡ change_of keep y x
             flip x y = ap (λ c. bit_and c keep) (Rattle.std.specs.Int.Bits.xor_comm x y)
 
-    pub variable_from : IsAfterFrom w n top layout keep closed Γ (declare v.0 wd q) rest map
+    pub variable_from : IsAfterOpen w n top layout keep closed Γ from (declare v.0 wd q) rest map
     variable_from = record {
-      from_fails = λ x hx t X. (
+      from_fails = λ x hx o t X. (
         λ s. ⊎_elim
             (λ (k : QuietlyFails inner closed (with_name Γ v.0 (Var wd)) q s.y t X). inl (quiet_var_out x s.y t X s.agree k))
             (λ (k : Resumes w inner closed (with_name Γ v.0 (Var wd)) q rest s.y (λ y m u. fails w m u X) t). inr (var_out x s.y t (λ y m u. fails w m u X) (λ y m u. fails w m u X) s.agree (λ u m a. refl) k))
-            ((is.from_fails s.y s.below t X).0 (nearer x (λ m. fails w m t X) s)),
+            ((is.from_fails s.y s.below (stays x s.y (low_agree x s.y s.agree) o) t X).0 (nearer x (λ m. fails w m t X) s)),
         ⊎_elim
-            (λ (k : QuietlyFails layout closed Γ (declare v.0 wd q) x t X). quiet_var_in x t X hx k.0 k.1)
+            (λ (k : QuietlyFails layout closed Γ (declare v.0 wd q) x t X). quiet_var_in x t X hx o k.0 k.1)
             (λ (k : Resumes w layout closed Γ (declare v.0 wd q) rest x (λ y m u. fails w m u X) t).
-            var_in x t k.t1 k.t2 k.y k.m (λ x' y m u. fails w m u X) (λ m. fails w m t X) hx k.whole k.below k.silent k.leads k.behaved (λ x' y' a b. refl)
-            (λ x' h r. (is.from_fails x' h t X).1 (inr r)) k.ended),
+            var_in x t k.t1 k.t2 k.y k.m (λ x' y m u. fails w m u X) (λ m. fails w m t X) hx o k.whole k.below k.silent k.leads k.behaved (λ x' y' a b. refl)
+            (λ x' h i r. (is.from_fails x' h i t X).1 (inr r)) k.ended),
       );
-      from_ends = λ x hx t z hz. (
+      from_ends = λ x hx o t z hz. (
         λ s. var_out x s.y t (λ y m u. ends w m u (bit_xor z (change_of keep s.y y))) (λ y m u. ends w m u (bit_xor z (change_of keep x y))) s.agree
             (λ u m a. turned_same s.y x u u z m a (λ k h. sym (low_agree x s.y s.agree k h)) (λ k h. refl))
-            ((is.from_ends s.y s.below t z hz).0 (nearer x (λ m. ends w m t z) s)),
-        λ k. var_in x t k.t1 k.t2 k.y k.m (λ x' y m u. ends w m u (bit_xor z (change_of keep x' y))) (λ m. ends w m t z) hx k.whole k.below k.silent k.leads k.behaved
+            ((is.from_ends s.y s.below (stays x s.y (low_agree x s.y s.agree) o) t z hz).0 (nearer x (λ m. ends w m t z) s)),
+        λ k. var_in x t k.t1 k.t2 k.y k.m (λ x' y m u. ends w m u (bit_xor z (change_of keep x' y))) (λ m. ends w m t z) hx o k.whole k.below k.silent k.leads k.behaved
             (λ x' y' a b. turned_same x x' k.y y' z k.m k.t2 a b)
-            (λ x' h r. (is.from_ends x' h t z hz).1 r) k.ended,
+            (λ x' h i r. (is.from_ends x' h i t z hz).1 r) k.ended,
       );
     }

@@ -17,7 +17,7 @@ use Rattle.occ_node.specs.declared.world.World.{World}
 use Rattle.occ_follow.specs.Sequence.{HasNodes}
 use Rattle.occ_weave.specs.Weave.{is_open, is_silent_on, off_channels}
 use Rattle.occ_norm_frame.specs.After.{QuietlyFails, Resumes, change_of}
-use Rattle.occ_norm.proofs.From.{IsAfterFrom}
+use Rattle.occ_norm.specs.From.{IsAfterFrom}
 use Rattle.occ_norm.proofs.Changing.{change_lt, change_twice}
 
 -- from the state of an assignment the part ends in states of assignments alone

@@ -1,4 +1,4 @@
--- SKIP, STOP and the choices of an IF, as maps in front of what follows.
+-- SKIP and STOP, as maps in front of what follows.
 use Rattle.std.proofs.Common.{◌≡◌, ◌<◌, ◌≤◌, ◌^◌, ◌↔◌, ◌++◌, ◌+◌, ◌%◌, ⊎_elim, inl, inr, ℕ, min, Bool, true, false, List, [], ◌∷◌, Some, MatchBool, cond, refl, sym, ap, ◌∙◌, subst, bit_xor, arith}
 use Rattle.std.proofs.lemmas.Bool.{cases_lt}
 use Rattle.std.proofs.lemmas.Nat.Bits.{bit_at-zero, bit_at_above, same_from_bits}
@@ -190,30 +190,3 @@ after_as w layout keep closed Γ q rest r there = record {
     λ s. iff.1 (resumes_as w layout closed Γ q k.0 rest x (λ y m u. ends w m u (bit_xor z (change_of keep x y))) t (λ u o. (k.4 u o).1) s),
   );
 }
-
--- ---- the first choice of an IF
-pub case_after : (w : World) (layout : List (Name × Width × ℕ)) (keep : ℕ) (closed : List Name) (Γ : Environment) (e : Exp) (p : Tree) (cs : Cases) (rest chosen map r : MapId) (test : ℕ → Bool)
-    → ((x : ℕ) → x < 2 ^ 64 → test x ≡ is_true Γ e (state_of layout x)) → ((x : ℕ) → value w.maps r x ≡ cond (test x) (value w.maps chosen x) (value w.maps map x))
-    → IsAfter w layout keep closed Γ p rest chosen → IsAfter w layout keep closed Γ (select cs) rest map → IsAfter w layout keep closed Γ (select (and_case e p cs)) rest r
-case_after w layout keep closed Γ e p cs rest chosen map r test tests is first others = after_as w layout keep closed Γ (select (and_case e p cs)) rest r (λ x hx. at x hx (test x) refl)
-  where
-    at : (x : ℕ) → x < 2 ^ 64 → (b : Bool) → test x ≡ b → (q : Tree) × (m : MapId) × IsAfter w layout keep closed Γ q rest m × (value w.maps r x ≡ value w.maps m x)
-        × ((u : List Event) (o : Outcome) → (meaning q).does Γ (state_of layout x) u o ↔ (meaning (select (and_case e p cs))).does Γ (state_of layout x) u o)
-    at x hx true h = (
-      p,
-      chosen,
-      first,
-      is x ∙ ap (λ c. cond c (value w.maps chosen x) (value w.maps map x)) h,
-      λ u o. let b : true ≡ is_true Γ e (state_of layout x) = sym h ∙ tests x hx in
-          let M : Bool → Type 0 = λ c. MatchBool c ((meaning p).does Γ (state_of layout x) u o) ((meaning (select cs)).does Γ (state_of layout x) u o) in
-          (λ d. subst M b d, λ d. subst M (sym b) d),
-    )
-    at x hx false h = (
-      select cs,
-      map,
-      others,
-      is x ∙ ap (λ c. cond c (value w.maps chosen x) (value w.maps map x)) h,
-      λ u o. let b : false ≡ is_true Γ e (state_of layout x) = sym h ∙ tests x hx in
-          let M : Bool → Type 0 = λ c. MatchBool c ((meaning p).does Γ (state_of layout x) u o) ((meaning (select cs)).does Γ (state_of layout x) u o) in
-          (λ d. subst M b d, λ d. subst M (sym b) d),
-    )

@@ -1,2 +1,3 @@
+pub mod From
 pub mod Parts
 pub mod Root

@@ -7,9 +7,12 @@ ghost use Rattle.occ_follow.specs.Sequence.{HasNodes};
 ghost use Rattle.occ_norm_maps.specs.Maps.{Extends};
 ghost use Rattle.occ_norm_frame.specs.After.{IsOver};
 ghost use Rattle.occ_norm_frame.specs.Placed.{Fits, FitAll, FitBranches, FitCases};
+ghost use Rattle.occ_norm_reached.specs.States.{AreStates};
+ghost use Rattle.occ_norm.specs.From.{IsFront};
 ghost use Rattle.occ_norm.specs.Parts.{IsAfterIn};
 
 use occ_base::Memory;
+use occ_dd::SetId;
 use occ_mdd::MapId;
 use occ_node::World;
 use occ_norm_alt::{Alternation, input, output};
@@ -18,13 +21,19 @@ use occ_norm_ending::ending;
 use occ_norm_frame::{Frame, freed, holds};
 use occ_norm_maps::{choose, stop};
 use occ_norm_par::{Sides, joined, sequel, side_frame};
-use occ_norm_reached::{all_states, limited, states_between};
+use occ_norm_reached::{all_states, both, limited, states_between, states_left};
 use occ_norm_transfer::straight;
 use occ_syntax::{Expr, Guard, Proc};
 use std::alloc::Global;
 
+// The states in which a part begins, and the map of what follows it.
+#[derive(Clone, Copy)]
+struct Span {
+    from: SetId,
+    rest: MapId,
+}
+
 /// The map of a part and then what another map has.
-// The declarations round a process are a loop, since there may be thousands.
 #[cycle(after)]
 pub fn after(
     alloc: Global,
@@ -40,13 +49,35 @@ pub fn after(
     ensures nodes { IfOk result (HasNodes world.new) }
     ensures after { IfOk result (IsAfterIn world.new frame.now.vars frame.now.layout frame.now.keep frame.now.closed.items (tree part.now) rest) }
 {
+    let from = all_states(world, frame);
+    front(alloc, world, frame, part, Span { from, rest })
+}
+
+// The same in the states of a set alone: a part in a SEQ or an IF need not say what it does in those that can't be reached there.
+// The declarations round a process are a loop, since there may be thousands. A set of outside says nothing of what they declare.
+#[cycle(after)]
+fn front(
+    alloc: Global,
+    world: &mut World,
+    frame: &Frame,
+    part: &Proc,
+    span: Span,
+) -> Result<MapId, Memory>
+    requires part { Fits frame.now.vars (tree part.now) }
+    requires usage { KeepsUsage (tree part.now) }
+    requires from { AreStates world.old.store frame.now.bits span.from }
+    requires rest { IsOver world.old frame.now.bits span.rest }
+    ensures extends { Extends world.old world.new }
+    ensures over { IfOk result (IsOver world.new frame.now.bits) }
+    ensures front { IfOk result (IsFront world.new frame.now span.from (tree part.now) span.rest) }
+{
     let mut inner = frame.copy(alloc)?;
     let mut body = part;
     while let Some((name, kind, inside)) = body.declared() {
         inner.declare(alloc, name, kind)?;
         body = inside;
     }
-    let map = undeclared(alloc, world, &inner, body, rest)?;
+    let map = undeclared(alloc, world, &inner, body, span)?;
     freed(alloc, world, frame.bits, inner.bits, map)
 }
 
@@ -57,16 +88,18 @@ fn undeclared(
     world: &mut World,
     frame: &Frame,
     part: &Proc,
-    rest: MapId,
+    span: Span,
 ) -> Result<MapId, Memory>
     requires declared { is_declaration (tree part.now) ≡ false }
     requires part { Fits frame.now.vars (tree part.now) }
     requires usage { KeepsUsage (tree part.now) }
-    requires rest { IsOver world.old frame.now.bits rest }
+    requires from { AreStates world.old.store frame.now.bits span.from }
+    requires rest { IsOver world.old frame.now.bits span.rest }
     ensures extends { Extends world.old world.new }
-    ensures nodes { IfOk result (HasNodes world.new) }
-    ensures after { IfOk result (IsAfterIn world.new frame.now.vars frame.now.layout frame.now.keep frame.now.closed.items (tree part.now) rest) }
+    ensures over { IfOk result (IsOver world.new frame.now.bits) }
+    ensures front { IfOk result (IsFront world.new frame.now span.from (tree part.now) span.rest) }
 {
+    let rest = span.rest;
     match part {
         Proc::Skip => Ok(rest),
         Proc::Stop => stop(alloc, world),
@@ -75,9 +108,9 @@ fn undeclared(
         }
         Proc::Input { chan, var } => input(alloc, world, frame, *chan, *var, rest),
         Proc::Output { chan, value } => output(alloc, world, frame, *chan, value, rest),
-        Proc::Seq(parts) => in_turn(alloc, world, frame, parts.items(), rest),
+        Proc::Seq(parts) => in_turn(alloc, world, frame, parts.items(), span),
         Proc::Par(parts) => at_once(alloc, world, frame, parts.items(), rest),
-        Proc::If(choices) => first_choice(alloc, world, frame, choices.items(), rest),
+        Proc::If(choices) => first_choice(alloc, world, frame, choices.items(), span),
         Proc::Alt(alternatives) => alternated(alloc, world, frame, alternatives.items(), rest),
         Proc::Var { .. } | Proc::Chan { .. } => unreachable!(),
     }
@@ -91,56 +124,61 @@ fn in_turn(
     world: &mut World,
     frame: &Frame,
     parts: &[Proc],
-    rest: MapId,
+    span: Span,
 ) -> Result<MapId, Memory>
     requires parts { FitAll frame.now.vars (trees parts.now) }
     requires usage { AllKeepUsage (trees parts.now) }
-    requires rest { IsOver world.old frame.now.bits rest }
+    requires from { AreStates world.old.store frame.now.bits span.from }
+    requires rest { IsOver world.old frame.now.bits span.rest }
     ensures extends { Extends world.old world.new }
-    ensures nodes { IfOk result (HasNodes world.new) }
-    ensures after { IfOk result (IsAfterIn world.new frame.now.vars frame.now.layout frame.now.keep frame.now.closed.items (seq (trees parts.now)) rest) }
+    ensures over { IfOk result (IsOver world.new frame.now.bits) }
+    ensures front { IfOk result (IsFront world.new frame.now span.from (seq (trees parts.now)) span.rest) }
 {
-    let all = all_states(world, frame);
-    let sets = states_between(alloc, world, frame, parts, all)?;
-    let mut map = rest;
+    let sets = states_between(alloc, world, frame, parts, span.from)?;
+    let mut map = span.rest;
     let mut left = parts.len();
     while left > 0 {
-        let next = limited(alloc, world, frame, sets[left], map)?;
-        if let Some((start, made)) = straight(alloc, world, frame, &parts[..left], next)? {
+        let rest = limited(alloc, world, frame, sets[left], map)?;
+        if let Some((start, made)) = straight(alloc, world, frame, &parts[..left], rest)? {
             left = start;
             map = made;
             continue;
         }
         left -= 1;
-        let front = after(alloc, world, frame, &parts[left], next)?;
-        map = front;
+        let from = sets[left];
+        let next = front(alloc, world, frame, &parts[left], Span { from, rest })?;
+        map = next;
     }
     Ok(map)
 }
 
-// The choices of an IF, and then what another map has.
+// The choices of an IF, and then what another map has. Each begins where its condition is TRUE and none in front of it is.
 #[cycle(after)]
 fn first_choice(
     alloc: Global,
     world: &mut World,
     frame: &Frame,
     choices: &[(Expr, Proc)],
-    rest: MapId,
+    span: Span,
 ) -> Result<MapId, Memory>
     requires choices { FitCases frame.now.vars (cases choices.now) }
     requires usage { CasesKeepUsage (cases choices.now) }
-    requires rest { IsOver world.old frame.now.bits rest }
+    requires from { AreStates world.old.store frame.now.bits span.from }
+    requires rest { IsOver world.old frame.now.bits span.rest }
     ensures extends { Extends world.old world.new }
-    ensures nodes { IfOk result (HasNodes world.new) }
-    ensures after { IfOk result (IsAfterIn world.new frame.now.vars frame.now.layout frame.now.keep frame.now.closed.items (select (cases choices.now)) rest) }
+    ensures over { IfOk result (IsOver world.new frame.now.bits) }
+    ensures front { IfOk result (IsFront world.new frame.now span.from (select (cases choices.now)) span.rest) }
 {
+    let rest = span.rest;
+    let sets = states_left(alloc, world, frame, choices, span.from)?;
     let mut map = stop(alloc, world)?;
     let mut left = choices.len();
     while left > 0 {
         left -= 1;
         let choice = &choices[left];
-        let chosen = after(alloc, world, frame, &choice.1, rest)?;
         let set = holds(alloc, world, frame, &choice.0)?;
+        let from = both(world, sets[left], set)?;
+        let chosen = front(alloc, world, frame, &choice.1, Span { from, rest })?;
         let next = choose(world, set, chosen, map)?;
         map = next;
     }

@@ -3,3 +3,4 @@ pub mod Valued
 pub mod Reaching
 pub mod Branching
 pub mod Limiting
+pub mod Leaving

@@ -1,20 +1,22 @@
 -- Sets of states, and the states that a part reaches from those of a set.
-use Rattle.std.specs.Prelude.{ℕ, ◌+◌, ◌<◌, ◌≡◌, true, List, get_or, length}
+use Rattle.std.specs.Prelude.{ℕ, ◌+◌, ◌<◌, ◌≡◌, ◌&&◌, not, true, List, get_or, length}
 use Rattle.std.specs.Int.{bit_at}
 use Rattle.occ_base.specs.declared.event.Event.{Event}
 use Rattle.occ_base.specs.declared.names.Name.{Name}
 use Rattle.occ_base.specs.declared.width.Width.{Width}
-use Rattle.occ_bits.specs.Layout.{state_of}
+use Rattle.occ_bits.specs.Layout.{environment_in, state_of}
 use Rattle.occ_dd.specs.Store.{IsKnown, has}
 use Rattle.occ_dd.specs.declared.set.SetId.{SetId}
 use Rattle.occ_dd.specs.declared.store.Store.{Store}
+use Rattle.occ_syntax.specs.declared.expr.Expr.{Expr}
 use Rattle.occ_syntax.specs.declared.proc.Proc.{Proc, Skip}
 use Rattle.occ_syntax.specs.declared.scope.Kind.{Kind}
+use Rattle.occ_syntax.specs.Eval.{is_true}
 use Rattle.occ_syntax.specs.Meaning.{ends as part_ends}
 use Rattle.occ_syntax.specs.Scopes.{Environment}
 use Rattle.occ_syntax.specs.Tree.{Tree}
 use Rattle.occ_syntax.specs.Types.{types_kept}
-use Rattle.occ_syntax.specs.View.{tree}
+use Rattle.occ_syntax.specs.View.{exp, tree}
 use Rattle.occ_norm_frame.specs.After.{AgreeBelow}
 use Rattle.occ_norm_frame.specs.Placed.{IsAround}
 
@@ -49,3 +51,12 @@ pub record AreBetween (s : Store) (vars : List (Name × Kind)) (layout : List (N
   pub first : set_at sets 0 ≡ from
   pub states : (i : ℕ) → i < length sets → AreStates s n (set_at sets i)
   pub ends : (i : ℕ) → i < length parts → EndsIn s vars layout (tree (get_or parts i Skip)) (set_at sets i) (set_at sets (i + 1))
+
+-- The sets stand in front of each choice of an IF and behind the last one. The first is that set, and each next one has those
+-- states of it in which the condition between them isn't TRUE.
+pub record AreLeft (s : Store) (layout : List (Name × Width × ℕ)) (n : ℕ) (from : SetId) (choices : List (Expr × Proc)) (sets : List SetId) : Type 0 where
+  pub count : length sets ≡ length choices + 1
+  pub first : set_at sets 0 ≡ from
+  pub states : (i : ℕ) → i < length sets → AreStates s n (set_at sets i)
+  pub left : (i : ℕ) (c : Expr × Proc) → i < length choices → c ≡ get_or choices i c → (x : ℕ)
+      → has s (set_at sets (i + 1)) x ≡ (has s (set_at sets i) x && not (is_true (environment_in layout) (exp c.0) (state_of layout x)))

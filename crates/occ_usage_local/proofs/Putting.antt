@@ -89,7 +89,7 @@ only_use : (p : Tree) (i : ℕ) (q r : Tree) → only_at p i ≡ Some q → Uses
 only_use p zero q r e w = of_old p q r e w
 only_use p (suc i) q r e w = none_not_some e
 
-child_use : (p : Tree) (i : ℕ) (q r : Tree) → child p i ≡ Some q → UsesNoMore r q → UsesNoMore (with_child p i r) p
+pub child_use : (p : Tree) (i : ℕ) (q r : Tree) → child p i ≡ Some q → UsesNoMore r q → UsesNoMore (with_child p i r) p
 child_use skip i q r e w = none_not_some e
 child_use stop i q r e w = none_not_some e
 child_use (assign xs es) i q r e w = none_not_some e

@@ -6,8 +6,8 @@ use Rattle.occ_syntax.specs.Usage.{KeepsUsage}
 use Rattle.occ_syntax.specs.View.{tree, trees, cases, branches}
 use Rattle.occ_syntax.proofs.Weights.{weight, weight_of_all, weight_of_cases, weight_of_branches}
 use Rattle.occ_dd.specs.Store.{has}
-use Rattle.occ_norm_reached.specs.States.{AreBetween, set_at}
-use Rattle.occ_norm.proofs.From.{IsAfterFromIn}
+use Rattle.occ_norm_reached.specs.States.{AreBetween, AreLeft, set_at}
+use Rattle.occ_norm.specs.From.{IsAfterFromIn}
 use Rattle.occ_follow.specs.Sequence.{HasNodes}
 use Rattle.occ_norm_maps.specs.Maps.{Extends, MayHaveNodes}
 use Rattle.occ_norm_frame.specs.After.{IsOver}
@@ -15,12 +15,14 @@ use Rattle.occ_norm_frame.specs.Placed.{Fits, IsAround}
 use Rattle.occ_norm_alt.specs.Alternation.{IsAlternation}
 use Rattle.occ_norm_par.specs.Joined.{HaveNodes}
 use Rattle.occ_norm.proofs.Beside.{AreMade}
-use Rattle.occ_norm.specs.Parts.{IsAfterIn}
 use Rattle.occ_norm.proofs.Declaring.{Opens}
 use Rattle.occ_norm.proofs.after.+after.Given as goal
 
 abbrev pub decreases-after : goal.decreases-after
-decreases-after l = 2 * weight (tree l.part.now) + 1
+decreases-after l = 2 * weight (tree l.part.now) + 2
+
+abbrev pub decreases-front : goal.decreases-front
+decreases-front l = 2 * weight (tree l.part.now) + 1
 
 abbrev pub decreases-undeclared : goal.decreases-undeclared
 decreases-undeclared l = 2 * weight (tree l.part.now)
@@ -35,11 +37,11 @@ abbrev pub decreases-first_choice : goal.decreases-first_choice
 decreases-first_choice l = 2 * weight_of_cases (cases l.choices.now)
 
 abbrev pub decreases-alternated : goal.decreases-alternated
-decreases-alternated l = 2 * weight_of_branches (branches l.alternatives.now)
+decreases-alternated l = 2 * weight_of_branches (branches l.alternatives.now) + 1
 
 -- the declarations so far are in scope
-abbrev pub invariant-after-loop-name : goal.invariant-after-loop-name
-invariant-after-loop-name l = record {
+abbrev pub invariant-front-loop-name : goal.invariant-front-loop-name
+invariant-front-loop-name l = record {
   fits : Fits l.inner.vars (tree l.body);
   usage : KeepsUsage (tree l.body);
   left : weight (tree l.body) ≤ weight (tree l.part);
@@ -48,18 +50,17 @@ invariant-after-loop-name l = record {
   opens : Opens l.frame.vars l.frame.layout l.frame.bits l.frame.keep l.frame.closed.items (tree l.part) l.inner.vars l.inner.layout l.inner.bits l.inner.closed.items (tree l.body);
 }
 
-abbrev pub decreases-after-loop-name : goal.decreases-after-loop-name
-decreases-after-loop-name l = weight (tree l.body)
+abbrev pub decreases-front-loop-name : goal.decreases-front-loop-name
+decreases-front-loop-name l = weight (tree l.body)
 
 abbrev pub invariant-in_turn-loop-left : goal.invariant-in_turn-loop-left
 invariant-in_turn-loop-left l = record {
   extends : Extends l.fn.world l.world;
   over : IsOver l.world l.frame.bits l.map;
   below : l.left ≤ length l.parts;
-  between : AreBetween l.world.store l.frame.vars l.frame.layout l.frame.bits (set_at l.sets.items 0) l.parts l.sets.items;
-  all : (x : ℕ) → has l.world.store (set_at l.sets.items 0) x ≡ true;
+  between : AreBetween l.world.store l.frame.vars l.frame.layout l.frame.bits l.fn.span.from l.parts l.sets.items;
   after : IsAfterFromIn l.world l.frame.vars l.frame.layout l.frame.keep l.frame.closed.items (has l.world.store (set_at l.sets.items l.left))
-      (seq (trees (drop l.left l.parts))) l.fn.rest l.map;
+      (seq (trees (drop l.left l.parts))) l.fn.span.rest l.map;
 }
 
 abbrev pub decreases-in_turn-loop-left : goal.decreases-in_turn-loop-left
@@ -68,9 +69,11 @@ decreases-in_turn-loop-left l = l.left
 abbrev pub invariant-first_choice-loop-left : goal.invariant-first_choice-loop-left
 invariant-first_choice-loop-left l = record {
   extends : Extends l.fn.world l.world;
-  nodes : HasNodes l.world l.map;
+  over : IsOver l.world l.frame.bits l.map;
   below : l.left ≤ length l.choices;
-  after : IsAfterIn l.world l.frame.vars l.frame.layout l.frame.keep l.frame.closed.items (select (cases (drop l.left l.choices))) l.rest l.map;
+  states : AreLeft l.world.store l.frame.layout l.frame.bits l.fn.span.from l.choices l.sets.items;
+  after : IsAfterFromIn l.world l.frame.vars l.frame.layout l.frame.keep l.frame.closed.items (has l.world.store (set_at l.sets.items l.left))
+      (select (cases (drop l.left l.choices))) l.fn.span.rest l.map;
 }
 
 abbrev pub decreases-first_choice-loop-left : goal.decreases-first_choice-loop-left

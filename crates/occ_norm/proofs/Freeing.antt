@@ -1,0 +1,69 @@
+-- The bits that matter to a map once some have any values.
+use Rattle.std.proofs.Common.{◌≡◌, ◌<◌, ◌≤◌, ◌+◌, ◌^◌, ◌%◌, inl, inr, ℕ, Bool, true, Some, sym, ap, ◌∙◌, arith}
+use Rattle.std.proofs.lemmas.Nat.{pow_pos}
+use Rattle.std.proofs.Math.Nat.{mod-lt}
+use Rattle.std.specs.Int.{bit_at}
+use Rattle.occ_base.specs.declared.event.Event.{Event}
+use Rattle.occ_bits.proofs.Arithmetic.{low_bit, higher_bit}
+use Rattle.occ_mdd.specs.Maps.{value}
+use Rattle.occ_mdd.specs.declared.map.MapId.{MapId}
+use Rattle.occ_node.specs.World.{fails, ends}
+use Rattle.occ_node.specs.declared.node.NodeId.{NodeId}
+use Rattle.occ_node.specs.declared.world.World.{World}
+use Rattle.occ_node.proofs.Recovery.{canonical}
+use Rattle.occ_follow.specs.Sequence.{HasNodes}
+use Rattle.occ_norm_frame.specs.After.{AgreeBelow, IsOver}
+use Rattle.occ_norm_frame.specs.Changes.{AgreeOutside, IsFreed, Somewhere}
+use Rattle.occ_norm_frame.proofs.After.{map_node, same_truth}
+use Rattle.occ_norm.proofs.Laying.{placed, placed_agrees, placed_lt, placed_value}
+
+module _ (w : World) (first end : ℕ) (map r : MapId) (order : first ≤ end) (few : end ≤ 24) (over : IsOver w end map) (freed : IsFreed w first end map r) (has : HasNodes w r) where
+  -- the assignment of the one with the lowest bits of the other
+  abbrev moved : ℕ → ℕ → ℕ
+  moved x y = placed 0 end (y % 2 ^ end) x
+
+  none : (k : ℕ) → 0 + k ≡ k
+  none k = omega arith
+
+  moved_low : (x y : ℕ) → AgreeBelow end y (moved x y)
+  moved_low x y k h =
+      let part : y % 2 ^ end < 2 ^ end = mod-lt y (pow_pos end) in
+      sym (low_bit y end k h) ∙ ap (λ v. bit_at v k) (sym (placed_value 0 end (y % 2 ^ end) x (omega (arith, few)) part)) ∙ low_bit _ end k h ∙ higher_bit (moved x y) 0 k ∙ ap (bit_at (moved x y)) (none k)
+
+  moved_agrees : (x u y : ℕ) → AgreeBelow first x u → AgreeOutside first end x y → AgreeOutside first end u (moved u y)
+  moved_agrees x u y below agree k h (inl l) = sym (below k l) ∙ agree k h (inl l) ∙ moved_low u y k (omega (arith, l, order))
+  moved_agrees x u y below agree k h (inr l) = placed_agrees 0 end (y % 2 ^ end) u (omega (arith, few)) (mod-lt y (pow_pos end)) k h (inr (omega (arith, l)))
+
+  somewhere_else : (x u : ℕ) → AgreeBelow first x u → (F : NodeId → Bool) → Somewhere w map first end x F → Somewhere w map first end u F
+  somewhere_else x u below F s =
+      let part : s.y % 2 ^ end < 2 ^ end = mod-lt s.y (pow_pos end) in
+      let lt : moved u s.y < 2 ^ 64 = placed_lt 0 end (s.y % 2 ^ end) u (omega (arith, few)) part in
+      record {
+        y = moved u s.y;
+        m = s.m;
+        below = lt;
+        agree = moved_agrees x u s.y below s.agree;
+        leads = sym (over.same s.y (moved u s.y) s.below lt (moved_low u s.y)) ∙ s.leads;
+        behaved = s.behaved;
+      }
+
+  one_node : (x y : ℕ) (a b : NodeId) → AgreeBelow first x y → x < 2 ^ 64 → y < 2 ^ 64 → value w.maps r x ≡ Some a → value w.maps r y ≡ Some b → a ≡ b
+  one_node x y a b agree h l e f =
+      let back : AgreeBelow first y x = λ k m. sym (agree k m) in
+      (canonical w).one a b (map_node w r has x h a e) (map_node w r has y l b f)
+      (λ t X. same_truth (fails w a t X) (fails w b t X)
+      (λ c. (freed.freed_fails y b l f t X).1 (somewhere_else x y agree (λ m. fails w m t X) ((freed.freed_fails x a h e t X).0 c)))
+      (λ c. (freed.freed_fails x a h e t X).1 (somewhere_else y x back (λ m. fails w m t X) ((freed.freed_fails y b l f t X).0 c))))
+      (λ t z below. same_truth (ends w a t z) (ends w b t z)
+      (λ c. (freed.freed_ends y b l f t z below).1 (somewhere_else x y agree (λ m. ends w m t z) ((freed.freed_ends x a h e t z below).0 c)))
+      (λ c. (freed.freed_ends x a h e t z below).1 (somewhere_else y x back (λ m. ends w m t z) ((freed.freed_ends y b l f t z below).0 c))))
+
+  -- the bits from the first of these on don't matter
+  pub freed_over : IsOver w first r
+  freed_over = record {
+    has = has;
+    same = λ x y h l agree.
+        let a = has.nodes x h in
+        let b = has.nodes y l in
+        a.1 ∙ ap (λ (m : NodeId). Some m) (one_node x y a.0 b.0 agree h l a.1 b.1) ∙ sym b.1;
+  }
