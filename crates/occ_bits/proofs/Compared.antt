@@ -1,5 +1,5 @@
 -- Comparing two expressions under conditions, by sets of the assignments of a layout.
-use Rattle.std.proofs.Common.{◌≡◌, ◌↔◌, ℕ, ◌≤◌, ◌==◌, Bool, true, IsTrue, List, ◌∷◌, Some, refl, sym, ap, ◌∙◌, subst, arith}
+use Rattle.std.proofs.Common.{◌≡◌, ◌↔◌, ℕ, ◌≤◌, ◌==◌, Bool, true, IsTrue, List, ◌∷◌, refl, sym, ap, ◌∙◌, subst, arith}
 use Rattle.std.proofs.lemmas.Bool.{eqb-true, eq-eqb}
 use Rattle.occ_base.specs.declared.names.Name.{Name}
 use Rattle.occ_base.specs.declared.width.Width.{Width}
@@ -24,9 +24,6 @@ use Rattle.occ_bits.proofs.States.{state_back, state_fits}
 -- ---- two expressions of one type
 pub same_count : (Γ : Environment) (left right : Exp) → agree (type_of Γ left) (type_of Γ right) ≡ true → bits_of_exp Γ left ≡ bits_of_exp Γ right
 same_count Γ left right h = let t = agreed (type_of Γ left) (type_of Γ right) h in bits_of_type Γ left t.0 t.1 ∙ sym (bits_of_type Γ right t.0 t.2)
-
-pub some_left : (Γ : Environment) (left right : Exp) → agree (type_of Γ left) (type_of Γ right) ≡ true → (w : Width) × (type_of Γ left ≡ Some w)
-some_left Γ left right h = let t = agreed (type_of Γ left) (type_of Γ right) h in (t.0, t.1)
 
 pub equal_set : (s new : Store) (entries : List (Name × Width × ℕ)) (left right : Exp) (l r : List SetId) (a : SetId) → IsValue s entries left l → IsValue s entries right r → IsSet new a (λ x. number_at s l x == number_at s r x) → IsSet new a (λ x. value_at entries left x == value_at entries right x)
 equal_set s new entries left right l r a left_is right_is is = record {

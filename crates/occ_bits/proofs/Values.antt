@@ -2,7 +2,7 @@
 use Rattle.std.proofs.Common.{◌≡◌, ℕ, ◌+◌, ◌-◌, ◌*◌, ◌/◌, ◌%◌, ◌^◌, ◌<◌, ◌≤◌, ◌==◌, Bool, true, false, ◌&&◌, nat_lt, if◌then◌else◌, List, [], ◌∷◌, length, get_or, Option, Some, None, IsSome, refl, sym, ap, ◌∙◌, subst, arith}
 use Rattle.std.specs.Int.{bit_at}
 use Rattle.std.proofs.Math.Nat.{mod-lt}
-use Rattle.std.proofs.lemmas.Bool.{and_parts, ltb-true}
+use Rattle.std.proofs.lemmas.Bool.{and_parts}
 use Rattle.std.proofs.lemmas.Nat.{pow_pos}
 use Rattle.occ_base.specs.declared.names.Name.{Name}
 use Rattle.occ_base.specs.declared.width.Width.{Width}
@@ -86,13 +86,6 @@ bits_within scope h e typed =
     let same : bits_of k.0 ≡ bits_of_exp (environment scope) e = sym (bits_of_type (environment scope) e k.0 k.1) in
     let within = width_within k.0 (type_is_wide scope h e k.0 k.1) in
     (subst (λ n. 1 ≤ n) same within.0, subst (λ n. n ≤ 8) same within.1)
-
--- a numeral that has a type fits its width
-pub numeral_fits : (Γ : Environment) (bits value : ℕ) → IsSome (type_of Γ (numeral bits value)) → (bits ≤ 8) × (value < 2 ^ bits)
-numeral_fits Γ bits value typed =
-    let k = some_type (type_of Γ (numeral bits value)) typed in
-    let both = and_parts (is_width (Word bits)) (nat_lt value (2 ^ bits)) (if_some (is_width (Word bits) && nat_lt value (2 ^ bits)) (Some (Word bits)) k.0 k.1).0 in
-    ((width_within (Word bits) both.0).1, ltb-true value (2 ^ bits) both.1)
 
 -- ---- single digits
 pub one_digit : (s : Store) (n : ℕ) (sets : List SetId) (v : ℕ → ℕ) → IsWord s n sets v → n ≡ 1 → IsSet s (get_or sets 0 no_set) (λ x. v x == 1)

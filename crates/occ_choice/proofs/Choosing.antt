@@ -245,18 +245,7 @@ inputs_step chan nexts i n d old new h here was is =
     let e : i ≡ 0 + length (take i nexts) = omega (arith, length-take-le i nexts (omega arith)) in
     is ∙ (λ j. was j ++ inputs_from chan (e j) (here j ∷ [])) ∙ sym (ap (inputs_from chan 0) (take_more nexts i d h) ∙ inputs_more chan 0 (take i nexts) (get_or nexts i d))
 
-pub length-inputs : (chan : Name) (v : ℕ) (nexts : List NodeId) → length (inputs_from chan v nexts) ≡ length nexts
-length-inputs chan v [] = refl
-length-inputs chan v (n ∷ nexts) = ap suc (length-inputs chan (v + 1) nexts)
-
 pub inputs_known : (w : World) (chan : Name) (v : ℕ) (nexts : List NodeId) → All (IsNode w) nexts → AreBranches w (inputs_from chan v nexts)
 inputs_known w chan v [] all i d h = absurd (omega arith)
 inputs_known w chan v (n ∷ nexts) all zero d h = all zero n (omega arith)
 inputs_known w chan v (n ∷ nexts) all (suc i) d h = inputs_known w chan (v + 1) nexts (λ k e l. all (suc k) e (omega arith)) i d (omega arith)
-
--- ---- two branches
-
-pub two_nodes : (w : World) (a b : NodeId) → IsNode w a → IsNode w b → All (IsNode w) (a ∷ b ∷ [])
-two_nodes w a b ha hb zero d h = ha
-two_nodes w a b ha hb (suc zero) d h = hb
-two_nodes w a b ha hb (suc (suc i)) d h = absurd (omega arith)

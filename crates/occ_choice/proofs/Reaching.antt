@@ -2,7 +2,7 @@ use Rattle.std.proofs.Common.{◌≡◌, ◌<◌, ◌≤◌, ◌+◌, ◌++◌, 
 use Rattle.std.proofs.lemmas.Bool.{and_parts, and_from, cases_Bool, ltb-true, lt-ltb}
 use Rattle.std.proofs.lemmas.List.{take_more, take_all, map-append}
 use Rattle.std.proofs.lemmas.List.Elements.{All-push}
-use Rattle.std.proofs.lemmas.List.Folds.{list_any_at, list_all-map}
+use Rattle.std.proofs.lemmas.List.Folds.{list_all-map}
 use Rattle.std.proofs.lemmas.Option.{same_Some}
 use Rattle.std.specs.List.{list_all, All}
 use Rattle.std.specs.Option.{IfSome}
@@ -10,7 +10,7 @@ use Rattle.std.specs.Ordering.{is_lt, eq_by_cmp}
 use Rattle.occ_base.specs.declared.event.Event.{Event}
 use Rattle.occ_accept.specs.Order.{event_cmp, strict}
 use Rattle.occ_accept.specs.Accept.{in_set}
-use Rattle.occ_accept.proofs.Strict.{all_more, tied, tied_same}
+use Rattle.occ_accept.proofs.Strict.{all_more, tied_same}
 use Rattle.occ_accept.proofs.Events.{cmp_total, event_exact}
 use Rattle.occ_node.specs.Offers.{offer_cmp, next_in, is_offered, are_below}
 use Rattle.occ_node.specs.Rows.{goes_on}
@@ -121,7 +121,3 @@ next_known w offers e h = by (next_in offers e) refl
     by : (o : Option NodeId) → next_in offers e ≡ o → IfSome o (IsNode w)
     by None k = tt
     by (Some n) k = offered_node w offers e n h k
-
--- the item of a list is in it
-pub item_in : (events : List Event) (i : ℕ) (e : Event) → i < length events → e ≡ get_or events i e → in_set events e ≡ true
-item_in events i e h at = list_any_at (eq_by_cmp event_cmp e) events i e h (ap (eq_by_cmp event_cmp e) (sym at) ∙ tied cmp_total e)

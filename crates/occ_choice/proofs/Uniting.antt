@@ -18,10 +18,6 @@ use Rattle.occ_choice.specs.Joined.{IsSound, maybe_fails, maybe_ends, Reaches, I
 use Rattle.occ_choice.specs.declared.unions.Unions.{Unions}
 use Rattle.occ_choice.proofs.Reaching.{maybe_fails-leads, maybe_ends-leads, some-leads, reaches_same, offers_fail, offers_end, reached_strict, reached_below, reached_offered, reached-leads, below-leads, reached_push, next_known}
 
-or_same : (b : Bool) → b ≡ (b || b)
-or_same true = refl
-or_same false = refl
-
 -- ---- unions in later worlds
 pub union-leads : (v w : World) → Leads v w → (a b r : NodeId) → IsUnion v a b r → IsUnion w a b r
 union-leads v w k a b r is = record {
@@ -56,16 +52,6 @@ sound_row w a row h is = subst (IsSound w) (sym is) (
     })
 
 -- ---- one of two nodes, or both
-
-or_false : (b : Bool) → b ≡ (b || false)
-or_false true = refl
-or_false false = refl
-
-pub either_first : (w : World) (a : NodeId) → IsNode w a → IsEither w w (Some a) None (Some a)
-either_first w a h = record { there = refl; both = record { known = h; failures = λ t X. or_false (fails w a t X); endings = λ t x. or_false (ends w a t x) } }
-
-pub either_second : (w : World) (q : Option NodeId) → IfSome q (IsNode w) → IsEither w w None q q
-either_second w q h = record { there = refl; both = record { known = h; failures = λ t X. refl; endings = λ t x. refl } }
 
 -- the measure falls from a node to what it offers
 pub weight_below : (v w : World) → Leads v w → (b : NodeId) (e : Event) (q : Option NodeId) → IsNode v b → q ≡ next_in (row_of w b).offers e → weight q < 3 * b.0 + 1

@@ -33,9 +33,6 @@ node_there w o m e h = subst (λ (p : Option NodeId). IsSomeAnd p (IsNode w)) e 
 pub node_at : (w : World) (map : MapId) (x : ℕ) (m : NodeId) → HasNodes w map → x < 2 ^ 64 → value w.maps map x ≡ Some m → IsNode w m
 node_at w map x m has h e = node_there w (value w.maps map x) m e (has.nodes x h)
 
-none_there : (w : World) (o : Option NodeId) → o ≡ None → IsSomeAnd o (IsNode w) → ⊥
-none_there w o e h = subst (λ (p : Option NodeId). IsSomeAnd p (IsNode w)) e h
-
 some_there : (w : World) (o : Option NodeId) → IsSomeAnd o (IsNode w) → (m : NodeId) × (o ≡ Some m) × IsNode w m
 some_there w (Some m) h = (m, refl, h)
 some_there w None h = absurd h

@@ -1,5 +1,5 @@
 -- Events and sets of events in the order of printing.
-use Rattle.std.proofs.Common.{◌≡◌, ◌⊎◌, ◌<◌, ◌+◌, ◌==◌, ◌||◌, ℕ, Bool, true, false, cond, List, [], ◌∷◌, length, get_or, take, refl, sym, ap, ◌∙◌, subst, inl, inr, ⊎_elim, arith}
+use Rattle.std.proofs.Common.{◌≡◌, ◌⊎◌, ◌<◌, ◌+◌, ◌==◌, ◌||◌, ℕ, true, false, List, [], ◌∷◌, length, get_or, take, refl, sym, ap, ◌∙◌, subst, inl, inr, ⊎_elim, arith}
 use Rattle.std.proofs.lemmas.Bool.{and_parts, and_from, or_cases, or_left, or_right, cases_Bool, both_ways, eqb-true, false≢true}
 use Rattle.std.proofs.lemmas.List.Folds.{list_any_more}
 use Rattle.std.proofs.lemmas.List.Kept.{IsStrictlySortedBy-dedup}
@@ -24,7 +24,7 @@ use Rattle.occ_accept.proofs.Events.{cmp_total, event_exact, eq_is, sets_total, 
 use Rattle.occ_accept.proofs.Sets.{gathered}
 use Rattle.occ_behaviour.specs.Places.{place_in}
 use Rattle.occ_compare.specs.Orders.{print_cmp, list_cmp, set_cmp, IsListOf, has_set}
-use Rattle.occ_compare.specs.Walk.{SameSets, IsLeastSet}
+use Rattle.occ_compare.specs.Walk.{IsLeastSet}
 use Rattle.occ_compare.specs.Steps.{AllIn, IsLeastOnly}
 
 -- ---- orders
@@ -242,19 +242,7 @@ module _ (ps : List (Name × Kind)) where
           (has_cases sets i x t h is k);
     }
 
-    -- the lesser of the two
-    pub step_some : (best list : List Event) → has_set other x ≡ false → IsListOf ps x list → IsLeastOnly ps (take i sets) other best → IsLeastOnly ps (take (i + 1) sets) other (cond (is_lt (set_cmp ps list best)) list best)
-    step_some best list not_there listed least = ⊎_elim
-        (λ (t : is_lt (set_cmp ps list best) ≡ true). subst (λ (b : Bool). IsLeastOnly ps (take (i + 1) sets) other (cond b list best)) (sym t) (less_some best list not_there listed t least))
-        (λ (f : is_lt (set_cmp ps list best) ≡ false). subst (λ (b : Bool). IsLeastOnly ps (take (i + 1) sets) other (cond b list best)) (sym f) (more_some best list not_there listed f least))
-        (cases_Bool (is_lt (set_cmp ps list best)))
-
   -- ---- of two rows
-  not_all : (own other : List (List Event)) (t : List Event) → AllIn own other → AllIn other own → has_set own t ≡ has_set other t
-  not_all own other t h k = same_tests (has_set own t) (has_set other t) (h t) (k t)
-
-  pub same_sets : (a b : List (List Event)) → AllIn a b → AllIn b a → SameSets a b
-  same_sets a b h k t = not_all a b t h k
 
   -- the one row has the least set of all
   pub of_one : (own other : List (List Event)) (list : List Event) (least : IsLeastOnly ps own other list)

@@ -42,8 +42,8 @@ pub fn list_order(params: &[(Name, Kind)], a: &[Event], b: &[Event]) -> Ordering
     a.len().cmp(&b.len())
 }
 
-// Whether a set goes before another: it is smaller, or of the same size and before it as a list.
-pub(crate) fn is_less(params: &[(Name, Kind)], a: &[Event], b: &[Event]) -> bool
+/// Whether a set, as a list in the order of printing, goes before another: it is smaller, or of the same size and before it as a list.
+pub fn is_less(params: &[(Name, Kind)], a: &[Event], b: &[Event]) -> bool
     ensures { result ≡ is_lt (set_cmp params.now a.now b.now) }
 {
     a.len().cmp(&b.len()).then(list_order(params, a, b)).is_lt()

@@ -11,6 +11,7 @@ mod sets;
 mod step;
 mod walk;
 
-pub use events::{in_order, list_order, listed};
-pub use places::assignment;
+pub use events::{in_order, is_less, list_order, listed};
+pub use offers::refusal;
+pub use places::{assignment, last_number, written};
 pub use roots::{compare, same_root};

@@ -107,8 +107,8 @@ fn add_outside(events: &mut Vec<Event>, offers: &Offers, set: &AcceptSet) -> Res
     Ok(())
 }
 
-// The events that either of two rows offers outside a set.
-pub(crate) fn refusal(
+/// The events that either of two rows offers outside a set, in the order of printing.
+pub fn refusal(
     alloc: Global,
     params: &[(Name, Kind)],
     p: &Offers,

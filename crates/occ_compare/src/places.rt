@@ -28,8 +28,8 @@ fn shifted(number: u64, bits: u32) -> u64
     if number == 0 { 0 } else { number * (1 << bits) }
 }
 
-// The greatest place of a state.
-pub(crate) fn last_number(params: &[(Name, Kind)]) -> u64
+/// The greatest place of a state of an interface, counted from 0.
+pub fn last_number(params: &[(Name, Kind)]) -> u64
     requires { bits_of_scope params.now ≤ 64 }
     ensures { result + 1 ≡ 2 ^ bits_of_scope params.now }
 {
@@ -58,12 +58,8 @@ pub fn assignment(params: &[(Name, Kind)], number: u64) -> u64
     assignment
 }
 
-// The state of an assignment, each value by its lowest eight bits.
-pub(crate) fn written(
-    alloc: Global,
-    params: &[(Name, Kind)],
-    assignment: u64,
-) -> Result<State, Memory>
+/// The state of an assignment, each value by its lowest eight bits.
+pub fn written(alloc: Global, params: &[(Name, Kind)], assignment: u64) -> Result<State, Memory>
     ensures { IfOk result (λ state. state ≡ byte_state params.now assignment) }
 {
     let mut state = State::new(alloc);

@@ -38,16 +38,6 @@ greatest_third a b c = omega arith
 pub greatest_below : (a b c m : ℕ) → a < m → b < m → c < m → max a (max b c) < m
 greatest_below a b c m e f h = omega arith
 
--- the parts are smaller together
-pub parts_smaller : (ns : List (Node Bool)) (a b c p q r bit : ℕ) (v : ℕ) → IsTop ns a b c bit → IsPart ns p a bit v → IsPart ns q b bit v → IsPart ns r c bit v
-    → greatest_depth ns p q r < greatest_depth ns a b c
-parts_smaller ns a b c p q r bit v top x y z =
-    let first : depth_of ns p ≤ bit = x.depth in
-    let second : depth_of ns q ≤ bit = y.depth in
-    let third : depth_of ns r ≤ bit = z.depth in
-    let all : bit + 1 ≤ greatest_depth ns a b c = top.top in
-    greatest_below (depth_of ns p) (depth_of ns q) (depth_of ns r) (greatest_depth ns a b c) (omega (arith, first, all)) (omega (arith, second, all)) (omega (arith, third, all))
-
 -- ---- what a longer table keeps
 module _ (ms ns : List (Node Bool)) (k : Keeps ms ns) (g : IsDiagram ms) where
   pub greatest-keeps : (a b c : ℕ) → a < length ms → b < length ms → c < length ms → greatest_depth ns a b c ≡ greatest_depth ms a b c

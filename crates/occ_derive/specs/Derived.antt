@@ -3,25 +3,24 @@ use Rattle.std.specs.Prelude.{ℕ, ◌≡◌, ◌≤◌, List}
 use Rattle.std.specs.List.{AllByRecursion}
 use Rattle.occ_engine.specs.declared.outcome.Outcome.{Outcome}
 use Rattle.occ_engine.specs.Outcomes.{IsOutcome}
+use Rattle.occ_nform_table.specs.declared.table.Table.{Table}
+use Rattle.occ_nform_table.specs.Tables.{IsNormal}
 use Rattle.occ_print.specs.Known.{ProgramIsKnown}
 use Rattle.occ_print_known.specs.Greatest.{greatest}
 use Rattle.occ_script_write.specs.declared.writing.Done.{Done}
 use Rattle.occ_script_write.specs.Text.{IsWritable}
-use Rattle.occ_script_write_back.specs.Said.{IsSaid}
+use Rattle.occ_script_write_back.specs.Said.{IsSaid, IsShortPath}
 use Rattle.occ_base.specs.declared.names.Name.{Name}
 use Rattle.occ_syntax.specs.declared.scope.Kind.{Kind}
 use Rattle.occ_syntax.specs.declared.scope.Program.{Program}
 use Rattle.occ_syntax.specs.Tree.{Tree}
 use Rattle.occ_syntax.specs.View.{tree}
+use Rattle.occ_target.specs.Program.{normal_body}
 
 -- Steps lead from a program to one with that body: each is a move by a law of the table.
 pub record IsDerivation (from : Program) (body : Tree) (outcome : Outcome) : Type 0 where
   pub outcome_is : IsOutcome from outcome
   pub to_is : tree outcome.to.body ≡ body
-
--- the numbers of a path that a text writes have 32 bits
-abbrev pub IsShortPath : List ℕ → Type 0
-IsShortPath path = AllByRecursion (λ (n : ℕ). n ≤ 4294967295) path
 
 -- no name of a step's part has a number above this one, and its path is short
 pub record IsBelow (last : ℕ) (done : Done) : Type 0 where
@@ -42,6 +41,14 @@ pub record AreBelow (last : ℕ) (from : Program) (outcome : Outcome) : Type 0 w
   pub first : ProgramIsBelow last from
   pub steps : AllByRecursion (IsBelow last) outcome.steps
   pub to : ProgramIsBelow last outcome.to
+
+-- the body of the normal program of a table
+abbrev pub normal_of : List (List ℕ) → Table → Tree
+normal_of names table = normal_body names table.params table.rows table.states
+
+-- the table is normal with these names
+abbrev pub IsNormalWith : List (List ℕ) → Table → Type 0
+IsNormalWith names table = IsNormal (record { names = names; params = table.params; rows = table.rows; states = table.states })
 
 -- all names of a program stand in the table of names
 abbrev pub IsProgramOf : List (List ℕ) → Program → Type 0

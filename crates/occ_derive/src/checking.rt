@@ -2,12 +2,11 @@
 
 ghost use Rattle.std.specs.Prelude.{◌≡◌, ◌≢◌, ◌≤◌, ◌<◌, Err, IfOk, IsTrue, OnOk};
 ghost use Rattle.std.specs.List.{AllByRecursion};
-ghost use Rattle.occ_derive.specs.Derived.{AreBelow, CanBeWritten, IsBelow, IsDerivation, IsShortPath, ParamIsBelow, ProgramIsBelow};
+ghost use Rattle.occ_derive.specs.Derived.{AreBelow, CanBeWritten, IsBelow, IsDerivation, IsNormalWith, ParamIsBelow, ProgramIsBelow, normal_of};
 ghost use Rattle.occ_fresh.specs.Growth.{GrowsByNames};
-ghost use Rattle.occ_nform_table.specs.Tables.{IsNormal};
+ghost use Rattle.occ_script_write_back.specs.Said.{IsShortPath};
 ghost use Rattle.occ_syntax.specs.Counts.{controls};
 ghost use Rattle.occ_syntax.specs.View.{tree};
-ghost use Rattle.occ_target.specs.Program.{normal_body};
 
 use crate::DeriveFault;
 use crate::whole::{Proposal, proposals};
@@ -24,7 +23,7 @@ use occ_usage::Accepted;
 use std::alloc::Global;
 
 /// Reads the numbers of a path, so that it is known that each has 32 bits.
-fn read_path(path: &Path)
+pub fn read_path(path: &Path)
     ensures { IsShortPath path.now }
 {
     for number in path.items() {
@@ -113,13 +112,13 @@ pub fn derive(
     table: &Table,
 ) -> Result<Outcome, DeriveFault>
     requires params { table.now.params ≡ accepted.now.program.params }
-    requires normal { IsNormal (record { names = names.old; params = table.now.params; rows = table.now.rows; states = table.now.states }) }
-    ensures derived { IfOk result (IsDerivation accepted.now.program (normal_body names.old table.now.params table.now.rows table.now.states)) }
+    requires normal { IsNormalWith names.old table.now }
+    ensures derived { IfOk result (IsDerivation accepted.now.program (normal_of names.old table.now)) }
     ensures grown { OnOk result (GrowsByNames names.old names.new) }
     ensures writable { IfOk result (CanBeWritten names.new accepted.now.program) }
-    ensures fits { OnOk result (controls (normal_body names.old table.now.params table.now.rows table.now.states) ≤ 4096) }
-    ensures long { result ≡ Err DeriveFault.Long → 4096 < controls (normal_body names.old table.now.params table.now.rows table.now.states) }
-    ensures short { result ≡ Err DeriveFault.Unfinished → controls (normal_body names.old table.now.params table.now.rows table.now.states) ≤ 4096 }
+    ensures fits { OnOk result (controls (normal_of names.old table.now) ≤ 4096) }
+    ensures long { result ≡ Err DeriveFault.Long → 4096 < controls (normal_of names.old table.now) }
+    ensures short { result ≡ Err DeriveFault.Unfinished → controls (normal_of names.old table.now) ≤ 4096 }
 {
     parts_are_known_up_to_their_greatest_name();
     let normal = match target(alloc, names, accepted, table) {

@@ -12,5 +12,5 @@ mod settle;
 mod states;
 mod whole;
 
-pub use checking::derive;
+pub use checking::{derive, read_path};
 pub use fault::DeriveFault;

@@ -2,7 +2,7 @@ use Rattle.std.proofs.Common.{◌≡◌, ◌≢◌, ◌⊎◌, ℕ, zero, suc, �
 use Rattle.std.specs.Int.{bit_at}
 use Rattle.std.specs.List.{list_any}
 use Rattle.std.specs.Cmp.{IsEquivalence}
-use Rattle.std.proofs.lemmas.Bool.{cond_both, cases_Bool, or_left, or_right, both_ways}
+use Rattle.std.proofs.lemmas.Bool.{cases_Bool, or_left, or_right, both_ways}
 use Rattle.std.proofs.lemmas.Option.{slice_get_within, same_Some}
 use Rattle.occ_diagram.proofs.Bits.{bit_cases, is_one, is_zero, bit_at-turned_other, bit_at-turned_same}
 use Rattle.occ_diagram.proofs.DiagramLemmas.{depth-branch, end-walk, end-branch, end-turned_free, walk-zero, walk-suc, next-in}
@@ -163,13 +163,6 @@ module _ {T : Type 0} (ns : List (Node T)) (g : IsDiagram ns) where
     known = slice_get_within ns r _ e;
     depth = omega (arith, depth-branch ns r _ e);
     ends = λ x. end-branch ns g r _ x e;
-  }
-
-  pub split_same : (bit low high : ℕ) → low < length ns → depth_of ns low ≤ bit → low ≡ high → IsSplit ns low bit low high
-  split_same bit low high within h e = record {
-    known = within;
-    depth = omega arith;
-    ends = λ x. cond_both (bit_at x bit == 1) (end_of ns high x) (end_of ns low x) (λ n. end_of ns low x ≡ n) (λ _. ap (λ n. end_of ns n x) e) (λ _. refl);
   }
 
   -- a function to which the bit doesn't matter is its own flip

@@ -89,7 +89,8 @@ impl From<Memory> for Stop {
 fn make_reply<D: Desk>(alloc: Global, words: &[String], desk: &mut D) -> Result<Reply, Stop>
     requires reads_countable { D.read_faults desk.old < u64.MAX }
     requires writes_countable { D.write_faults desk.old < u64.MAX }
-    ensures answers { IfOk result (λ reply. IfSome (D.files desk.old) (λ files. Answers files (map string_bytes words.now) (told_by reply))) }
+    ensures answers { IfOk result (λ reply. IfSome (D.files desk.old) (λ files.
+        Answers files (map string_bytes words.now) (told_by reply))) }
     ensures status { IfOk result (λ reply. reply.status ≤ 3) }
     ensures usage { IfOk result (λ reply. reply.status ≡ 2 → word_of (map string_bytes words.now) ≡ None) }
     ensures unfit { word_of (map string_bytes words.now) ≡ None → IfOk result (λ reply. reply.status ≡ 2) }

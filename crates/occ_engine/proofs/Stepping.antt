@@ -1,58 +1,21 @@
 -- Steps that are given whole, one after the other.
-use Rattle.std.proofs.Common.{◌≡◌, ℕ, ◌+◌, ◌<◌, suc, add-one, List, [], ◌∷◌, ◌++◌, length, map, take, drop, get_or, None, Some, refl, sym, ap, subst, ◌∙◌}
+use Rattle.std.proofs.Common.{◌≡◌, ℕ, ◌+◌, ◌<◌, suc, add-one, List, [], ◌∷◌, ◌++◌, length, take, drop, get_or, None, Some, sym, ap, subst, ◌∙◌}
 use Rattle.std.proofs.lemmas.List.{map-append}
-use Rattle.std.proofs.lemmas.Option.{same_Some}
 use Rattle.occ_base.specs.declared.names.Name.{Name}
 use Rattle.occ_engine.proofs.Leading.{divided, taken_next}
 use Rattle.occ_engine.proofs.Putting.{admitted_rules}
 use Rattle.occ_engine.proofs.Ranging.{first_move, outcome_of}
-use Rattle.occ_engine.specs.declared.fault.Stopped.{Stopped}
-use Rattle.occ_engine.specs.declared.fault.Stopped.TheVariants as stopped
-use Rattle.occ_engine.specs.declared.moving.Moved.{Moved}
 use Rattle.occ_engine.specs.Followed.{IsNext, ended}
-use Rattle.occ_engine.specs.Moved.{IsMoved, IsNotGiven, move_of, moves_of, wish_for}
+use Rattle.occ_engine.specs.Moved.{move_of, moves_of}
 use Rattle.occ_engine.specs.Outcomes.{IsOutcome}
 use Rattle.occ_engine_rules.specs.Moves.{IsMove, Move, Moves, and_move, no_move}
-use Rattle.occ_law.specs.declared.table.LawId.{LawId}
-use Rattle.occ_meaning.specs.Context.{part_at, put}
-use Rattle.occ_replay_rules.specs.Steps.{Joins}
-use Rattle.occ_script_path.specs.declared.direction.Direction.{Direction}
-use Rattle.occ_script_path.specs.Places.{IsPutIn, scope_list}
+use Rattle.occ_meaning.specs.Context.{put}
 use Rattle.occ_script_write.specs.declared.writing.Done.{Done}
 use Rattle.occ_syntax.specs.declared.scope.Kind.{Kind}
 use Rattle.occ_syntax.specs.declared.scope.Program.{Program}
 use Rattle.occ_syntax.specs.Tree.{Tree}
 use Rattle.occ_syntax.specs.View.{tree}
 use Rattle.occ_usage.specs.Accepted.{KeepsRules}
-
--- ---- one step
-
--- a part that was put in as it was given is a move
-pub given_next : (here : Program) (law : LawId) (dir : Direction) (path : List ℕ) (part : Tree) (moved : Moved) → IsMoved here (wish_for law dir path (Some part)) moved
-    → IsNext here (record { law = law.0; dir = dir; path = path; part = part }) (Some moved.to)
-given_next here law dir path part moved m =
-    let g = m.granted in
-    let same : tree moved.done.part ≡ part = g.applied.0 in (
-      record {
-        old = g.old;
-        there = g.there;
-        admitted = record { keeps = subst (λ q. Rattle.occ_syntax.specs.Usage.Keeps (Rattle.occ_syntax.specs.Scopes.environment here.params) (put path (tree here.body) q)) same g.admitted.keeps; narrow = subst (λ q. Rattle.std.specs.Prelude.◌≤◌ (Rattle.occ_print.specs.Lines.most_symbols (Rattle.occ_print.specs.Lines.part_lines 0 q)) 4096) same g.admitted.narrow };
-        joins = g.applied.1;
-      },
-      subst (λ q. IsPutIn here path q moved.to) same m.to,
-    )
-
--- one that wasn't isn't
-pub ungiven_none : (here : Program) (law : LawId) (dir : Direction) (path : List ℕ) (part : Tree) (s : Stopped) → (s ≡ stopped.Memory → ⊥) → IsNotGiven here law dir path part s
-    → IsMove here.params (tree here.body) (record { law = law.0; dir = dir; path = path; part = part }) → ⊥
-ungiven_none here law dir path part stopped.NotAccepted other n m = n m.admitted
-ungiven_none here law dir path part stopped.NotApplicable other n m =
-    n.apart (subst (λ q. Joins dir law.0 (scope_list path here.params (tree here.body)) q part) (same_Some m.old n.old (sym m.there ∙ n.there)) m.joins)
-ungiven_none here law dir path part stopped.Memory other n m = other refl
-ungiven_none here law dir path part stopped.NoLaw other n m = n
-ungiven_none here law dir path part stopped.NoPath other n m = n
-
--- ---- one after the other
 
 -- moves have led from one program to another
 pub record IsOnWay (from : Program) (steps : List Done) (here : Program) : Type 0 where

@@ -6,7 +6,7 @@ use Rattle.occ_engine_known.specs.Known.{LeadToKnown, MovesAreKnown, NamesAreBel
 use Rattle.occ_engine_rules.specs.Expansion.{IsExpanded}
 use Rattle.occ_engine_rules.specs.Moves.{Move, Moves}
 use Rattle.occ_engine_rules.specs.Orders.{Follows, Order}
-use Rattle.occ_engine_written.specs.First.{AreWritten, IsFirstProgram, IsShortPath}
+use Rattle.occ_engine_written.specs.First.{AreWritten, IsFirstProgram}
 use Rattle.occ_engine_written.proofs.Printed.{KeptLaw, NameLaw, Table, names_below, printable}
 use Rattle.occ_engine_written.proofs.Said.{AreSaid, expansion_said, orders_said}
 use Rattle.occ_lex_symbols.specs.Symbols.{Extends}
@@ -33,6 +33,7 @@ use Rattle.occ_syntax.specs.Tree.{Tree}
 use Rattle.occ_syntax.specs.Types.{scope_kept}
 use Rattle.occ_syntax.specs.Usage.{Keeps}
 use Rattle.occ_syntax.specs.View.{tree}
+use Rattle.occ_script_write_back.specs.Said.{IsShortPath}
 
 -- ---- the laws that this stands on
 

@@ -8,7 +8,6 @@ use Rattle.occ_engine.specs.Moved.{moves_of, number_of, order_of, orders_of}
 use Rattle.occ_engine_rules.specs.Expansion.{Grants, IsExpanded, and_wish, expanding, forward, io_alt, no_wish, par_expand, preparing, seq_alt, sequencing, wrapping}
 use Rattle.occ_engine_rules.specs.Moves.{Move, Wish}
 use Rattle.occ_engine_rules.specs.Orders.{Follows, Order, and_order, no_order}
-use Rattle.occ_engine_written.specs.First.{IsShortPath}
 use Rattle.occ_engine_written.proofs.Paths.{head_short}
 use Rattle.occ_law.specs.declared.table.LawId.{LawId}
 use Rattle.occ_print.proofs.Lists.{all-append}
@@ -17,7 +16,7 @@ use Rattle.occ_script.specs.Orders as list
 use Rattle.occ_script.specs.Steps.{IsLaw}
 use Rattle.occ_script_lines.specs.Sections.{Section}
 use Rattle.occ_script_write.specs.declared.writing.Done.{Done}
-use Rattle.occ_script_write_back.specs.Said.{IsSaid}
+use Rattle.occ_script_write_back.specs.Said.{IsSaid, IsShortPath}
 use Rattle.occ_syntax.specs.declared.scope.Kind.{Kind}
 use Rattle.occ_syntax.specs.Tree.{Tree, receive, send, seq, alt, Trees, no_tree, and_tree}
 

@@ -1,6 +1,5 @@
 -- The first program of a script that is printed.
-use Rattle.std.specs.Prelude.{ℕ, ◌≤◌, List, []}
-use Rattle.std.specs.List.{AllByRecursion}
+use Rattle.std.specs.Prelude.{ℕ, List, []}
 use Rattle.occ_parse_reading.specs.Reading.{IsRead}
 use Rattle.occ_parse_reading.specs.declared.bound.Bound.TheVariants as bound
 use Rattle.occ_parse_rules.specs.Places.{Place}
@@ -19,10 +18,6 @@ pub record IsFirstProgram (names : List (List ℕ)) (from : Program) : Type 0 wh
   pub read : IsRead bound.Program text [] names from.name from.params (tree from.body) lines
   pub accepted : IsAccepted from
   pub narrow : IsNarrow from.name.0 from.params (tree from.body)
-
--- the numbers of a path that a text writes are below 2 ^ 32
-abbrev pub IsShortPath : List ℕ → Type 0
-IsShortPath path = AllByRecursion (λ (n : ℕ). n ≤ 4294967295) path
 
 -- the steps are moves that are written from the table, whichever places its names are
 abbrev pub AreWritten : List (List ℕ) → Program → List Done → Program → Type 0

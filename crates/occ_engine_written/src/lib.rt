@@ -8,7 +8,7 @@ ghost use Rattle.occ_engine.specs.Moved.{moves_of, orders_of};
 ghost use Rattle.occ_engine_rules.specs.Expansion.{IsExpanded};
 ghost use Rattle.occ_engine_rules.specs.Moves.{Moves};
 ghost use Rattle.occ_engine_rules.specs.Orders.{Follows};
-ghost use Rattle.occ_engine_written.specs.First.{AreWritten, IsFirstProgram, IsShortPath};
+ghost use Rattle.occ_engine_written.specs.First.{AreWritten, IsFirstProgram};
 ghost use Rattle.occ_fresh.specs.Growth.{GrowsByNames};
 ghost use Rattle.occ_parse.specs.Known.{NamesAreKnown};
 ghost use Rattle.occ_parse_reading.specs.declared.bound.Bound.{Bound};
@@ -18,7 +18,7 @@ ghost use Rattle.occ_script.specs.Orders.{IsOrders};
 ghost use Rattle.occ_script_path.specs.Texts.{path_of};
 ghost use Rattle.occ_script_write.specs.declared.writing.Done.{Done};
 ghost use Rattle.occ_script_write.specs.Text.{IsWritable};
-ghost use Rattle.occ_script_write_back.specs.Said.{IsSaid};
+ghost use Rattle.occ_script_write_back.specs.Said.{IsSaid, IsShortPath};
 ghost use Rattle.occ_syntax.specs.declared.scope.Program.{Program};
 ghost use Rattle.occ_syntax.specs.View.{tree};
 

@@ -1,12 +1,10 @@
 -- The names are distinct, and a table of texts is read at a place.
-use Rattle.std.proofs.Common.{◌≡◌, ℕ, ◌+◌, ◌-◌, ◌<◌, ◌≤◌, suc, zero, Bool, true, false, true≢false, not, ◌&&◌, ◌||◌, List, [], ◌∷◌, Option, Some, None, length, map, slice_get, get_or, arith, refl, sym, ap, ◌∙◌, subst}
+use Rattle.std.proofs.Common.{◌≡◌, ℕ, ◌+◌, ◌-◌, suc, zero, Bool, true, false, true≢false, not, ◌&&◌, ◌||◌, List, [], ◌∷◌, Some, length, map, slice_get, arith, refl, sym, ap, ◌∙◌}
 use Rattle.std.proofs.lemmas.Bool.{and_parts}
 use Rattle.std.proofs.lemmas.List.{length-map}
-use Rattle.std.proofs.lemmas.Option.{slice_get-get_or, slice_get-map, slice_get_within}
+use Rattle.std.proofs.lemmas.Option.{slice_get_within}
 use Rattle.std.proofs.lemmas.Slice.Eq.{bytes_eq-Decides}
 use Rattle.std.specs.Borrow.{Bor}
-use Rattle.std.specs.List.{list_any}
-use Rattle.std.specs.Option.{option_map}
 use Rattle.std.specs.Str.{bytes_eq}
 use Rattle.occ_law.specs.declared.table.LawId.{LawId}
 use Rattle.occ_law.specs.Table.{IsNamed, law_names}
@@ -75,12 +73,6 @@ found_law place text name law e f named =
     let g : place ≡ law.0 - 1 = one_name place (law.0 - 1) name (e ∙ ap Some f) named.spelled in
     let h : place + 1 ≡ law.0 = omega (arith, g, named.low) in
     ap (λ k. Some (record { 0 = k })) h
-
--- the text at a place of a table of references
-pub text_there : (xs : List (Bor (List ℕ))) (ts : List (List ℕ)) (k : ℕ) (d : Bor (List ℕ)) → k < length ts → map (λ x. x.now) xs ≡ ts → slice_get ts k ≡ Some (get_or xs k d).now
-text_there xs ts k d h e =
-    let long : length xs ≡ length ts = sym (length-map xs (λ x. x.now)) ∙ ap length e in
-    ap (λ z. slice_get z k) (sym e) ∙ slice_get-map (λ x. x.now) xs k ∙ ap (option_map (λ x. x.now)) (slice_get-get_or xs k d (omega (arith, h, long)))
 
 pub all_names : length law_names ≡ 63
 unfolding law_names

@@ -93,10 +93,6 @@ behind_whole first all xs ys e same = (same ys).0 (ap (λ z. all_branches z ys) 
 
 -- ---- guards TRUE & SKIP
 
--- the list's first branch has that guard
-pub skip_there : (b : Exp) (w : Waiting) (p : Tree) (xs gs : Branches) → xs ≡ and_branch b w p gs → b ≡ truth true → w ≡ ready → xs ≡ and_skip p gs
-skip_there b w p xs gs e f g = e ∙ branch_is f g refl refl
-
 -- a list in front of one branch
 pub branches-append : (l m : List (Guard × Proc)) → branches (l ++ m) ≡ all_branches (branches l) (branches m)
 branches-append [] m = refl

@@ -1,29 +1,14 @@
 -- What stands at a place, and the laws of ALT that change one place.
-use Rattle.std.proofs.Common.{◌≡◌, ◌↔◌, ℕ, Bool, IsTrue, true, List, [], ◌∷◌, refl, ap, sym, ◌∙◌}
-use Rattle.occ_syntax.specs.declared.expr.Guard.{Guard}
-use Rattle.occ_syntax.specs.declared.proc.Proc.{Proc}
-use Rattle.occ_syntax.specs.Tree.{truth, Tree, alt, Branches, no_branch, and_branch}
-use Rattle.occ_syntax.specs.View.{exp, waiting, tree}
-use Rattle.occ_law_rules.specs.Choice.{AltFlat, alt_flat, AltSame, alt_same, AltSplit, alt_split, AltTwice, alt_twice, and_skip, has_skip, is_event}
+use Rattle.std.proofs.Common.{◌≡◌, ◌↔◌, ℕ, List, [], ◌∷◌, refl, ap, sym, ◌∙◌}
+use Rattle.occ_syntax.specs.Tree.{Tree, alt, Branches, no_branch, and_branch}
+use Rattle.occ_law_rules.specs.Choice.{AltFlat, alt_flat, AltSame, alt_same, AltSplit, alt_split, AltTwice, alt_twice, and_skip}
 use Rattle.occ_law_rules.specs.Lists.{all_branches, tally}
-use Rattle.occ_law_choice_alt.specs.Fronts.{in_front}
-use Rattle.occ_law_choice_alt.specs.Lacking.{Lacks}
-use Rattle.occ_law_choice_alt.specs.Places.{Chooses, FlatHere, IsSplit, SameHere, Somewhere, SplitHere, TwiceHere}
-use Rattle.occ_law_choice_alt.proofs.Begun.{alt_tells, branch_is, conditions_are, guards_are, processes_are, rests_are}
+use Rattle.occ_law_choice_alt.specs.Places.{FlatHere, SameHere, Somewhere, SplitHere, TwiceHere}
+use Rattle.occ_law_choice_alt.proofs.Begun.{alt_tells}
 use Rattle.occ_law_choice_alt.proofs.Sought.{carried, joined, parted}
-use Rattle.occ_law_choice_alt.proofs.Without.{around, lacks_is, lacks_there}
+use Rattle.occ_law_choice_alt.proofs.Without.{around, lacks_there}
 
 -- ---- alt-flat
-
-pub flat_has : (xs us hs ks : Branches) → xs ≡ and_skip (alt hs) ks → FlatHere xs us → (has_skip hs ≡ true) × (us ≡ all_branches hs ks)
-flat_has xs us hs ks e j =
-    let u = sym j.first ∙ e in
-    let f = alt_tells _ _ (processes_are _ _ _ _ _ _ _ _ u) in
-    (sym (ap has_skip f) ∙ j.skip, j.second ∙ ap (λ z. all_branches z j.rest) f ∙ ap (all_branches hs) (rests_are _ _ _ _ _ _ _ _ u))
-
-pub flat_there : (xs us hs ks : Branches) (b : Bool) → xs ≡ and_skip (alt hs) ks → has_skip hs ≡ true → (IsTrue b ↔ (us ≡ all_branches hs ks)) → IsTrue b ↔ FlatHere xs us
-flat_there xs us hs ks b e f test =
-    ((λ h. record { inner = hs; rest = ks; first = e; skip = f; second = test.0 h }), (λ j. test.1 (flat_has xs us hs ks e j).1))
 
 pub flat_law : (xs ys : Branches) (l r : Tree) → alt xs ≡ l → alt ys ≡ r → Somewhere FlatHere xs ys ↔ ((place : List ℕ) × AltFlat place l r)
 flat_law xs ys l r e f = (into, (λ k. out l r e f k.0 k.1))
@@ -81,12 +66,6 @@ twice_law xs ys l r e f = (into, (λ k. out l r e f k.0 k.1))
         (joined TwiceHere gs _ _ (record { condition = b; guard = w; process = p; more = _; less = _; first = refl; second = refl; lacks = lacks_there b w p hs ks }))
 
 -- ---- alt-same
-
--- a chooser has one other process
-pub one_choice : (p q r s : Tree) → alt (and_skip p (and_skip q no_branch)) ≡ alt (and_skip r (and_skip s no_branch)) → (p ≡ r) × (q ≡ s)
-one_choice p q r s e =
-    let f : and_skip p (and_skip q no_branch) ≡ and_skip r (and_skip s no_branch) = alt_tells _ _ e in
-    (processes_are _ _ _ _ _ _ _ _ f, processes_are _ _ _ _ _ _ _ _ (rests_are _ _ _ _ _ _ _ _ f))
 
 pub same_law : (xs ys : Branches) (l r : Tree) → alt xs ≡ l → alt ys ≡ r → Somewhere SameHere xs ys ↔ ((place : List ℕ) × AltSame place l r)
 same_law xs ys l r e f = (into, (λ k. out l r e f k.0 k.1))

@@ -33,10 +33,6 @@ one_law xs p r b e same = (
       same.1 h),
 )
 
--- it isn't a list of any other length
-pub not_one : (xs : Trees) (r : Tree) → ((p : Tree) → xs ≡ one p → ⊥) → (place : List ℕ) × ParOne place (par xs) r → ⊥
-not_one xs r never k = never r (one_part xs r k.0 k.1)
-
 stop_same : (xs ys : Trees) (place : List ℕ) → ParStop place (par xs) (seq ys) → xs ≡ ys
 stop_same xs ys place (par_stop p) = refl
 

@@ -1,5 +1,5 @@
 mod Names
-mod Usage
+pub mod Usage
 mod Composed
 mod Lists
 pub mod States

@@ -1,5 +1,5 @@
 -- A law's right side as an answer of the table.
-use Rattle.std.proofs.Common.{◌≡◌, ℕ, ◌⊎◌, inl, inr, Option, None, Result, IfOk, List, sym, subst}
+use Rattle.std.proofs.Common.{◌≡◌, ℕ, Option, Result, IfOk, List, sym, subst}
 use Rattle.occ_base.specs.declared.memory.Memory.{Memory}
 use Rattle.occ_base.specs.declared.names.Name.{Name}
 use Rattle.occ_syntax.specs.declared.proc.Proc.{Proc}
@@ -11,8 +11,3 @@ use Rattle.occ_law_place.specs.Instances.{IsInstance}
 pub in_table : (n k : ℕ) (S : List (Name × Kind)) (l : Tree) (place : Place) → n ≡ k → (result : Result (Option Proc) Memory) → IfOk result (IsInstance k S l place)
     → IfOk result (IsInstance n S l place)
 in_table n k S l place e result law = subst (λ m. IfOk result (IsInstance m S l place)) (sym e) law
-
--- if-copy and if-under have no result of their own
-pub none_direct : (n : ℕ) (S : List (Name × Kind)) (l : Tree) (place : Place) → (n ≡ 24) ⊎ (n ≡ 25) → IsInstance n S l place None
-none_direct n S l place (inl e) = subst (λ m. IsInstance m S l place None) (sym e) (λ r h. h)
-none_direct n S l place (inr e) = subst (λ m. IsInstance m S l place None) (sym e) (λ r h. h)

@@ -152,9 +152,6 @@ if_is ks l made xs es q cs e f g m = (
   (λ r d. let k = if_second ks l r xs es q f d in k.2 ∙ ap (λ z. select (each_assigned xs es z)) (selects k.0 cs (sym k.1 ∙ g)) ∙ sym m),
 )
 
-pub if_never : (ks : List ℕ) (l : Tree) (xs : List ℕ) (es : List Exp) (q : Tree) → l ≡ assigned_then xs es q → ((cs : Cases) → q ≡ select cs → ⊥) → (r : Tree) → AssignIf ks l r → ⊥
-if_never ks l xs es q e never r h = let k = if_second ks l r xs es q e h in never k.0 k.1
-
 alt_second : (ks : List ℕ) (l r : Tree) (xs : List ℕ) (es : List Exp) (q : Tree) → l ≡ assigned_then xs es q → AssignAlt ks l r
     → (gs : Branches) × (q ≡ alt gs) × (spare_inputs xs es gs ≡ true) × (r ≡ alt (each_guard_assigned xs es gs))
 alt_second ks l r xs es q e (assign_alt us vs bs spared) =
@@ -174,9 +171,6 @@ alt_is ks l made xs es q gs e f g spared m = (
   (λ r d. let k = alt_second ks l r xs es q f d in k.3 ∙ ap (λ z. alt (each_guard_assigned xs es z)) (alts k.0 gs (sym k.1 ∙ g)) ∙ sym m),
 )
 
-pub alt_never : (ks : List ℕ) (l : Tree) (xs : List ℕ) (es : List Exp) (q : Tree) → l ≡ assigned_then xs es q → ((gs : Branches) → q ≡ alt gs → ⊥) → (r : Tree) → AssignAlt ks l r → ⊥
-alt_never ks l xs es q e never r h = let k = alt_second ks l r xs es q e h in never k.0 k.1
-
 -- ---- seq-if and seq-alt
 
 first_of : (p q : Tree) (ps qs : Trees) → and_tree p ps ≡ and_tree q qs → (p ≡ q) × (ps ≡ qs)
@@ -194,9 +188,6 @@ before_is ks l made ps p qs cs e f g h m = (
       let t = first_of (select k.0) p k.1 qs (sym k.2 ∙ g) in
       k.3 ∙ ap (λ z. select (each_case_before z k.1)) (selects k.0 cs (t.0 ∙ h)) ∙ ap (λ z. select (each_case_before cs z)) t.1 ∙ sym m),
 )
-
-pub before_never : (ks : List ℕ) (l : Tree) (ps : Trees) (p : Tree) (qs : Trees) → l ≡ seq ps → ps ≡ and_tree p qs → ((cs : Cases) → p ≡ select cs → ⊥) → (r : Tree) → SeqIf ks l r → ⊥
-before_never ks l ps p qs f g never r d = let k = case_first ks l r ps f d in never k.0 (sym (first_of (select k.0) p k.1 qs (sym k.2 ∙ g)).0)
 
 branch_first : (ks : List ℕ) (l r : Tree) (ps : Trees) → l ≡ seq ps → SeqAlt ks l r → (gs : Branches) × (qs : Trees) × (ps ≡ and_tree (alt gs) qs) × (r ≡ alt (each_branch_before gs qs))
 branch_first ks l r ps e (seq_alt gs qs) = (gs, qs, sym (parts_are e), refl)

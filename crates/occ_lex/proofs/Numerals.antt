@@ -4,7 +4,7 @@ use Rattle.std.specs.List.{list_all}
 use Rattle.std.proofs.lemmas.Bool.{eqb-true, eqb-false, and_left, and_right, and_from, lt-leb, le-leb, cond-true, cond-false}
 use Rattle.std.proofs.lemmas.List.{take-append-drop, take_all}
 use Rattle.std.proofs.lemmas.List.Sums.{fold-append, fold_more}
-use Rattle.std.proofs.lemmas.List.Folds.{list_all_at, list_all_more}
+use Rattle.std.proofs.lemmas.List.Folds.{list_all_at}
 use Rattle.occ_lex.specs.Spelling.{is_digit, is_numeral, value_of, numeral_value}
 
 abbrev pub with_digit : ℕ → ℕ → ℕ
@@ -47,9 +47,6 @@ numeral_is : (text : List ℕ) → eqb (length text) 0 ≡ false → list_all is
 unfolding is_numeral
 numeral_is [] some h = absurd (eqb-false 0 0 some refl)
 numeral_is (byte ∷ rest) some h = h
-
-pub digits_more : (text : List ℕ) (i : ℕ) → i < length text → list_all is_digit (take i text) ≡ true → is_digit (get_or text i 0) ≡ true → list_all is_digit (take (i + 1) text) ≡ true
-digits_more text i within so_far digit = list_all_more is_digit text i 0 within ∙ and_from _ _ so_far digit
 
 pub value_is : (text : List ℕ) (n value : ℕ) → eqb (length text) 0 ≡ false → length text ≤ n → value ≡ value_of (take n text) → value ≤ 255 → list_all is_digit (take n text) ≡ true → Some value ≡ numeral_value text
 unfolding numeral_value

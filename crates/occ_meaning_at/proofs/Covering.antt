@@ -36,9 +36,6 @@ part_through bs cs ds h k = record { there = λ e w p i. k.there e w p (h.there 
 no_member : (S : Type 0) (e : Exp) (w : Waiting) (p : Tree) → Among e w p no_branch → S
 no_member S e w p i = elim i [ ]
 
-pub part_none : (ds : Branches) → IsPart no_branch ds
-part_none ds = record { there = λ e w p i. no_member (Among e w p ds) e w p i }
-
 part_and_at : (f : Exp) (v : Waiting) (q : Tree) (bs ds : Branches) → Among f v q ds → IsPart bs ds → (e : Exp) (w : Waiting) (p : Tree)
     → Among e w p (and_branch f v q bs) → Among e w p ds
 part_and_at f v q bs ds h k e w p first_branch = h

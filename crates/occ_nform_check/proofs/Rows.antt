@@ -85,19 +85,6 @@ rows_long names params heights before (row ∷ rows) =
     let front : List Mark = marks_of params before (height_over heights row.offers, row_text names row) row in
     omega (arith, more, ap length (front_marks names params heights before row rows), length-append front (behind names params heights row rows))
 
--- the lines of rows
-abbrev pub lines_in : List TableRow → ℕ
-lines_in [] = 0
-lines_in (row ∷ rows) = lines row + lines_in rows
-
-pub length_rows : (names : List (List ℕ)) (params : List (Name × Kind)) (heights : List ℕ) (before : Option (ℕ × List ℕ)) (rows : List TableRow) → length (rows_marks names params heights before rows) ≡ lines_in rows
-unfolding rows_marks
-length_rows names params heights before [] = refl
-length_rows names params heights before (row ∷ rows) =
-    let front : List Mark = marks_of params before (height_over heights row.offers, row_text names row) row in
-    let more : length (behind names params heights row rows) ≡ lines_in rows = length_rows names params (heights ++ height_over heights row.offers ∷ []) (Some (height_over heights row.offers, row_text names row)) rows in
-    omega (arith, more, length-append front (behind names params heights row rows), length_row params row)
-
 pub rows_few : (names : List (List ℕ)) (params : List (Name × Kind)) (rows : List TableRow) → 2 + length params + length (rows_marks names params [] None rows) ≤ 4294967295 → length rows ≤ 4294967295
 rows_few names params rows h = omega (arith, h, rows_long names params [] None rows)
 

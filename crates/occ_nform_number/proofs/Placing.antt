@@ -1,14 +1,11 @@
 -- Drafts become rows one after another.
-use Rattle.std.proofs.Common.{◌≡◌, ◌≤◌, ◌<◌, ◌+◌, ◌++◌, ℕ, List, [], ◌∷◌, length, get_or, set, map, refl, sym, ap, ◌∙◌, subst, arith, length-append, append_assoc}
-use Rattle.std.proofs.lemmas.List.{map_push, length-map, append-nil}
+use Rattle.std.proofs.Common.{◌≡◌, ◌≤◌, ◌<◌, ◌+◌, ◌++◌, ℕ, List, [], ◌∷◌, length, get_or, set, map, sym, ap, ◌∙◌, subst, arith, length-append, append_assoc}
+use Rattle.std.proofs.lemmas.List.{map_push, length-map}
 use Rattle.std.specs.List.{All}
 use Rattle.occ_nform_number.specs.declared.level.Draft.{Draft}
 use Rattle.occ_nform_number.specs.declared.numbering.Numbering.{Numbering}
 use Rattle.occ_nform_number.specs.Numbering.{numbered_from, IsPlaced, ArePlaced}
 use Rattle.occ_nform_number.proofs.Levels.{numbers_wide}
-
-pub none_placed : (old : Numbering) → ArePlaced old old []
-none_placed old = record { placed = sym (append-nil old.placed.items); rows = sym (append-nil old.rows); numbers = refl; most = λ h. h }
 
 numbered_push : (n : ℕ) (xs : List Draft) (d : Draft) (numbers : List ℕ) → numbered_from n (xs ++ d ∷ []) numbers ≡ set (numbered_from n xs numbers) d.placed.node.0 (n + length xs)
 numbered_push n [] d numbers = let same : n ≡ n + 0 = omega arith in ap (λ m. set numbers d.placed.node.0 m) same

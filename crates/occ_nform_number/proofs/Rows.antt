@@ -1,6 +1,6 @@
 -- Tables whose rows are right one by one: nothing is out of order, empty or not reached.
 use Rattle.std.proofs.Common.{◌≡◌, ◌⊎◌, ◌≤◌, ◌<◌, ◌+◌, ◌*◌, ◌-◌, ◌==◌, ◌&&◌, ◌++◌, ℕ, zero, suc, max, Bool, true, false, cond, nat_lt, List, [], ◌∷◌, Option, Some, None, length, get_or, take, drop, refl, sym, ap, ◌∙◌, subst, ⊎_elim, arith, drop-cons}
-use Rattle.std.proofs.lemmas.Bool.{and_parts, and_from, or_left, or_right, eqb-true, eq-eqb, ltb-true, false≢true}
+use Rattle.std.proofs.lemmas.Bool.{and_parts, and_from, or_left, or_right, eqb-true, eq-eqb, ltb-true}
 use Rattle.std.proofs.lemmas.List.{take_more, get_or-take}
 use Rattle.std.proofs.lemmas.Option.{slice_get-get_or, same_Some, get_or_from_slice_get}
 use Rattle.std.specs.List.{list_any, AllByRecursion}
@@ -27,10 +27,6 @@ pub fine_append : (xs ys : List Mark) → AreFine xs → AreFine ys → AreFine 
 fine_append [] ys h k = k
 fine_append (x ∷ xs) ys h k = (h.0, fine_append xs ys h.1 k)
 
-pub fine_front : (xs ys : List Mark) → AreFine (xs ++ ys) → AreFine xs
-fine_front [] ys h = tt
-fine_front (x ∷ xs) ys h = (h.0, fine_front xs ys h.1)
-
 pub fine_back : (xs ys : List Mark) → AreFine (xs ++ ys) → AreFine ys
 fine_back [] ys h = h
 fine_back (x ∷ xs) ys h = fine_back xs ys h.1
@@ -50,11 +46,6 @@ pub fine_placed : (b : Bool) → b ≡ true → placed b ≡ Fine
 fine_placed b h = ap placed h
 
 -- ---- events that increase
-same_dir_is : (d e : Dir) → same_dir d e ≡ true → d ≡ e
-same_dir_is Input Input h = refl
-same_dir_is Input Output h = absurd (false≢true h)
-same_dir_is Output Input h = absurd (false≢true h)
-same_dir_is Output Output h = refl
 
 module _ (params : List (Name × Kind)) where
   same_rank : (e f : Event) → same_event e f ≡ true → rank params e ≡ rank params f

@@ -1,22 +1,20 @@
 -- The parameters of a program that was read are an interface.
-use Rattle.std.proofs.Common.{◌≡◌, ℕ, ◌≤◌, Bool, true, false, nat_lt, if◌then◌else◌, List, [], length, Option, Some, None, refl, sym, ap, subst, ◌∙◌, arith}
-use Rattle.std.proofs.lemmas.Bool.{ltb-false}
+use Rattle.std.proofs.Common.{◌≡◌, ℕ, ◌≤◌, true, false, List, [], length, None, refl, sym, ap, subst, ◌∙◌, arith}
 use Rattle.occ_base.specs.declared.names.Name.{Name}
 use Rattle.occ_base.specs.Names.{IsDistinct}
 use Rattle.occ_syntax.specs.declared.scope.Kind.{Kind}
-use Rattle.occ_syntax.specs.Counts.{bits_of_scope, controls}
+use Rattle.occ_syntax.specs.Counts.{bits_of_scope}
 use Rattle.occ_syntax.specs.Tree.{Tree}
 use Rattle.occ_lex.specs.Rows.{reading_of}
 use Rattle.occ_lex_symbols.specs.Symbols.{Extends}
 use Rattle.occ_lex_symbols.proofs.Interned.{extends_trans}
 use Rattle.occ_parse_forms.specs.declared.form.Param.{Param}
-use Rattle.occ_parse_forms.specs.Shape.{header, close}
+use Rattle.occ_parse_forms.specs.Shape.{close}
 use Rattle.occ_parse_rules.specs.Forest.{Forest, no_line, and_line, lines_at}
-use Rattle.occ_parse_rules.specs.Judging.{or_else, on_line, first_fault}
-use Rattle.occ_parse_rules.specs.Limits.{bits_in_scope, count_fault}
+use Rattle.occ_parse_rules.specs.Limits.{bits_in_scope}
 use Rattle.occ_parse_rules.specs.Names.{name_fault, redeclares_some}
 use Rattle.occ_parse_rules.specs.Places.{param_entries}
-use Rattle.occ_parse_rules.specs.Unrolled.{params_named, slot_process}
+use Rattle.occ_parse_rules.specs.Unrolled.{params_named}
 use Rattle.occ_parse_sound.specs.Programs.{param_scope}
 use Rattle.occ_parse_sound.proofs.Small.{param_bits}
 use Rattle.occ_parse_layout.specs.declared.placed.Frame.TheVariants as frame
@@ -26,39 +24,14 @@ use Rattle.occ_parse_unroll.specs.Elements.{with_element, with_places, with_elem
 use Rattle.occ_parse_unroll.specs.Numbers.{number_in}
 use Rattle.occ_parse_unroll.proofs.Elements.{places_behind}
 use Rattle.occ_parse_reading.specs.declared.bound.Bound.TheVariants as bound
-use Rattle.occ_parse_reading.specs.declared.fault.ParseFault.{ParseFault}
-use Rattle.occ_parse_reading.specs.declared.fault.ParseFault.TheVariants as fault
-use Rattle.occ_parse_reading.specs.declared.fault.Which.{Which}
-use Rattle.occ_parse_reading.specs.declared.fault.Which.TheVariants as which
-use Rattle.occ_parse_reading.specs.Drafts.{header_params, header_below, as_fault, name_fault_on, over, unnumbered, draft_fault}
+use Rattle.occ_parse_reading.specs.Drafts.{header_params, header_below, draft_fault}
 use Rattle.occ_parse_reading.specs.Reading.{IsRead, names_in}
+use Rattle.occ_parse.proofs.Faultless.{declared_once, header_judged, limits_kept, lines_of, no_fault, within_limits}
 use Rattle.occ_parse.proofs.Places.{places_extend, places_distinct}
 use Rattle.occ_nform_table.specs.Tables.{are_params, IsInterface}
 use Rattle.occ_nform_params.proofs.Header.{Table, all_distinct, AreGood, header_good}
 use Rattle.occ_nform_params.proofs.Named.{all_stand}
 use Rattle.occ_nform_params.proofs.Params.{interface}
-
--- ---- no faults
-
-or_else_none : {F : Type 0} (a b : Option F) → or_else a b ≡ None → (a ≡ None) × (b ≡ None)
-or_else_none None b h = (refl, h)
-or_else_none (Some x) b h = absurd cc
-
-on_line_none : {F : Type 0} (n : ℕ) (a : Option F) → on_line n a ≡ None → a ≡ None
-on_line_none n None h = refl
-on_line_none n (Some x) h = absurd cc
-
-as_fault_none : {F : Type 0} (on : ℕ → F → ParseFault) (o : Option (ℕ × F)) → as_fault on o ≡ None → o ≡ None
-as_fault_none on None h = refl
-as_fault_none on (Some found) h = absurd cc
-
-over_none : (b : Bool) (w : Which) (n : ℕ) → over b w n ≡ None → b ≡ false
-over_none true w n h = absurd cc
-over_none false w n h = refl
-
-if_none : {F : Type 0} (b : Bool) (x : F) (rest : Option F) → (if b then Some x else rest) ≡ None → (b ≡ false) × (rest ≡ None)
-if_none true x rest h = absurd cc
-if_none false x rest h = (refl, h)
 
 -- what a program without a fault keeps of its parameters
 record AreKept (params : List Param) : Type 0 where
@@ -66,25 +39,16 @@ record AreKept (params : List Param) : Type 0 where
   few : length (params_places params) ≤ 16
   bits : bits_in_scope (param_scope params) ≤ 16
 
--- lines that begin with a header and end with a close
-abbrev lines_of : ℕ → Name → List Param → Forest → ℕ → Forest
-lines_of number name params below last = and_line number (header name params) below (and_line last close no_line no_line)
-
 are_kept : (number : ℕ) (name : Name) (params : List Param) (below : Forest) (last : ℕ) → draft_fault bound.Program (lines_of number name params below last) ≡ None → AreKept params
 are_kept number name params below last h =
+    let rest = and_line last close no_line no_line in
     let f = lines_of number name params below last in
-    let first = or_else_none (as_fault name_fault_on (first_fault name_fault [] [] f)) _ h in
-    let names = as_fault_none name_fault_on (first_fault name_fault [] [] f) first.0 in
-    let judged = on_line_none number (name_fault [] (header name params)) (or_else_none (on_line number (name_fault [] (header name params))) _ names).0 in
-    let limits = (or_else_none _ _ (or_else_none _ _ first.1).1).1 in
-    let one = or_else_none (over (nat_lt 16 (length (params_places params))) which.Parameters number) _ limits in
-    let two = or_else_none (as_fault (λ line found. fault.Limit which.Count line) (first_fault count_fault [] [] f)) _ one.1 in
-    let three = or_else_none (over (nat_lt 4096 (controls (slot_process unnumbered (param_scope params) below))) which.Controls number) _ two.1 in
-    let four = or_else_none (over (nat_lt 16 (bits_in_scope (param_scope params))) which.InterfaceBits number) _ three.1 in
+    let none = no_fault bound.Program f h in
+    let within = within_limits f (limits_kept bound.Program f refl none.limits) in
     record {
-      once = (if_none (redeclares_some [] (param_entries params)) _ _ judged).0;
-      few = ltb-false _ _ (over_none _ _ _ one.0);
-      bits = ltb-false _ _ (over_none _ _ _ four.0);
+      once = declared_once name params (header_judged name_fault number name params below rest none.names);
+      few = within.few_parameters;
+      bits = within.few_bits;
     }
 
 -- ---- a program that was read

@@ -51,8 +51,8 @@ fn states_of(alloc: Global, program: &Program, world: &mut World) -> Result<MapI
     Ok(states)
 }
 
-// The program with flat PARs, if it has others and keeps the rules with them too. A name that is declared again may break
-// them.
+// The program with flat PARs, if it has others and keeps the rules with them too. Types are kept by the contract of `flattened`;
+// `keeps` is asked for usage alone.
 fn flat_program(alloc: Global, program: &Program) -> Result<Option<Program>, Memory>
     ensures params { IfOk result (λ found. IfSome found (λ flat. flat.params ≡ program.now.params)) }
     ensures body { IfOk result (λ found. IfSome found (λ flat. IsFlat (tree program.now.body) (tree flat.body))) }

@@ -27,9 +27,6 @@ use Rattle.occ_norm_alt.proofs.Branching.{alternates_out, came_quiet, came_resum
 nil_not_cons : (e : Event) (t : List Event) → [] ≡ e ∷ t → ⊥
 nil_not_cons e t h = cc
 
-same_head : (e f : Event) (t u : List Event) → e ∷ t ≡ f ∷ u → e ≡ f
-same_head e f t u h = cc
-
 -- ---- the one beside the other
 module _ (w : World) (a b : NodeId) where
   beside_fails : (o : Option NodeId) → Finished w (Some a) o (Some b) → (e : Event) (t : List Event) (X : Event → Bool) → fails w b (e ∷ t) X ≡ (fails w a (e ∷ t) X || maybe_fails w o (e ∷ t) X)

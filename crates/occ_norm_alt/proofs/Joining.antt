@@ -158,9 +158,6 @@ module _ (w : World) (layout : List (Name × Width × ℕ)) (keep : ℕ) (closed
     own : {A B : Type 0} → A ↔ B → A ↔ ((ready ≡ ready) × B)
     own f = (λ a. (refl, f.0 a), λ k. f.1 k.1)
 
-    own_at : (x y z : ℕ) (t : List Event) → Resumes w layout closed Γ p rest x (λ last m u. ends w m u (bit_xor z (change_of keep x last))) t ↔ EndsThen w layout keep closed Γ rest x p x t z
-    own_at x y z t = (λ k. k, λ k. k)
-
     readies_more : (x : ℕ) → x < 2 ^ 64 → IsReadyAt w layout keep closed Γ (and_branch e ready p bs) rest x (value w.maps r x)
     readies_more x h =
         let at = is.readies x h in

@@ -1,5 +1,5 @@
 -- Nodes that wait for events: how they are made.
-use Rattle.std.proofs.Common.{◌≡◌, ◌<◌, ◌^◌, ℕ, Bool, true, false, not, ◌||◌, ◌&&◌, List, [], ◌∷◌, Option, Some, None, is_some, cond, refl, sym, ap, ◌∙◌, inl, inr, ⊎_elim}
+use Rattle.std.proofs.Common.{◌≡◌, ◌<◌, ◌^◌, ℕ, Bool, true, false, not, ◌||◌, ◌&&◌, List, [], ◌∷◌, Some, None, is_some, cond, refl, sym, ap, ◌∙◌, inl, inr, ⊎_elim}
 use Rattle.std.specs.Prelude.{◌↔◌, ◌⊎◌}
 use Rattle.std.specs.List.{list_all, list_any}
 use Rattle.std.specs.Ordering.{eq_by_cmp}
@@ -43,13 +43,6 @@ offered_cases o offers e h = ⊎_elim
     (λ (t : eq_by_cmp event_cmp e o.0 ≡ true). inl (tied_same cmp_total event_exact e o.0 t))
     (λ (t : eq_by_cmp event_cmp e o.0 ≡ false). inr (sym (ap (λ c. is_some (cond c (Some o.1) (next_in offers e))) t) ∙ h))
     (cases_Bool (eq_by_cmp event_cmp e o.0))
-
-none_offered : (o : Option NodeId) → is_some o ≡ false → o ≡ None
-none_offered None h = refl
-none_offered (Some b) h = absurd (false≢true (sym h))
-
-pub not_offered : (w : World) (a : NodeId) (e : Event) → is_offered (row_of w a).offers e ≡ false → next_in (row_of w a).offers e ≡ None
-not_offered w a e h = none_offered (next_in (row_of w a).offers e) h
 
 pub is_false : (b : Bool) → not b ≡ true → b ≡ false
 is_false true h = absurd (false≢true h)

@@ -301,13 +301,6 @@ slot_some layout is y (w, f) found =
     let bits : bits_of_exp (environment_in layout) (variable y) ≡ bits_of w = ap bits_in width in
     omega (arith, (bits_within (scope_in layout) is.scope (variable y) (is_there _ w width)).0)
 
--- the bits of an entry lie within those of the layout
-laid_at : (a : ℕ) (scope : List (Name × Kind)) (i : ℕ) (e : Name × Width × ℕ) → i < length (laid_out a scope) → e ≡ get_or (laid_out a scope) i e → e.2 + bits_of e.1 ≤ a + bits_of_scope scope
-laid_at a [] i e h is = absurd (omega (arith, h))
-laid_at a ((n, Var v) ∷ scope) zero e h is = let sum : e.2 + bits_of e.1 ≡ a + bits_of v = ap (λ (d : Name × Width × ℕ). d.2 + bits_of d.1) is in omega arith
-laid_at a ((n, Var v) ∷ scope) (suc i) e h is = omega (arith, laid_at (a + bits_of v) scope i e (omega (arith, h)) is)
-laid_at a ((n, Chan v d) ∷ scope) i e h is = omega (arith, laid_at a scope i e h is)
-
 laid_place : (a : ℕ) (scope : List (Name × Kind)) (i : ℕ) (d : Name × Width × ℕ) → i < length (laid_out a scope) → (get_or (laid_out a scope) i d).2 + bits_of (get_or (laid_out a scope) i d).1 ≤ a + bits_of_scope scope
 laid_place a [] i d h = absurd (omega (arith, h))
 laid_place a ((n, Var v) ∷ scope) zero d h = omega arith

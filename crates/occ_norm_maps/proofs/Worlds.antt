@@ -1,5 +1,5 @@
 -- Worlds whose maps are taken out, put back or added to, and what is done to their nodes.
-use Rattle.std.proofs.Common.{◌≡◌, ◌<◌, ◌≤◌, ◌^◌, ◌==◌, ◌||◌, ◌++◌, ℕ, Bool, true, false, not, cond, ◌&&◌, ◌+◌, zero, suc, List, [], ◌∷◌, Option, Some, None, ⊎_elim, length, refl, sym, ap, ◌∙◌, subst, arith, lit<}
+use Rattle.std.proofs.Common.{◌≡◌, ◌<◌, ◌≤◌, ◌^◌, ◌==◌, ◌++◌, ℕ, Bool, true, false, not, cond, ◌&&◌, ◌+◌, zero, suc, List, [], ◌∷◌, Option, Some, None, ⊎_elim, length, refl, sym, ap, ◌∙◌, subst, arith, lit<}
 use Rattle.std.proofs.lemmas.Bool.{eqb-true, eqb-false, false≢true, true≢false}
 use Rattle.std.specs.Int.{bit_at}
 use Rattle.std.specs.Int.Bits.{xor_zero_r}
@@ -24,26 +24,23 @@ use Rattle.occ_node.specs.Rows.{goes_on}
 use Rattle.occ_node.specs.World.{Grows, IsFit, IsMade, Leads, IsNode, nodes_of, row_of, fails, ends, row_fails}
 use Rattle.occ_node.specs.declared.node.NodeId.{NodeId}
 use Rattle.occ_node.specs.declared.world.World.{World}
-use Rattle.occ_node.proofs.Behaviours.{alive_ends, ends_made, fails_made, grows_leads, grows_refl, grows_trans, node-leads, within_offers}
+use Rattle.occ_node.proofs.Behaviours.{alive_ends, ends_made, fails_made, grows_leads, grows_refl, grows_trans, within_offers}
 use Rattle.occ_node.proofs.Table.{Holds, holds_refl, row-holds, fails-holds, ends-holds}
 use Rattle.occ_choice.specs.Branches.{AreBranches, IsAlt, IsBeside}
 use Rattle.occ_choice.specs.Joined.{IsSound}
-use Rattle.occ_choice.specs.Union.{AreUnions, IsAdded, IsUnion}
+use Rattle.occ_choice.specs.Union.{AreUnions, IsAdded}
 use Rattle.occ_choice.specs.declared.branch.Branch.{Branch}
-use Rattle.occ_choice.specs.declared.branch.Branch.TheVariants.{Event as Comm}
 use Rattle.occ_choice.proofs.Choosing.{beside_added, beside_sound}
 use Rattle.occ_choice.proofs.Uniting.{sound_row}
 use Rattle.occ_follow.specs.Sequence.{HasNodes}
-use Rattle.occ_scope.specs.Results.{IsShifted}
 use Rattle.occ_scope.specs.Tables.{KeepShifted}
-use Rattle.occ_weave.specs.Weave.{IsWoven}
 use Rattle.occ_weave.specs.Weaves.{KeepWoven, closed_of, written_of}
-use Rattle.occ_norm_maps.specs.Lifted.{Finished, IsEither, IsFinished, IsLifted, IsMerged, IsPrefixed, IsTurned, IsWovenOf, OnOne, OnTwo, branches_of}
+use Rattle.occ_norm_maps.specs.Lifted.{Finished, IsEither, IsFinished, IsLifted, IsMerged, IsTurned, OnOne, OnTwo, branches_of}
 use Rattle.occ_norm_maps.specs.Lifting.{Accepts, Goes, Relates}
 use Rattle.occ_norm_maps.specs.Maps.{Extends, IsSkip, Lifts, MayHaveNodes, are_zero, is_clear}
 use Rattle.occ_norm_maps.specs.declared.lifting.Lifting.{Lifting}
 use Rattle.occ_norm_maps.specs.declared.step.Step.{Step}
-use Rattle.occ_norm_maps.specs.Growth.{alt_now, beside_now, both_branches, node_grow, lifted_grow, one_branch, rows_grow, some_grow}
+use Rattle.occ_norm_maps.specs.Growth.{alt_now, beside_now, both_branches, node_grow, lifted_grow, rows_grow, some_grow}
 
 pub map-keeps : (v w : World) → Keeps v.maps w.maps → (m : MapId) → IsKnown v.maps m → IsKnown w.maps m
 map-keeps v w k m h = let more : maps_of v.maps ≤ maps_of w.maps = k.more in omega arith
@@ -177,34 +174,6 @@ finish_now v w k p q nowhere accepts offers r h l is set nothing added =
     beside_now v w (grows_leads v w k) p q r h l (subst (λ os. IsBeside v w os q r) is (beside_added v w nowhere accepts offers q r set nothing added))
 
 -- ---- steps
-pub either_union : (w : World) (p q r : NodeId) → IsUnion w p q r → IsEither w (Some p) (Some q) (Some r)
-either_union w p q r is = record { first = is.first; second = is.second; known = is.known; there = refl; both_fail = is.both_fail; both_end = is.both_end }
-
-or_false : (b : Bool) → b ≡ (b || false)
-or_false true = refl
-or_false false = refl
-
-pub either_first : (w : World) (p : NodeId) → IsNode w p → IsEither w (Some p) None (Some p)
-either_first w p h = record { first = h; second = tt; known = h; there = refl; both_fail = λ t X. or_false (fails w p t X); both_end = λ t x. or_false (ends w p t x) }
-
-pub either_second : (w : World) (q : Option NodeId) → IfSome q (IsNode w) → IsEither w None q q
-either_second w q h = record { first = tt; second = h; known = h; there = refl; both_fail = λ t X. refl; both_end = λ t x. refl }
-
-pub turned_now : (v w : World) → Leads v w → (change : ℕ) (p r : NodeId) → IsNode v p → IsShifted v w change p r → IsTurned w change p r
-turned_now v w k change p r h is = record {
-  first = node-leads v w k p h;
-  turned = record {
-    known = is.known;
-    same_fail = λ t X. is.same_fail t X ∙ sym (k.same_fails p t X h);
-    turned_end = λ t x b. is.turned_end t x b ∙ sym (k.same_ends p t _ h);
-  };
-}
-
-pub prefixed_now : (v w : World) → Leads v w → (e : Event) (p r : NodeId) → IsNode v p → IsAlt v w (Comm e p ∷ []) r → IsPrefixed w e p r
-prefixed_now v w k e p r h is = record { first = node-leads v w k p h; prefixed = alt_now v w (grows_leads v w k) (Comm e p ∷ []) r (one_branch v e p h) is }
-
-pub woven_now : (v w : World) → Leads v w → (written : ℕ) (closed : List Name) (p q r : NodeId) → IsNode v p → IsNode v q → IsWoven w written closed p q r → IsWovenOf w written closed p q r
-woven_now v w k written closed p q r h l is = record { first = node-leads v w k p h; second = node-leads v w k q l; woven = is }
 
 pub goes_from : (f g : Lifting) → Leads f.world g.world → g.step ≡ f.step → written_of g.weaves ≡ written_of f.weaves → closed_of g.weaves ≡ closed_of f.weaves
     → (AreUnions f.world f.unions → AreUnions g.world g.unions) → (KeepShifted f.world f.shifts → KeepShifted g.world g.shifts) → (KeepWoven f.world f.weaves → KeepWoven g.world g.weaves) → Goes f g

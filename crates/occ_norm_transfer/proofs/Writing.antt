@@ -13,7 +13,7 @@ use Rattle.occ_diagram.proofs.Bits.{with_bit_same}
 use Rattle.occ_digits.specs.Digits.{AreDigits, reached_by}
 use Rattle.occ_digits.proofs.Reaching.{digit_of_bit, put_outside, reached_by-keeps, reached_more}
 use Rattle.occ_norm_assign.specs.Writes.{AreWrites, IsWrite}
-use Rattle.occ_norm_assign.specs.Written.{AreDistinct, IsOff, onto}
+use Rattle.occ_norm_assign.specs.Written.{AreDistinct, onto}
 use Rattle.occ_norm_assign.specs.declared.writes.Write.{Write}
 use Rattle.occ_norm_assign.proofs.Apart.{off_append}
 use Rattle.occ_norm_assign.proofs.Keeping.{no_writes, writes-extend}
@@ -34,10 +34,6 @@ low_more n (w ∷ ws) h = (let l : w.bit < n = h.0 in omega arith, low_more n ws
 pub low_push : (n : ℕ) (ws : List Write) (w : Write) → AreLow n ws → w.bit ≡ n → AreLow (n + 1) (ws ++ w ∷ [])
 low_push n [] w h e = (omega (arith, e), tt)
 low_push n (v ∷ ws) w h e = (let l : v.bit < n = h.0 in omega arith, low_push n ws w h.1 e)
-
-low_off : (n b : ℕ) (ws : List Write) → AreLow n ws → b ≡ n → IsOff b ws
-low_off n b [] h e = tt
-low_off n b (w ∷ ws) h e = (λ (f : w.bit ≡ b). let l : w.bit < n = h.0 in omega (arith, l, e, f), low_off n b ws h.1 e)
 
 pub distinct_push : (n : ℕ) (ws : List Write) (w : Write) → AreLow n ws → w.bit ≡ n → AreDistinct ws → AreDistinct (ws ++ w ∷ [])
 distinct_push n [] w h e d = (tt, tt)

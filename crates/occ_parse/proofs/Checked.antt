@@ -1,7 +1,7 @@
 -- A program that is read keeps what its check asks: names, types, directions and limits.
-use Rattle.std.proofs.Common.{◌≡◌, ℕ, ◌+◌, ◌≤◌, Bool, true, false, nat_lt, if◌then◌else◌, List, [], ◌∷◌, length, Option, Some, None, refl, sym, ap, subst, ◌∙◌, arith, length-append, ◌&&◌}
+use Rattle.std.proofs.Common.{◌≡◌, ℕ, ◌+◌, ◌≤◌, true, nat_lt, List, [], ◌∷◌, length, Option, None, refl, sym, ap, subst, ◌∙◌, arith, length-append, ◌&&◌}
 use Rattle.std.specs.List.{flat_map}
-use Rattle.std.proofs.lemmas.Bool.{and_parts, ltb-false}
+use Rattle.std.proofs.lemmas.Bool.{and_parts}
 use Rattle.std.proofs.lemmas.List.{length-map}
 use Rattle.occ_base.specs.declared.names.Name.{Name}
 use Rattle.occ_base.specs.Names.{IsDistinct}
@@ -15,12 +15,11 @@ use Rattle.occ_syntax.specs.View.{tree}
 use Rattle.occ_lex_symbols.specs.Symbols.{Extends}
 use Rattle.occ_lex_symbols.proofs.Interned.{extends_trans}
 use Rattle.occ_parse_forms.specs.declared.form.Param.{Param}
-use Rattle.occ_parse_forms.specs.Shape.{Shape, header, close}
+use Rattle.occ_parse_forms.specs.Shape.{header, close}
 use Rattle.occ_parse_rules.specs.Forest.{Forest, no_line, and_line}
-use Rattle.occ_parse_rules.specs.Judging.{or_else, on_line, first_fault}
-use Rattle.occ_parse_rules.specs.Limits.{bits_fault, bits_in_scope, copied_lines, count_fault}
-use Rattle.occ_parse_rules.specs.Names.{name_fault, redeclares_some}
-use Rattle.occ_parse_rules.specs.Places.{Sorts, places, param_entries}
+use Rattle.occ_parse_rules.specs.Limits.{bits_in_scope}
+use Rattle.occ_parse_rules.specs.Names.{name_fault}
+use Rattle.occ_parse_rules.specs.Places.{places}
 use Rattle.occ_parse_rules.specs.Types.{type_fault, direction_fault}
 use Rattle.occ_parse_rules.specs.Unrolled.{Numbers, named, params_named, slot_process}
 use Rattle.occ_parse_sound.specs.Agreement.{AreKnown}
@@ -36,96 +35,16 @@ use Rattle.occ_parse_unroll.proofs.Sized.{slot_process_size}
 use Rattle.occ_usage.specs.Accepted.{IsTyped}
 use Rattle.occ_parse_reading.specs.declared.bound.Bound.{Bound}
 use Rattle.occ_parse_reading.specs.declared.fault.ParseFault.{ParseFault}
-use Rattle.occ_parse_reading.specs.declared.fault.ParseFault.TheVariants as fault
-use Rattle.occ_parse_reading.specs.declared.fault.Which.{Which}
-use Rattle.occ_parse_reading.specs.declared.fault.Which.TheVariants as which
 use Rattle.occ_parse_reading.specs.Limits.{is_limited}
-use Rattle.occ_parse_reading.specs.Drafts.{header_line, header_params, header_below, as_fault, name_fault_on, type_fault_on, over, unnumbered, parameters, limit_fault, limit_fault_of, draft_fault}
+use Rattle.occ_parse_reading.specs.Drafts.{header_params, header_below, unnumbered, parameters, draft_fault}
 use Rattle.occ_parse_reading.specs.Reading.{IsLaidOut, names_in}
 use Rattle.occ_parse.proofs.Texts.{is_plain, in_table, plain_table}
 use Rattle.occ_parse.proofs.Small.{shape_small}
 use Rattle.occ_parse.proofs.Knowing.{EachLine, IsLineOf, each_map, lines_are_of, line_passes, line_small, lines_sound}
+use Rattle.occ_parse.proofs.Faultless.{WithinLimits, below_judged, declared_once, header_judged, limits_kept, lines_of, no_fault, within_limits}
 use Rattle.occ_parse.proofs.Forests.{program_of}
 use Rattle.occ_parse.proofs.Placed.{good_are_placed}
 use Rattle.occ_parse.proofs.Places.{knows, one_to_one, places_extend, places_distinct, lines_places, lines_known}
-
--- ---- no faults
-
-or_else_none : {F : Type 0} (a b : Option F) → or_else a b ≡ None → (a ≡ None) × (b ≡ None)
-or_else_none None b h = (refl, h)
-or_else_none (Some x) b h = absurd cc
-
-on_line_none : {F : Type 0} (n : ℕ) (a : Option F) → on_line n a ≡ None → a ≡ None
-on_line_none n None h = refl
-on_line_none n (Some x) h = absurd cc
-
-as_fault_none : {F : Type 0} (on : ℕ → F → ParseFault) (o : Option (ℕ × F)) → as_fault on o ≡ None → o ≡ None
-as_fault_none on None h = refl
-as_fault_none on (Some found) h = absurd cc
-
-over_none : (b : Bool) (w : Which) (n : ℕ) → over b w n ≡ None → b ≡ false
-over_none true w n h = absurd cc
-over_none false w n h = refl
-
-if_none : {F : Type 0} (b : Bool) (x : F) (rest : Option F) → (if b then Some x else rest) ≡ None → (b ≡ false) × (rest ≡ None)
-if_none true x rest h = absurd cc
-if_none false x rest h = (refl, h)
-
-at_most : (n m : ℕ) → nat_lt n m ≡ false → m ≤ n
-at_most n m h = ltb-false _ _ h
-
--- what follows where the limits of lines that begin with a header are kept
-record WithinLimits (params : List Param) (below : Forest) : Type 0 where
-  few_parameters : parameters params ≤ 16
-  few_controls : controls (slot_process unnumbered (param_scope params) below) ≤ 4096
-  few_bits : bits_in_scope (param_scope params) ≤ 16
-  narrow : first_fault bits_fault (param_scope params) (param_scope params) (copied_lines below) ≡ None
-
-within_limits : (f : Forest) → limit_fault f ≡ None → WithinLimits (header_params f) (header_below f)
-within_limits f h =
-    let first = or_else_none (over (nat_lt 16 (parameters (header_params f))) which.Parameters (header_line f)) _ h in
-    let second = or_else_none (as_fault (λ line found. fault.Limit which.Count line) (first_fault count_fault [] [] f)) _ first.1 in
-    let third = or_else_none (over (nat_lt 4096 (controls (slot_process unnumbered (param_scope (header_params f)) (header_below f)))) which.Controls (header_line f)) _ second.1 in
-    let fourth = or_else_none (over (nat_lt 16 (bits_in_scope (param_scope (header_params f)))) which.InterfaceBits (header_line f)) _ third.1 in
-    record {
-      few_parameters = at_most 16 _ (over_none _ _ _ first.0);
-      few_controls = at_most 4096 _ (over_none _ _ _ third.0);
-      few_bits = at_most 16 _ (over_none _ _ _ fourth.0);
-      narrow = as_fault_none (λ line found. fault.Limit which.ScopeBits line) _ fourth.1;
-    }
-
-record NoFault (b : Bound) (f : Forest) : Type 0 where
-  names : first_fault name_fault [] [] f ≡ None
-  types : first_fault type_fault [] [] f ≡ None
-  directions : first_fault direction_fault [] [] f ≡ None
-  limits : limit_fault_of b f ≡ None
-
-no_fault : (b : Bound) (f : Forest) → draft_fault b f ≡ None → NoFault b f
-no_fault b f h =
-    let first = or_else_none (as_fault name_fault_on (first_fault name_fault [] [] f)) _ h in
-    let second = or_else_none (as_fault type_fault_on (first_fault type_fault [] [] f)) _ first.1 in
-    let third = or_else_none (as_fault (λ line found. fault.Direction line) (first_fault direction_fault [] [] f)) _ second.1 in
-    record {
-      names = as_fault_none name_fault_on _ first.0;
-      types = as_fault_none type_fault_on _ second.0;
-      directions = as_fault_none (λ line found. fault.Direction line) _ third.0;
-      limits = third.1;
-    }
-
-limits_kept : (b : Bound) (f : Forest) → is_limited b ≡ true → limit_fault_of b f ≡ None → limit_fault f ≡ None
-limits_kept b f l h = sym (ap (λ t. if t then limit_fault f else None) l) ∙ h
-
--- ---- the lines below a header
-
-module _ {F : Type 0} (judge : Sorts → Shape → Option F) (number : ℕ) (name : Name) (params : List Param) (below rest : Forest) where
-  header_judged : first_fault judge [] [] (and_line number (header name params) below rest) ≡ None → judge [] (header name params) ≡ None
-  header_judged h = on_line_none number (judge [] (header name params)) (or_else_none (on_line number (judge [] (header name params))) _ h).0
-
-  below_judged : first_fault judge [] [] (and_line number (header name params) below rest) ≡ None → first_fault judge (param_scope params) (param_scope params) below ≡ None
-  below_judged h = (or_else_none (first_fault judge (param_scope params) (param_scope params) below) _ (or_else_none (on_line number (judge [] (header name params))) _ h).1).0
-
-declared_once : (name : Name) (params : List Param) → name_fault [] (header name params) ≡ None → redeclares_some [] (param_entries params) ≡ false
-declared_once name params h = (if_none (redeclares_some [] (param_entries params)) _ _ h).0
 
 -- ---- sizes
 
@@ -193,10 +112,6 @@ module _ (b : Bound) (text : List ℕ) (old new : List (List ℕ)) (f : Forest) 
 
   sound : are_sound f ≡ true
   sound = lines_sound new f of_new
-
--- lines that begin with a header and end with a close
-abbrev lines_of : ℕ → Name → List Param → Forest → ℕ → Forest
-lines_of number name params below last = and_line number (header name params) below (and_line last close no_line no_line)
 
 whole : (t : List (List ℕ)) → IsDistinct t → (b : Bound) (number : ℕ) (name : Name) (params : List Param) (below : Forest) (last : ℕ)
     → AreKnown (knows t) (lines_of number name params below last) → are_sound (lines_of number name params below last) ≡ true → are_placed (lines_of number name params below last) ≡ true

@@ -1,10 +1,11 @@
 mod Rows
-mod Forests
+pub mod Forests
 mod Counting
 pub mod Texts
 pub mod Small
 pub mod Knowing
 pub mod Places
+pub mod Faultless
 mod Checked
 pub mod Placed
 pub mod Declared

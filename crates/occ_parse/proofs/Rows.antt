@@ -8,7 +8,6 @@ use Rattle.occ_parse_layout.specs.declared.placed.Placed.{Placed}
 use Rattle.occ_parse_layout.specs.Layout.{laid_rows}
 use Rattle.occ_parse_reading.specs.declared.bound.Bound.{Bound}
 use Rattle.occ_parse_reading.specs.declared.fault.ParseFault.{ParseFault}
-use Rattle.occ_parse_reading.specs.declared.fault.ParseFault.TheVariants as fault
 use Rattle.occ_parse_reading.specs.declared.fault.Which.{Which}
 use Rattle.occ_parse_reading.specs.Limits.{line_limit, stop_at, stopped}
 use Rattle.occ_parse_reading.specs.Reading.{IsSaid, AreForms}
@@ -19,9 +18,6 @@ pub record Passed (b : Bound) (rows : List Row) (found : Option (ℕ × LineFaul
   pub stop : (stopped b left found).1 ≡ (stopped b rows found).1
 
 module _ (b : Bound) (rows : List Row) (found : Option (ℕ × LineFault)) where
-  begun : Passed b rows found [] rows
-  begun = record { forms = λ lines h. h; stop = refl }
-
   one_more : (done : List Laid) (row : Row) (left : List Row) (line : Laid) → Passed b rows found done (row ∷ left) → line_limit b row ≡ None → IsSaid row line
       → Passed b rows found (done ++ line ∷ []) left
   one_more done row left line p none said =
@@ -42,9 +38,6 @@ module _ (b : Bound) (rows : List Row) (found : Option (ℕ × LineFault)) where
 
 -- the rows that are left, at a place
 module _ (b : Bound) (rows : List Row) (found : Option (ℕ × LineFault)) (i : ℕ) (row : Row) (items : List Placed) where
-  pub first_left : Passed b rows found [] (drop 0 rows)
-  first_left = begun b rows found
-
   here : i < length rows → row ≡ get_or rows i row → Passed b rows found (laid_rows items) (drop i rows) → Passed b rows found (laid_rows items) (row ∷ drop (i + 1) rows)
   here h e p = subst (Passed b rows found (laid_rows items)) (drop_more rows i row h ∙ ap (λ r. r ∷ drop (i + 1) rows) (sym e)) p
 

@@ -7,15 +7,11 @@ use Rattle.occ_lex_symbols.specs.declared.symbol.Keyword.{Keyword}
 use Rattle.occ_lex_symbols.specs.declared.symbol.Keyword.TheVariants as word
 use Rattle.occ_lex_symbols.specs.declared.symbol.Symbol.{Symbol}
 use Rattle.occ_lex_symbols.specs.declared.symbol.Symbol.TheVariants as symbol
-use Rattle.occ_parse_forms.specs.Symbols.{then_read, either, alone, same_symbol, behind, name_first, numeral_first, width_in, width_first}
+use Rattle.occ_parse_forms.specs.Symbols.{then_read, alone, same_symbol, behind, name_first, numeral_first, width_in, width_first}
 
 pub read_ok : {A B : Type 0} (o : Option A) (f : A → Option B) (y : B) → then_read o f ≡ Some y → (x : A) × (o ≡ Some x) × (f x ≡ Some y)
 read_ok None f y h = absurd cc
 read_ok (Some x) f y h = (x, refl, h)
-
-pub either_ok : {A B : Type 0} (o : Option A) (other : Option B) (next : A → Option B) (y : B) → either o other next ≡ Some y → ((o ≡ None) × (other ≡ Some y)) ⊎ ((x : A) × (o ≡ Some x) × (next x ≡ Some y))
-either_ok None other next y h = inl (refl, h)
-either_ok (Some x) other next y h = inr (x, refl, h)
 
 pub alone_ok : {A : Type 0} (x y : A) (rest : List Symbol) → alone x rest ≡ Some y → (rest ≡ []) × (x ≡ y)
 alone_ok x y [] h = (refl, cc)

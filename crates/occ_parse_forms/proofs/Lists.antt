@@ -126,12 +126,6 @@ each_back P read back (g ∷ gs) [] h = absurd h
 each_back P read back (g ∷ gs) (y ∷ ys) h =
     ap (λ o. then_read o (λ x. in_front (x ∷ []) (each read gs))) (back g y h.0) ∙ ap (in_front (y ∷ [])) (each_back P read back gs ys h.1)
 
-pub pairs_free : {A : Type 0} (at : Sign) (P : List Symbol → A → Type 0) → ((g : List Symbol) (y : A) → P g y → Free at g) → (gs : List (List Symbol)) (ys : List A) → Pairs P gs ys → AllFree at gs
-pairs_free at P free [] [] h = tt
-pairs_free at P free [] (y ∷ ys) h = tt
-pairs_free at P free (g ∷ gs) [] h = absurd h
-pairs_free at P free (g ∷ gs) (y ∷ ys) h = (free g y h.0, pairs_free at P free gs ys h.1)
-
 -- the groups that a list is spelled by
 pub list_is : {A : Type 0} (spell : A → List Symbol) (xs : List A) (g : List Symbol) (gs : List (List Symbol)) → g ∷ gs ≡ map spell xs → joined g gs ≡ list_words spell xs
 list_is spell [] g gs e = absurd cc

@@ -3,20 +3,11 @@ use Rattle.std.proofs.Common.{◌≡◌, ℕ, zero, suc, ◌+◌, ◌-◌, ◌<�
 use Rattle.std.specs.List.{AllByRecursion}
 use Rattle.std.proofs.lemmas.List.{drop_more, drop_all, append-nil}
 use Rattle.occ_base.specs.declared.names.Name.{Name}
-use Rattle.occ_parse_forms.specs.declared.form.Item.{Item}
-use Rattle.occ_parse_forms.specs.declared.phrase.Index.{Index}
-use Rattle.occ_parse_rules.specs.Places.{Indices, index_at, place_with, element_at, elements_from}
-use Rattle.occ_parse_rules.specs.Unrolled.{Numbers, number_of, item_number}
+use Rattle.occ_parse_rules.specs.Places.{elements_from}
 use Rattle.occ_parse_unroll.specs.Elements.{with_places}
 use Rattle.occ_parse_unroll.specs.Numbers.{number_in}
 use Rattle.occ_parse_unroll.proofs.Known.{all_at_or}
 use Rattle.occ_parse_part.specs.Elements.{Elements, element_count, row_in, with_arrays, with_arrays_in, with_row}
-
--- the number of an item with an index
-pub item_at : (N : Numbers) (ρ : Indices) (item : Item) (index : Index) (k : ℕ) → item.index ≡ Some index → Some k ≡ index_at ρ index
-    → N item.name.0 (Some k) ≡ item_number N ρ item
-item_at N ρ item index k e d =
-    sym (ap (λ o. number_of N (place_with ρ item.name.0 o)) e ∙ ap (λ p. number_of N (element_at item.name.0 p)) (sym d))
 
 pub count_is : element_count ≡ 256
 unfolding element_count

@@ -77,10 +77,6 @@ module _ (P : ℕ → Type 0) where
   numbers_all [] h = tt
   numbers_all (x ∷ xs) h = (h.0, numbers_all xs h.1)
 
-  names_all : (xs : List Name) → AllByRecursion P (numbers_of xs) → AllByRecursion (λ (x : Name). P x.0) xs
-  names_all [] h = tt
-  names_all (x ∷ xs) h = (h.0, names_all xs h.1)
-
   -- ---- the places that lines declare
 
   abbrev At : ℕ → Option ℕ → Type 0

@@ -1,5 +1,5 @@
 -- Names that are kept in maps.
-use Rattle.std.proofs.Common.{◌≡◌, ℕ, zero, suc, ◌+◌, ◌<◌, ◌≤◌, ◌==◌, Bool, true, false, cond, List, [], ◌∷◌, length, get_or, drop, Option, Some, unwrap_or, refl, sym, ap, ◌∙◌, arith}
+use Rattle.std.proofs.Common.{◌≡◌, ℕ, ◌+◌, ◌<◌, ◌≤◌, ◌==◌, Bool, true, false, cond, List, [], length, get_or, drop, Option, Some, unwrap_or, refl, sym, ap, ◌∙◌}
 use mathlib.Core.Path.{fun_ext}
 use Rattle.std.proofs.lemmas.List.{drop_more, drop_all}
 use Rattle.std.specs.Map.{lookup}
@@ -30,11 +30,6 @@ named_more x row i name z old new h e p =
 
 pub named_done : (x : Name) (row : List Name) (i : ℕ) (now : ℕ → Declared) → length row ≤ i → named_row x i (drop i row) now ≡ now
 named_done x row i now h = ap (λ xs. named_row x i xs now) (drop_all i row h)
-
-get_or_beyond : (row : List Name) (k : ℕ) → length row ≤ k → get_or row k (record { 0 = 0 }) ≡ record { 0 = 0 }
-get_or_beyond [] k h = refl
-get_or_beyond (n ∷ row) zero h = absurd (omega (arith, h))
-get_or_beyond (n ∷ row) (suc k) h = get_or_beyond row k (omega (arith, h))
 
 -- an array more
 module _ {V : Type 0} (items : V → List Name) where

@@ -11,7 +11,7 @@ use Rattle.occ_parse_forms.specs.declared.form.Declared.{Declared}
 use Rattle.occ_parse_forms.specs.declared.form.Declared.TheVariants as declared
 use Rattle.occ_parse_forms.specs.declared.form.Param.{Param}
 use Rattle.occ_parse_rules.specs.declared.sort.Sort.{Sort}
-use Rattle.occ_parse_rules.specs.Judging.{or_else, first_fault}
+use Rattle.occ_parse_rules.specs.Judging.{first_fault}
 use Rattle.occ_parse_rules.specs.Names.{is_there, name_fault, redeclares_some}
 use Rattle.occ_parse_rules.specs.Places.{Place, Sorts, places, param_entries, sort_of, sort_at}
 use Rattle.occ_parse_rules.specs.Types.{type_fault}
@@ -19,24 +19,15 @@ use Rattle.occ_parse_rules.specs.Unrolled.{named, params_named}
 use Rattle.occ_parse_sound.specs.Agreement.{AreIn, Has, IsOneToOne}
 use Rattle.occ_parse_sound.specs.Programs.{KeepsTypes}
 use Rattle.occ_parse_sound.specs.Sound.{has_width}
+use Rattle.occ_parse_sound.proofs.Facts.{or_else_none}
 use Rattle.occ_parse_sound.proofs.Params.{program_kept}
-use Rattle.occ_parse_reading.specs.declared.fault.ParseFault.{ParseFault}
+use Rattle.occ_parse.proofs.Faultless.{as_fault_none}
 use Rattle.occ_parse_reading.specs.declared.fault.ParseFault.TheVariants as fault
 use Rattle.occ_parse_reading.specs.Drafts.{as_fault, name_fault_on, type_fault_on}
 use Rattle.occ_parse_part.specs.Elements.{Elements, numbers}
 use Rattle.occ_parse_part.proofs.Equal.{eqb-refl}
 use Rattle.occ_parse_part.specs.Parts.{Part, IsGood, IsNumbered, is_element, is_itself, knows}
 use Rattle.occ_parse_part.specs.Resolving.{part_fault, part_process, scope_of, scope_params}
-
--- ---- no faults
-
-or_else_none : {F : Type 0} (a b : Option F) → or_else a b ≡ None → (a ≡ None) × (b ≡ None)
-or_else_none None b h = (refl, h)
-or_else_none (Some x) b h = absurd cc
-
-as_fault_none : {F : Type 0} (on : ℕ → F → ParseFault) (o : Option (ℕ × F)) → as_fault on o ≡ None → o ≡ None
-as_fault_none on None h = refl
-as_fault_none on (Some found) h = absurd cc
 
 -- ---- what a name is
 

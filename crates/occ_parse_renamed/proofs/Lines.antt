@@ -20,7 +20,9 @@ use Rattle.occ_parse_forms.specs.Shape as line
 use Rattle.occ_parse_renamed.specs.Renamed.{all_declared_renamed, all_said_renamed, declared_renamed, forest_renamed, item_renamed, items_renamed, kinds_renamed, params_renamed, said_renamed, shape_renamed, sorts_renamed, times_renamed, waits_renamed}
 use Rattle.occ_parse_renamed.specs.Standing.{IsNumbered, IsNumberedSo, IsOneForOne}
 use Rattle.occ_parse_renamed.proofs.Elements.{places_of_renamed}
-use Rattle.occ_parse_renamed.proofs.Here.{AreHere, all_taken, behind_is, here_back, here_front, items_here, next, not_counter, some_value, this, under}
+use Rattle.occ_parse_sound.proofs.Declared.{all_taken, not_counter}
+use Rattle.occ_parse_sound.proofs.Kept.{behind_is, here as this, next, some_value, under}
+use Rattle.occ_parse_renamed.proofs.Here.{AreHere, here_back, here_front, items_here}
 use Rattle.occ_parse_renamed.proofs.Scopes.{HaveSame, channel_same, declared_scope, found_renamed, index_same, item_place, own_same, params_scope, sort_here_same, variable_same}
 use Rattle.occ_parse_rules.specs.declared.sort.Sort.{Sort}
 use Rattle.occ_parse_rules.specs.declared.sort.Sort.TheVariants as sort

@@ -2,8 +2,7 @@
 use Rattle.std.specs.Prelude.{ℕ, ◌≡◌, ◌==◌, Bool, true, false, ◌||◌, if◌then◌else◌, List, [], ◌∷◌}
 use Rattle.std.specs.List.{list_any}
 use Rattle.std.proofs.Common.{refl, sym, subst, ◌∙◌, inl, inr}
-use Rattle.std.proofs.lemmas.Bool.{eqb-true, eq-eqb, ne_eqb, or_cases, or_left, or_right}
-use Rattle.std.proofs.lemmas.Bool.Decides.{eqb_tells}
+use Rattle.std.proofs.lemmas.Bool.{eqb-true, eq-eqb, or_cases, or_left, or_right}
 use Rattle.occ_parse_scopes.specs.Taken.{is_among}
 
 pub true_not_false : {B : Type 0} → true ≡ false → B
@@ -17,9 +16,6 @@ clash b is_true is_false = true_not_false (sym is_true ∙ is_false)
 
 pub at_itself : (x : ℕ) → (x == x) ≡ true
 at_itself x = eq-eqb x x refl
-
-pub same_turned : (x y : ℕ) → (x == y) ≡ (y == x)
-same_turned x y = elim (eqb_tells x y) [ inl k ↦ k.0 ∙ sym (eq-eqb y x (sym k.1)) | inr k ↦ k.0 ∙ sym (ne_eqb y x (λ e. k.1 (sym e))) ]
 
 pub if_true : {A : Type 0} (b : Bool) (x y : A) → b ≡ true → (if b then x else y) ≡ x
 if_true true x y h = refl

@@ -174,11 +174,6 @@ pub for_some_and : (Γ : Sorts) (b : Bool) (f : Indices → Bool) → for_some �
 for_some_and Γ true f = refl
 for_some_and Γ false f = for_some_still Γ false
 
--- one of a list of tests
-pub for_some_any : {A : Type 0} (Γ : Sorts) (f : A → Indices → Bool) (xs : List A) → for_some Γ (λ ρ. list_any (λ x. f x ρ) xs) ≡ list_any (λ x. for_some Γ (f x)) xs
-for_some_any Γ f [] = for_some_still Γ false
-for_some_any Γ f (x ∷ xs) = for_some_or Γ (f x) (λ ρ. list_any (λ y. f y ρ) xs) ∙ ap (λ b. for_some Γ (f x) || b) (for_some_any Γ f xs)
-
 -- ---- the values of a replicator in scope
 
 counter_step : (d : Declared) (s : Sort) (j b n : ℕ) (o : Option Sort) (vs : List ℕ) → (o ≡ Some (sort.Counter b n) → vs ≡ values_of b n) → (if declares d j None then Some s else o) ≡ Some (sort.Counter b n) → counted d s j vs ≡ values_of b n

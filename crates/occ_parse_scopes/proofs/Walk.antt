@@ -1,5 +1,5 @@
 -- Walking from entry to entry of one name finds what a walk along all entries finds.
-use Rattle.std.specs.Prelude.{is_some, if◌then◌else◌, nat_lt, ℕ, zero, suc, ◌≡◌, ◌==◌, ◌+◌, ◌-◌, ◌<◌, ◌≤◌, Bool, true, false, ◌&&◌, ◌||◌, List, [], ◌∷◌, ◌++◌, Option, Some, None, length, take, drop, get_or}
+use Rattle.std.specs.Prelude.{is_some, if◌then◌else◌, nat_lt, ℕ, zero, suc, ◌≡◌, ◌==◌, ◌+◌, ◌-◌, ◌<◌, ◌≤◌, Bool, true, false, ◌&&◌, ◌||◌, List, [], ◌∷◌, Option, Some, None, length, take, drop, get_or}
 use Rattle.std.specs.List.{list_any}
 use Rattle.std.proofs.Common.{replicate, refl, sym, ap, subst, ◌∙◌, inl, inr, reverse, arith}
 use Rattle.std.proofs.lemmas.Bool.{cases_lt, eqb-true, cases_Bool}
@@ -168,12 +168,6 @@ test_passed ls j k t d h w f =
     ap (λ q. some_entry t (entries q)) (one_more ls j k d h w) ∙ ap (λ b. b || some_entry t (entries (upto ls j))) f
 
 -- ---- the table
-
-pub get_or_more : (xs : List ℕ) (x : ℕ) → get_or (xs ++ 0 ∷ []) x 0 ≡ get_or xs x 0
-get_or_more [] zero = refl
-get_or_more [] (suc x) = refl
-get_or_more (y ∷ xs) zero = refl
-get_or_more (y ∷ xs) (suc x) = get_or_more xs x
 
 -- the name of an entry is within the table
 pub table_within : (newest : List ℕ) (l : Linked) (ls : List Linked) → IsTable newest (l ∷ ls) → name_of l.entry.declared < length newest

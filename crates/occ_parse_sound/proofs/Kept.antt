@@ -34,28 +34,28 @@ use Rattle.occ_parse_sound.proofs.Lines.{condition_kept, all_here, pairs_are_kep
 
 -- ---- faults of lines and of the lines below and behind them
 
-split : {F : Type 0} (judge : Sorts → Shape → Option F) (outer Γ : Sorts) (n : ℕ) (s : Shape) (below rest : Forest) → first_fault judge outer Γ (and_line n s below rest) ≡ None
+pub split : {F : Type 0} (judge : Sorts → Shape → Option F) (outer Γ : Sorts) (n : ℕ) (s : Shape) (below rest : Forest) → first_fault judge outer Γ (and_line n s below rest) ≡ None
     → (judge Γ s ≡ None) × (first_fault judge (inside Γ s) (inside Γ s) below ≡ None) × (first_fault judge outer (behind outer Γ s) rest ≡ None)
 split judge outer Γ n s below rest h =
     let one = or_else_none (on_line n (judge Γ s)) (or_else (first_fault judge (inside Γ s) (inside Γ s) below) (first_fault judge outer (behind outer Γ s) rest)) h in
     let two = or_else_none (first_fault judge (inside Γ s) (inside Γ s) below) (first_fault judge outer (behind outer Γ s) rest) one.1 in
     (on_line_none n (judge Γ s) one.0, two.0, two.1)
 
-here : (outer Γ : Sorts) (n : ℕ) (s : Shape) (below rest : Forest) → AreInOrder outer Γ (and_line n s below rest) → IsInOrder Γ s
+pub here : (outer Γ : Sorts) (n : ℕ) (s : Shape) (below rest : Forest) → AreInOrder outer Γ (and_line n s below rest) → IsInOrder Γ s
 here outer Γ n s below rest h = record {
   names = (split name_fault outer Γ n s below rest h.names).0;
   types = (split type_fault outer Γ n s below rest h.types).0;
   directions = (split direction_fault outer Γ n s below rest h.directions).0;
 }
 
-under : (outer Γ : Sorts) (n : ℕ) (s : Shape) (below rest : Forest) → AreInOrder outer Γ (and_line n s below rest) → AreInOrder (inside Γ s) (inside Γ s) below
+pub under : (outer Γ : Sorts) (n : ℕ) (s : Shape) (below rest : Forest) → AreInOrder outer Γ (and_line n s below rest) → AreInOrder (inside Γ s) (inside Γ s) below
 under outer Γ n s below rest h = record {
   names = (split name_fault outer Γ n s below rest h.names).1;
   types = (split type_fault outer Γ n s below rest h.types).1;
   directions = (split direction_fault outer Γ n s below rest h.directions).1;
 }
 
-next : (outer Γ : Sorts) (n : ℕ) (s : Shape) (below rest : Forest) → AreInOrder outer Γ (and_line n s below rest) → AreInOrder outer (behind outer Γ s) rest
+pub next : (outer Γ : Sorts) (n : ℕ) (s : Shape) (below rest : Forest) → AreInOrder outer Γ (and_line n s below rest) → AreInOrder outer (behind outer Γ s) rest
 next outer Γ n s below rest h = record {
   names = (split name_fault outer Γ n s below rest h.names).2;
   types = (split type_fault outer Γ n s below rest h.types).2;
@@ -101,7 +101,7 @@ first_kept E (and_tree p ps) h = (and_parts (types_kept p E) (all_types_kept ps 
 
 -- ---- copies
 
-some_value : (v b n : ℕ) → list_any (λ u. v == u) (numbers_from b n) ≡ true → list_any (λ u. v == u) (values_of b n) ≡ true
+pub some_value : (v b n : ℕ) → list_any (λ u. v == u) (numbers_from b n) ≡ true → list_any (λ u. v == u) (values_of b n) ≡ true
 some_value v b zero h = false_not_true h
 some_value v b (suc n) h = h
 

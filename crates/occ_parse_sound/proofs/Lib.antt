@@ -1,9 +1,9 @@
-mod Facts
-mod Taken
+pub mod Facts
+pub mod Taken
 mod Typed
-mod Declared
+pub mod Declared
 mod Lines
-mod Kept
+pub mod Kept
 pub mod Params
 pub mod Small
 pub mod Forms

@@ -1,6 +1,6 @@
 -- Names of declarations, one by one.
-use Rattle.std.proofs.Common.{◌≡◌, ℕ, ◌+◌, ◌-◌, ◌<◌, ◌≤◌, List, [], ◌∷◌, ◌++◌, length, get_or, drop, map, sym, ap, ◌∙◌, arith, append_assoc, Some, suc}
-use Rattle.std.proofs.lemmas.List.{drop_more, drop_all, append-nil}
+use Rattle.std.proofs.Common.{◌≡◌, ℕ, ◌+◌, ◌-◌, ◌<◌, List, [], ◌∷◌, ◌++◌, length, get_or, drop, map, sym, ap, ◌∙◌, arith, append_assoc, Some, suc}
+use Rattle.std.proofs.lemmas.List.{drop_more, append-nil}
 use Rattle.occ_base.specs.declared.names.Name.{Name}
 use Rattle.occ_syntax.specs.declared.scope.Kind.{Kind}
 use Rattle.occ_parse_forms.specs.declared.form.Declared.{Declared}
@@ -22,9 +22,6 @@ one_element N kind x k n m name w w' e h p =
     ∙ append_assoc w ((name, kind) ∷ []) (elements_named N kind x (k + 1) m)
     ∙ ap (λ a. w ++ (record { 0 = a }, kind) ∷ elements_named N kind x (k + 1) m) h
     ∙ sym (ap (λ c. w ++ elements_named N kind x k c) two)
-
-pub all_elements : (N : Numbers) (kind : Kind) (array : Name) (count : ℕ) (w : List (Name × Kind)) → w ++ elements_named N kind array.0 0 (count - 0) ≡ w ++ named N kind (declared.Array array count)
-all_elements N kind array count w = ap (λ n. w ++ elements_named N kind array.0 0 n) (omega arith)
 
 pub no_elements : (N : Numbers) (kind : Kind) (x count : ℕ) (w : List (Name × Kind)) → w ++ elements_named N kind x count (count - count) ≡ w
 no_elements N kind x count w =
@@ -67,6 +64,3 @@ one_param_scope Γ Δ ps i z s h e p =
     ap (λ Θ. declared_in Θ (param_entries (drop (i + 1) ps))) p
     ∙ ap (λ r. declared_in (record { declared = (get_or ps i z).declared; sort = r } ∷ Γ) (param_entries (drop (i + 1) ps))) e
     ∙ sym (ap (λ xs. declared_in Γ (param_entries xs)) (drop_more ps i z h))
-
-pub params_done : (N : Numbers) (ps : List Param) (i : ℕ) (w : List (Name × Kind)) → length ps ≤ i → w ++ params_named N (drop i ps) ≡ w
-params_done N ps i w h = ap (λ xs. w ++ params_named N xs) (drop_all i ps h) ∙ append-nil w

@@ -1,5 +1,5 @@
 -- What is known in a table is known in each table that goes on from it.
-use Rattle.std.proofs.Common.{◌≡◌, ℕ, ◌<◌, ◌≤◌, List, [], ◌∷◌, length, get_or, sym, subst, arith, Option, Some, None, zero, suc}
+use Rattle.std.proofs.Common.{ℕ, ◌<◌, ◌≤◌, List, [], ◌∷◌, length, get_or, arith, Option, Some, None, zero, suc}
 use Rattle.std.specs.List.{AllByRecursion}
 use Rattle.occ_parse_forms.specs.declared.form.Declared.{Declared}
 use Rattle.occ_parse_forms.specs.declared.form.Declared.TheVariants as declared
@@ -9,11 +9,6 @@ use Rattle.occ_parse_forms.specs.Shape.{Said, Waiting, Shape}
 use Rattle.occ_parse_forms.specs.Shape as line
 use Rattle.occ_parse_rules.specs.Forest.{Forest, no_line, and_line}
 use Rattle.occ_parse_unroll.specs.Known.{IsKnownElement, IsKnownItem, IsKnownDeclared, IsKnownSaid, IsKnownWaiting, IsKnownLine, AreKnownLines}
-
-pub all_at : {X : Type 0} (P : X → Type 0) (xs : List X) (i : ℕ) (x : X) → AllByRecursion P xs → i < length xs → x ≡ get_or xs i x → P x
-all_at P [] i x h lt e = absurd (omega arith)
-all_at P (y ∷ ys) zero x h lt e = subst P (sym e) h.0
-all_at P (y ∷ ys) (suc i) x h lt e = all_at P ys i x h.1 (omega (arith, lt)) e
 
 pub all_at_or : {X : Type 0} (P : X → Type 0) (xs : List X) (i : ℕ) (z : X) → AllByRecursion P xs → i < length xs → P (get_or xs i z)
 all_at_or P [] i z h lt = absurd (omega arith)

@@ -1,10 +1,6 @@
 -- What a call's result says, said in another way.
-use Rattle.std.proofs.Common.{Result, Ok, Err, IfOk, OnOk}
+use Rattle.std.proofs.Common.{Result, Ok, Err, OnOk}
 
 pub on_ok : {A E : Type 0} (r : Result A E) (P Q : Type 0) → (P → Q) → OnOk r P → OnOk r Q
 on_ok (Ok x) P Q f h = f h
 on_ok (Err e) P Q f h = tt
-
-pub if_ok : {A E : Type 0} (r : Result A E) (P Q : A → Type 0) → ((x : A) → P x → Q x) → IfOk r P → IfOk r Q
-if_ok (Ok x) P Q f h = f x h
-if_ok (Err e) P Q f h = tt

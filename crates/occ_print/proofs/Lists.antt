@@ -20,11 +20,6 @@ pub all-back : {X : Type 0} (P : X → Type 0) (xs ys : List X) → AllByRecursi
 all-back P [] ys h = h
 all-back P (x ∷ xs) ys h = all-back P xs ys h.1
 
-pub all_at : {X : Type 0} (P : X → Type 0) (xs : List X) (i : ℕ) (d : X) → AllByRecursion P xs → i < length xs → P (get_or xs i d)
-all_at P [] i d h k = absurd (omega (arith, k))
-all_at P (x ∷ xs) zero d h k = h.0
-all_at P (x ∷ xs) (suc i) d h k = all_at P xs i d h.1 (omega (arith, k))
-
 abbrev pub is_none : {X : Type 0} → List X → Bool
 is_none [] = true
 is_none (x ∷ xs) = false

@@ -1,6 +1,6 @@
 -- The lines of a part, one after another: what is printed, and that its names are known.
 use Rattle.std.proofs.Common.{◌≡◌, ℕ, ◌+◌, ◌<◌, List, [], ◌∷◌, ◌++◌, length, get_or, drop, refl, ap, sym, ◌∙◌, subst, append_assoc}
-use Rattle.std.proofs.lemmas.List.{append-nil, at_drop_more}
+use Rattle.std.proofs.lemmas.List.{at_drop_more}
 use Rattle.occ_syntax.specs.declared.expr.Expr.{Expr}
 use Rattle.occ_syntax.specs.declared.expr.Guard.{Guard}
 use Rattle.occ_syntax.specs.declared.proc.Proc.{Proc}
@@ -47,10 +47,6 @@ pub line_off : (names : List (List ℕ)) (all : List TextLine) (l : TextLine) (b
     → all ≡ l ∷ back → t1 ≡ t0 ++ printed_line (printed names l) → t1 ++ lines_text names back ≡ t0 ++ lines_text names all
 line_off names all l back t0 t1 e f =
     ap (λ t. t ++ lines_text names back) f ∙ append_assoc t0 (printed_line (printed names l)) (lines_text names back) ∙ ap (λ ls. t0 ++ lines_text names ls) (sym e)
-
--- nothing is left
-pub nothing_left : (names : List (List ℕ)) (back : List TextLine) (t0 t1 : List ℕ) → back ≡ [] → t1 ++ lines_text names back ≡ t0 → t1 ≡ t0
-nothing_left names back t0 t1 e f = sym (append-nil t1) ∙ ap (λ ls. t1 ++ lines_text names ls) (sym e) ∙ f
 
 -- the names on the first line, on the lines in front, and on those behind
 pub first_known : (names : List (List ℕ)) (all : List TextLine) (l : TextLine) (back : List TextLine) → all ≡ l ∷ back → LinesAreKnown names all

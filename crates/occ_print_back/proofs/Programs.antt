@@ -165,10 +165,6 @@ or-right false b h = h
 not_closing : (r : Laid) → 1 ≤ r.level → closes r ≡ false
 not_closing r h = ap (λ b. b && is_close (kind_of r.shape)) (ne_eqb r.level 0 (λ e. omega (arith, h, e)))
 
-none_closes : (rows : List Laid) → AllByRecursion (λ (r : Laid). 1 ≤ r.level) rows → list_any closes rows ≡ false
-none_closes [] h = refl
-none_closes (r ∷ rows) h = ap (λ b. b || list_any closes rows) (not_closing r h.0) ∙ none_closes rows h.1
-
 pushed_none : (rows before : List Laid) → AllByRecursion (λ (r : Laid). 1 ≤ r.level) rows → list_any closes before ≡ false → list_any closes (pushed rows before) ≡ false
 pushed_none [] before h k = k
 pushed_none (r ∷ rows) before h k = pushed_none rows (r ∷ before) h.1 (ap (λ b. b || list_any closes before) (not_closing r h.0) ∙ k)

@@ -27,7 +27,7 @@ use Rattle.occ_prove_joined.specs.Joined.{IsJoined}
 use Rattle.occ_prove_run.specs.declared.proof.Proof.{Proof}
 use Rattle.occ_prove_run.specs.Answers.{Answers, AnswersNames}
 use Rattle.occ_prove_run.specs.Proofs.{IsProved, Proves, as_same, by_laws, long_first, long_second, proved, status_of_proof, text_of_proof, too_wide, unfinished_first, unfinished_second}
-use Rattle.occ_prove_run.specs.Words.{file_words}
+use Rattle.occ_tool_words.specs.Pairs.{file_pair}
 use Rattle.occ_script.specs.declared.fault.ScriptFault.{ScriptFault}
 use Rattle.occ_script.specs.declared.script.Script.{Script}
 use Rattle.occ_script.specs.Refusals.{IsScriptFault}
@@ -237,7 +237,7 @@ proof_printed laws one two proof text narrow z e other (by_laws answer between n
 -- ---- the whole
 
 pub proved_joined : OneLaw → PrintedLaw → Laws → (files later : Files) (words again : Table) (names : List ℕ × List ℕ) (script text : List ℕ)
-    → file_words words ≡ Some names → Answers files words 0 text → text ≢ codes "SAME\n" → IsPrintedNarrow (files names.0) → length text ≤ most_script_bytes
+    → file_pair words ≡ Some names → Answers files words 0 text → text ≢ codes "SAME\n" → IsPrintedNarrow (files names.0) → length text ≤ most_script_bytes
     → job_of again ≡ Some (replay script) → later script ≡ Some text → IsJoined later again (files names.0) (files names.1) text
 proved_joined one law laws files later words again names script text w a other narrow short j e =
     let P : Option (List ℕ × List ℕ) → Type 0 = λ found. AnswersNames files found a.proof in

@@ -4,7 +4,7 @@
 ghost use Rattle.std.specs.Prelude.{ℕ, ◌≡◌, ◌≢◌, ◌≤◌, List, Some, codes, length};
 ghost use Rattle.occ_prove_joined.specs.Joined.{IsJoined};
 ghost use Rattle.occ_prove_run.specs.Answers.{Answers};
-ghost use Rattle.occ_prove_run.specs.Words.{file_words};
+ghost use Rattle.occ_tool_words.specs.Pairs.{file_pair};
 ghost use Rattle.occ_tool_joined.specs.Joined.{IsPrintedNarrow};
 ghost use Rattle.occ_tool_run.specs.Files.{Files, most_script_bytes};
 ghost use Rattle.occ_tool_words.specs.Words.{job_of, replay};
@@ -23,7 +23,7 @@ use occ_script_table::programs_leave_places;
 /// 4,096 tokens.
 pub fn proved_scripts_are_joined()
     ensures { (files later : Files) (words again : List (List ℕ)) (names : List ℕ × List ℕ) (script text : List ℕ)
-        → file_words words ≡ Some names → Answers files words 0 text → text ≢ codes "SAME\n"
+        → file_pair words ≡ Some names → Answers files words 0 text → text ≢ codes "SAME\n"
         → IsPrintedNarrow (files names.0) → length text ≤ most_script_bytes
         → job_of again ≡ Some (replay script) → later script ≡ Some text
         → IsJoined later again (files names.0) (files names.1) text }

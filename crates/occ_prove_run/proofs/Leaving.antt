@@ -4,12 +4,12 @@ use Rattle.occ_desk.specs.Desk.{with_more, IsCutShort}
 use Rattle.occ_prove_run.specs.declared.proof.Proof.{Proof}
 use Rattle.occ_prove_run.specs.Answers.{Answers, AnswersNames, Ran, answered, cut_short}
 use Rattle.occ_prove_run.specs.Proofs.{Proves, status_of_proof, text_of_proof}
-use Rattle.occ_prove_run.specs.Words.{file_words}
+use Rattle.occ_tool_words.specs.Pairs.{file_pair}
 use Rattle.occ_tool_run.specs.declared.load.Loaded.{Loaded}
 use Rattle.occ_tool_run.specs.Files.{Files, IsLoaded, most_bytes}
 
 pub answers_with : (told : Option Files) (words : List (List ℕ)) (proof : Proof) (status : ℕ) (text : List ℕ)
-    → IfSome told (λ files. AnswersNames files (file_words words) proof) → status ≡ status_of_proof proof → text ≡ text_of_proof proof
+    → IfSome told (λ files. AnswersNames files (file_pair words) proof) → status ≡ status_of_proof proof → text ≡ text_of_proof proof
     → IfSome told (λ files. Answers files words status text)
 answers_with None words proof status text a s t = tt
 answers_with (Some files) words proof status text a s t = record { proof = proof; is = a; status_is = s; text_is = t }

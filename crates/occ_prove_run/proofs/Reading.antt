@@ -1,5 +1,5 @@
 -- Two programs that were read one behind the other.
-use Rattle.std.proofs.Common.{◌≡◌, ◌∙◌, ℕ, Bool, true, false, List, [], Option, Some, None, Result, Ok, Err, IfOk, IfSome, refl, sym, subst}
+use Rattle.std.proofs.Common.{◌≡◌, ◌∙◌, ℕ, Bool, true, false, List, [], Option, Some, None, Result, Ok, Err, IfOk, refl, sym, subst}
 use Rattle.std.specs.Prelude.{◌≢◌, IfNone}
 use Rattle.std.proofs.lemmas.Bool.{false≢true}
 use Rattle.occ_base.specs.declared.memory.Memory.{Memory}
@@ -60,11 +60,6 @@ pair_of law one two pair between first second header =
 
 abbrev Found : Type 0
 Found = Result (Option Pair) Memory
-
-pub no_pair : (r : Found) (one two : Loaded) → IfOk r (λ found. found ≡ None) → IfOk r (λ found. IfSome found (IsPairOf one two))
-no_pair (Err m) one two h = tt
-no_pair (Ok None) one two h = tt
-no_pair (Ok (Some pair)) one two h = absurd cc
 
 -- what is said of a refusal
 told : (names : Table) (place : Side) (f : Refusal) → f ≢ refusal.Memory → (a : Answer) × IsRefusalAnswer names place f a

@@ -4,7 +4,7 @@ use Rattle.occ_desk.specs.Desk.{with_more, IsCutShort}
 use Rattle.occ_prove_run.specs.declared.proof.Proof.{Proof}
 use Rattle.occ_prove_run.specs.declared.proof.Proof.TheVariants.{Usage, Told, Long, Unfinished, Wide}
 use Rattle.occ_prove_run.specs.Proofs.{Proves, status_of_proof, text_of_proof}
-use Rattle.occ_prove_run.specs.Words.{file_words}
+use Rattle.occ_tool_words.specs.Pairs.{file_pair}
 use Rattle.occ_tool_run.specs.declared.answer.Answer.TheVariants as answer
 use Rattle.occ_tool_run.specs.Files.{Files}
 use Rattle.occ_tool_run.specs.Texts.{IsPrintable}
@@ -17,7 +17,7 @@ AnswersNames files (Some names) proof = Proves (files names.0) (files names.1) p
 -- The words and the files have an answer with this status and this text.
 pub record Answers (files : Files) (words : List (List ℕ)) (status : ℕ) (text : List ℕ) : Type 0 where
   pub proof : Proof
-  pub is : AnswersNames files (file_words words) proof
+  pub is : AnswersNames files (file_pair words) proof
   pub status_is : status ≡ status_of_proof proof
   pub text_is : text ≡ text_of_proof proof
 

@@ -1,5 +1,5 @@
 -- The paths of steps.
-use Rattle.occ_derive.specs.Derived.{IsShortPath}
+use Rattle.occ_script_write_back.specs.Said.{IsShortPath}
 use Rattle.occ_script_write.specs.declared.writing.Done.{Done}
 
 -- the numbers of a step's path have 32 bits

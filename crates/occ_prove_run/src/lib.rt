@@ -7,6 +7,5 @@ mod path;
 mod proof;
 mod proving;
 mod top;
-mod word;
 
 pub use top::prove;

@@ -2,15 +2,15 @@
 
 ghost use Rattle.std.specs.Prelude.{◌≡◌, ◌≢◌, ◌≤◌, ◌<◌, ◌↔◌, ◌⊎◌, map, string_bytes, IfOk, IfSome, None, Err};
 ghost use Rattle.occ_prove_run.specs.Answers.{Answers, AnswersNames, IsSayable, Ran};
-ghost use Rattle.occ_prove_run.specs.Words.{file_words as words_of, names_in};
 ghost use Rattle.occ_tool_run.specs.Files.{AsksFor, CountsStop};
 ghost use Rattle.occ_tool_run.specs.Ran.{Asked};
+ghost use Rattle.occ_tool_words.specs.Pairs.{file_pair as words_of, names_in};
 
 use crate::proof::{Proof, status, text};
 use crate::proving::proof_of;
-use crate::word::file_words;
 use occ_desk::{Desk, send};
 use occ_tool_run::load::{MOST_BYTES, Stop, load_both};
+use occ_tool_words::file_pair;
 use std::alloc::Global;
 
 /// Runs the command: the words of a command line, the program's own name first, over a desk, to which the script is written that
@@ -101,7 +101,7 @@ fn find_proof<D: Desk>(alloc: Global, words: &[String], desk: &mut D) -> Result<
     ensures written { D.written desk.new ≡ D.written desk.old }
     ensures write_faults { D.write_faults desk.new ≡ D.write_faults desk.old }
 {
-    match file_words(words) {
+    match file_pair(words) {
         Some((first, second)) => prove_files(alloc, first, second, desk),
         None => Ok(Proof::Usage),
     }

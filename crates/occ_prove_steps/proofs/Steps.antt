@@ -36,12 +36,6 @@ pub record IsReturning (S : List (Name × Kind)) (p q : Tree) (all left : List M
   pub led : Moves S here left q
   pub undone : (rest : List Move) → AreUndone here left rest → AreUndone p all (back ++ rest)
 
-pub sets_out : (S : List (Name × Kind)) (p q here : Tree) (all back : List Move) → here ≡ p → back ≡ [] → Moves S p all q → IsReturning S p q all all here back
-sets_out S p q here all back e f m = record {
-  led = subst (λ z. Moves S z all q) (sym e) m;
-  undone = λ rest u. subst (λ bs. AreUndone p all (bs ++ rest)) (sym f) (subst (λ z. AreUndone z all rest) e u);
-}
-
 pub goes_back : (S : List (Name × Kind)) (p q here next : Tree) (all left back now : List Move) (move b : Move) → next ≡ put move.path here move.part → now ≡ back ++ b ∷ [] → IsUndone here move b
     → IsReturning S p q all (move ∷ left) here back → IsReturning S p q all left next now
 goes_back S p q here next all left back now move b e f u r = record {
@@ -52,11 +46,6 @@ goes_back S p q here next all left back now move b e f u r = record {
 
 pub arrives : (S : List (Name × Kind)) (p q here : Tree) (all back : List Move) → IsReturning S p q all [] here back → AreUndone p all back
 arrives S p q here all back r = subst (AreUndone p all) (append-nil back) (r.undone [] tt)
-
--- there is a part at the path of the next move
-pub next_there : (S : List (Name × Kind)) (p q here : Tree) (all left back : List Move) (move : Move) → IsReturning S p q all (move ∷ left) here back
-    → (old : Tree) × (part_at move.path here ≡ Some old)
-next_there S p q here all left back move r = let m = (first_move S here q move left r.led).0 in (m.old, m.there)
 
 -- ---- names
 

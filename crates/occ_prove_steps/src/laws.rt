@@ -12,7 +12,8 @@ ghost use Rattle.occ_syntax.specs.declared.scope.Kind.{Kind};
 
 /// Moves from where others lead are, behind these, moves to where they lead.
 pub fn moves_go_on()
-    ensures { (S : List (Name × Kind)) (p q r : Tree) (moves more : List Move) → Moves S p moves q → Moves S q more r → Moves S p (moves ++ more) r }
+    ensures { (S : List (Name × Kind)) (p q r : Tree) (moves more : List Move) → Moves S p moves q → Moves S q more r
+        → Moves S p (moves ++ more) r }
 {}
 
 /// Moves lead back: the moves that undo them, the last one first, lead to the process from which they began, which keeps all rules.

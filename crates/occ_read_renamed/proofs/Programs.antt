@@ -1,5 +1,5 @@
 -- A text that reads as a program with two tables reads as one program under other numbers of names.
-use Rattle.std.proofs.Common.{◌≡◌, ℕ, true, false, List, [], ◌∷◌, ◌++◌, length, replicate, Option, Some, None, refl, sym, ap, ap₂, subst, ◌∙◌, arith}
+use Rattle.std.proofs.Common.{◌≡◌, ℕ, true, List, [], ◌∷◌, ◌++◌, length, replicate, Option, Some, None, refl, sym, ap, ap₂, subst, ◌∙◌, arith}
 use Rattle.std.specs.List.{AllByRecursion, flat_map}
 use Rattle.std.proofs.lemmas.Bool.{and_parts}
 use Rattle.std.proofs.lemmas.List.{length-map}
@@ -8,8 +8,9 @@ use Rattle.occ_base.specs.Names.{IsDistinct}
 use Rattle.occ_lex.specs.Rows.{reading_of}
 use Rattle.occ_lex_symbols.specs.Symbols.{Extends}
 use Rattle.occ_lex_symbols.proofs.Interned.{extends_eq, extends_same, longer}
-use Rattle.occ_meaning.proofs.Facts.{none_not_some}
 use Rattle.occ_meaning.specs.Rename.{renamed}
+use Rattle.occ_parse.proofs.Faultless.{below_judged, lines_of, no_fault}
+use Rattle.occ_parse.proofs.Forests.{program_of}
 use Rattle.occ_parse.proofs.Knowing.{lines_known, params_known}
 use Rattle.occ_parse.proofs.Placed.{good_are_placed}
 use Rattle.occ_parse.proofs.Places.{places_distinct}
@@ -20,26 +21,18 @@ use Rattle.occ_parse_forms.specs.declared.form.Param.{Param}
 use Rattle.occ_parse_forms.specs.declared.form.Times.{Times}
 use Rattle.occ_parse_forms.specs.Shape.{Shape, header, close}
 use Rattle.occ_parse_forms.specs.Shape as line
-use Rattle.occ_parse_layout.specs.declared.placed.Frame.TheVariants as frame
-use Rattle.occ_parse_layout.specs.Layout.{least_bad}
 use Rattle.occ_parse_layout.specs.Whole.{IsProgram}
-use Rattle.occ_parse_layout.proofs.Framed.{whole_of}
 use Rattle.occ_parse_reading.specs.declared.bound.Bound.{Bound}
-use Rattle.occ_parse_reading.specs.declared.bound.Bound.TheVariants as bound
-use Rattle.occ_parse_reading.specs.declared.fault.ParseFault.{ParseFault}
-use Rattle.occ_parse_reading.specs.declared.fault.ParseFault.TheVariants as fault
-use Rattle.occ_parse_reading.specs.Drafts.{as_fault, draft_fault, header_below, header_name, header_params, name_fault_on, type_fault_on}
-use Rattle.occ_parse_reading.specs.Limits.{frame_of}
+use Rattle.occ_parse_reading.specs.Drafts.{draft_fault, header_below, header_name, header_params}
 use Rattle.occ_parse_reading.specs.Reading.{IsRead, names_in}
 use Rattle.occ_parse_reading.proofs.Once.{OneForm}
 use Rattle.occ_parse_renamed.specs.Renamed.{all_declared_renamed, forest_renamed, kinds_renamed, name_renamed, params_renamed, place_renamed, places_renamed, shape_renamed, times_renamed}
 use Rattle.occ_parse_renamed.specs.Standing.{IsNumbered, IsOneForOne}
 use Rattle.occ_parse_renamed.proofs.Elements.{all_places_renamed, program_same}
 use Rattle.occ_parse_renamed.proofs.Lines.{program_params, program_so}
-use Rattle.occ_parse_rules.specs.Forest.{Forest, no_line, and_line, lines_at}
-use Rattle.occ_parse_rules.specs.Judging.{first_fault, on_line, or_else}
+use Rattle.occ_parse_rules.specs.Forest.{Forest, no_line, and_line}
 use Rattle.occ_parse_rules.specs.Names.{name_fault}
-use Rattle.occ_parse_rules.specs.Places.{Place, Sorts, places}
+use Rattle.occ_parse_rules.specs.Places.{Place, places}
 use Rattle.occ_parse_rules.specs.Types.{direction_fault, type_fault}
 use Rattle.occ_parse_rules.specs.Unrolled.{Lined, lined, lined_construct, lined_option, lined_part, params_named, repeated, slot_process, times_of}
 use Rattle.occ_parse_sound.specs.InOrder.{AreInOrder}
@@ -59,22 +52,6 @@ use Rattle.occ_syntax.specs.Tree.{Tree}
 
 -- ---- lines below a header without a fault
 
-or_else_none : {F : Type 0} (a b : Option F) → or_else a b ≡ None → (a ≡ None) × (b ≡ None)
-or_else_none None b h = (refl, h)
-or_else_none (Some x) b h = none_not_some (sym h)
-
-as_fault_none : {F : Type 0} (on : ℕ → F → ParseFault) (o : Option (ℕ × F)) → as_fault on o ≡ None → o ≡ None
-as_fault_none on None h = refl
-as_fault_none on (Some found) h = none_not_some (sym h)
-
-below_judged : {F : Type 0} (judge : Sorts → Shape → Option F) (number : ℕ) (name : Name) (params : List Param) (below rest : Forest)
-    → first_fault judge [] [] (and_line number (header name params) below rest) ≡ None → first_fault judge (param_scope params) (param_scope params) below ≡ None
-below_judged judge number name params below rest h =
-    (or_else_none (first_fault judge (param_scope params) (param_scope params) below) _ (or_else_none (on_line number (judge [] (header name params))) _ h).1).0
-
-abbrev lines_of : ℕ → Name → List Param → Forest → ℕ → Forest
-lines_of number name params below last = and_line number (header name params) below (and_line last close no_line no_line)
-
 pub record AreGood (f : Forest) : Type 0 where
   pub lines : AreInOrder (param_scope (header_params f)) (param_scope (header_params f)) (header_below f)
   pub placed : are_placed (header_below f) ≡ true
@@ -84,14 +61,12 @@ good_whole : (b : Bound) (number : ℕ) (name : Name) (params : List Param) (bel
 good_whole b number name params below last order placed =
     let rest = and_line last close no_line no_line in
     let f = and_line number (header name params) below rest in
-    let first = or_else_none (as_fault name_fault_on (first_fault name_fault [] [] f)) _ order in
-    let second = or_else_none (as_fault type_fault_on (first_fault type_fault [] [] f)) _ first.1 in
-    let third = or_else_none (as_fault (λ line found. fault.Direction line) (first_fault direction_fault [] [] f)) _ second.1 in
+    let none = no_fault b f order in
     record {
       lines = record {
-        names = below_judged name_fault number name params below rest (as_fault_none name_fault_on _ first.0);
-        types = below_judged type_fault number name params below rest (as_fault_none type_fault_on _ second.0);
-        directions = below_judged direction_fault number name params below rest (as_fault_none (λ line found. fault.Direction line) _ third.0);
+        names = below_judged name_fault number name params below rest none.names;
+        types = below_judged type_fault number name params below rest none.types;
+        directions = below_judged direction_fault number name params below rest none.directions;
       };
       placed = (and_parts (are_placed below) (are_placed rest) placed).0;
     }
@@ -99,11 +74,6 @@ good_whole b number name params below last order placed =
 pub good : (b : Bound) (f : Forest) → IsProgram f → draft_fault b f ≡ None → are_placed f ≡ true → AreGood f
 good b f p order placed =
     subst AreGood (sym p.whole) (good_whole b p.number p.name p.params p.below p.last (ap (draft_fault b) (sym p.whole) ∙ order) (ap are_placed (sym p.whole) ∙ placed))
-
-pub program_is : (b : Bound) (g : Forest) → least_bad (frame_of b) false (lines_at 0 g) ≡ None → IsProgram g
-program_is bound.Program g h = whole_of frame.Program (lines_at 0 g) g refl refl h
-program_is bound.First g h = whole_of frame.Program (lines_at 0 g) g refl refl h
-program_is bound.Script g h = whole_of frame.Plain (lines_at 0 g) g refl refl h
 
 -- ---- headers under other names
 
@@ -197,7 +167,7 @@ module _ (form : OneForm) (b : Bound) (text : List ℕ) (old between : Table) (d
   all = program_places params below
 
   whole : IsProgram x.draft
-  whole = program_is b x.draft x.laid_out.good
+  whole = program_of b text old x.draft x.laid_out
 
   low : AllByRecursion (IsLow (length names)) all
   low = program_low (length names) params below (params_known b text old names x.draft x.laid_out refl params refl)

@@ -8,6 +8,7 @@ use Rattle.occ_lex.specs.Rows.{reading_of}
 use Rattle.occ_lex_symbols.proofs.Interned.{extends_same}
 use Rattle.occ_meaning.proofs.Facts.{none_not_some, true_not_false}
 use Rattle.occ_meaning.specs.Rename.{all_renamed, branches_renamed, cases_renamed, renamed}
+use Rattle.occ_parse.proofs.Forests.{program_of}
 use Rattle.occ_parse.proofs.Placed.{good_are_placed}
 use Rattle.occ_parse_forms.specs.declared.form.Param.{Param}
 use Rattle.occ_parse_layout.specs.Layout.{least_bad}
@@ -37,7 +38,7 @@ use Rattle.occ_read_renamed.specs.Readings.{StandIn}
 use Rattle.occ_read_renamed.proofs.Laid.{drafts_so, laid_renamed, laid_so, stop_so}
 use Rattle.occ_read_renamed.proofs.Outlines.{least_same}
 use Rattle.occ_read_renamed.proofs.Numbers.{Table, number_in_other, renumbering}
-use Rattle.occ_read_renamed.proofs.Programs.{AreGood, below_so, good, params_so, program_is}
+use Rattle.occ_read_renamed.proofs.Programs.{AreGood, below_so, good, params_so}
 use Rattle.occ_read_renamed.proofs.Rows.{lines_distinct, lines_stand}
 use Rattle.occ_syntax.specs.Counts.{controls, controls_of_all, controls_of_branches, controls_of_cases}
 use Rattle.occ_syntax.specs.Tree.{Branches, Cases, Tree, Trees, alt, and_branch, and_case, and_tree, assign, connect, declare, no_branch, no_case, no_tree, par, receive, select, send, seq, skip, stop}
@@ -178,7 +179,7 @@ module _ (form : OneForm) (b : Bound) (text : List ℕ) (old between : Table) (d
   not_refused fault (at_line laid g j h) = none_not_some (sym (stop_is laid (Some g) j))
   not_refused fault (in_draft draft g l h) =
       let is = drafts_so form b text old between names others distinct distinct_others stand (extends_same names) (extends_same others) x.draft draft x.laid_out l in
-      let whole = program_is b x.draft x.laid_out.good in
+      let whole = program_of b text old x.draft x.laid_out in
       let same = draft_same f (renumbering names others distinct stand).one_for_one b x.draft whole
       (good b x.draft whole x.in_order (good_are_placed b x.draft x.laid_out.good)) in
       both_ways (draft_fault b x.draft) (draft_fault b draft) x.in_order h (sym same ∙ ap (draft_fault b) (sym is))

@@ -3,9 +3,8 @@ ghost use Rattle.occ_syntax.specs.Counts.{bits_of_scope};
 ghost use Rattle.occ_dd.specs.Store.{IsKnown};
 ghost use Rattle.occ_refine.specs.Rows.{is_extra, IsLeastExtra, NoExtra};
 
-use crate::states::last_number;
 use occ_base::Name;
-use occ_compare::assignment;
+use occ_compare::{assignment, last_number};
 use occ_dd::{SetId, Store};
 use occ_syntax::Kind;
 

@@ -8,7 +8,6 @@ mod offers;
 mod pairs;
 mod roots;
 mod sets;
-mod states;
 mod step;
 mod stuck;
 mod walk;

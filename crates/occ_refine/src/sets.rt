@@ -6,7 +6,7 @@ ghost use Rattle.occ_refine.specs.Rows.{is_met, AllMet, IsLeastUnmet};
 
 use occ_accept::AcceptSet;
 use occ_base::{Event, Memory, Name};
-use occ_compare::{in_order, list_order};
+use occ_compare::{in_order, is_less};
 use occ_syntax::Kind;
 use std::alloc::Global;
 
@@ -22,13 +22,6 @@ fn is_met(sets: &[AcceptSet], set: &AcceptSet) -> bool
     ensures { result ≡ is_met sets.now set.now }
 {
     sets.iter().any(|part| is_part(part, set))
-}
-
-// Whether a set, as a list in the order of printing, goes before another: by its size, then as a list.
-fn is_less(params: &[(Name, Kind)], a: &[Event], b: &[Event]) -> bool
-    ensures { result ≡ is_lt (set_cmp params.now a.now b.now) }
-{
-    a.len().cmp(&b.len()).then(list_order(params, a, b)).is_lt()
 }
 
 // The lesser of a set and the least one so far.

@@ -52,10 +52,6 @@ pub unread_line : (f : Format) (old : Table) (s : Section) (ps qs : List Placed)
     → AreJudged content.Part old s (laid_rows ps) stop → qs ≡ ps → length qs ≤ 0 → stop ≡ Some e → IsBadHead f old s (text_fault e)
 unread_line f old s ps qs stop e a b j same h is = unread e a b (subst (λ o. AreJudged content.Part old s [] o) is (no_line_judged old s ps qs stop j same h))
 
-pub head_is : (f : Format) (old : Table) (s : Section) (ps qs : List Placed) (stop : Option ParseFault) → is_line (first_line f) s.row ≡ true
-    → AreJudged content.Part old s (laid_rows ps) stop → qs ≡ ps → length qs ≤ 0 → stop ≡ None → IsHead f old s
-head_is f old s ps qs stop b j same h is = record { line = b; empty = subst (λ o. AreJudged content.Part old s [] o) is (no_line_judged old s ps qs stop j same h) }
-
 -- ---- the steps so far, and what is left
 
 -- whatever steps are left, they are steps of all behind those so far; and so is the first fault there

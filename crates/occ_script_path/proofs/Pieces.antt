@@ -1,10 +1,10 @@
 -- The pieces of a text between its slashes.
-use Rattle.std.proofs.Common.{◌≡◌, ℕ, ◌+◌, ◌<◌, ◌≤◌, Bool, true, false, not, cond, List, [], ◌∷◌, ◌++◌, length, take, drop, Option, Some, None, refl, sym, ap, ◌∙◌, arith}
+use Rattle.std.proofs.Common.{◌≡◌, ℕ, ◌+◌, ◌<◌, ◌≤◌, Bool, true, false, not, cond, List, [], ◌∷◌, ◌++◌, length, take, drop, Option, Some, None, refl, ap, ◌∙◌, arith}
 use Rattle.std.specs.Prelude.{option_map}
 use Rattle.std.specs.Borrow.{Bor}
 use Rattle.std.specs.List.{onto_first, position_or_len, slice_split}
 use Rattle.std.proofs.lemmas.List.Splits.{slice_split-cons_no, slice_split_first}
-use Rattle.occ_script_path.specs.Texts.{is_byte, places_of}
+use Rattle.occ_script_path.specs.Texts.{is_byte}
 
 -- a text without such a byte is one piece
 pub piece_whole : (byte : ℕ) (text : List ℕ) → length text ≤ position_or_len (is_byte byte) text → slice_split (is_byte byte) text ≡ text ∷ []
@@ -25,22 +25,6 @@ piece_front byte text h = slice_split_first (is_byte byte) text 0 h
 
 abbrev pub behind : List ℕ → Option (List ℕ) → Option (List ℕ)
 behind ns places = option_map (λ ms. ns ++ ms) places
-
-behind_nil : (places : Option (List ℕ)) → behind [] places ≡ places
-behind_nil None = refl
-behind_nil (Some ns) = refl
-
--- no number is read yet
-pub places_none : (ns : List ℕ) (places : Option (List ℕ)) → ns ≡ [] → behind ns places ≡ places
-places_none ns places e = ap (λ m. behind m places) e ∙ behind_nil places
-
--- no piece is left
-pub places_all : (ns : List ℕ) (whole : Option (List ℕ)) → behind ns (places_of []) ≡ whole → Some ns ≡ whole
-places_all ns whole h = ap Some (sym (nil_behind ns)) ∙ h
-  where
-    nil_behind : (ns : List ℕ) → ns ++ [] ≡ ns
-    nil_behind [] = refl
-    nil_behind (n ∷ ns) = ap (λ m. n ∷ m) (nil_behind ns)
 
 -- how much text is left
 abbrev pub left : Option (Bor (List ℕ)) → ℕ

@@ -9,7 +9,8 @@ use Rattle.occ_meaning.specs.Rename.{all_renamed, branches_renamed, cases_rename
 use Rattle.occ_print.specs.Lines.{TextLine, all_lines, branch_lines, case_lines, line, most_symbols, part_lines, program_lines}
 use Rattle.occ_print.specs.Symbols.{declaration_symbols, guard_symbols, header_symbols, whole_symbols, word_symbol}
 use Rattle.occ_script_renamed.proofs.Symbols.{assign_under, declaration_under, exp_under, guard_under, header_under, waiting_under}
-use Rattle.occ_script_renamed.specs.Lines.{line_renamed, symbol_renamed, symbols_renamed}
+use Rattle.occ_parse_renamed.specs.Renamed.{symbol_renamed, symbols_renamed}
+use Rattle.occ_script_renamed.specs.Lines.{line_renamed}
 use Rattle.occ_syntax.specs.Tree.{Branches, Cases, Tree, Trees, alt, and_branch, and_case, and_tree, assign, connect, declare, no_branch, no_case, no_tree, output, par, receive, select, send, seq, skip, stop}
 use Rattle.occ_syntax.specs.declared.scope.Kind.{Kind}
 use Rattle.occ_syntax.specs.declared.scope.Kind.TheVariants as kind

@@ -10,7 +10,7 @@ use Rattle.occ_meaning.specs.Rename.{renamed_exp, renamed_exps, renamed_names, r
 use Rattle.occ_parse_forms.specs.Lines.{comma, kind_words, mark_words}
 use Rattle.occ_parse_forms.specs.Written.{op_word, truth_word}
 use Rattle.occ_print.specs.Symbols.{assign_symbols, compares_numerals, declaration_symbols, exp_symbols, gives_word, goes_on, guard_symbols, header_symbols, in_brackets, is_comparison, is_operation, is_ready, is_true, name_symbol, named_symbols, numeral_symbols, of_numerals, separated, waiting_symbols, whole_symbols}
-use Rattle.occ_script_renamed.specs.Lines.{symbol_renamed, symbols_renamed}
+use Rattle.occ_parse_renamed.specs.Renamed.{symbol_renamed, symbols_renamed}
 use Rattle.occ_syntax.specs.Tree.{Exp, Waiting, complement, input, negation, numeral, operation, output, ready, truth, variable}
 use Rattle.occ_syntax.specs.declared.expr.Op.{Op}
 use Rattle.occ_syntax.specs.declared.expr.Op.TheVariants as op

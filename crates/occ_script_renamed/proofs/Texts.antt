@@ -9,7 +9,8 @@ use Rattle.occ_meaning.specs.Rename.{renamed}
 use Rattle.occ_print.specs.Lines.{TextLine, part_lines, program_lines}
 use Rattle.occ_print.specs.Spelled.{gap, is_header, is_mark, is_numeral, is_tight, leans, lines_text, name_pieces, opens, part_text, pieces, pieces_behind, printed, program_text, symbol_pieces}
 use Rattle.occ_script_renamed.proofs.Lines.{part_under, program_under}
-use Rattle.occ_script_renamed.specs.Lines.{IsRenumbered, line_renamed, symbol_renamed, symbols_renamed}
+use Rattle.occ_parse_renamed.specs.Renamed.{symbol_renamed, symbols_renamed}
+use Rattle.occ_script_renamed.specs.Lines.{IsRenumbered, line_renamed}
 use Rattle.occ_syntax.specs.Tree.{Tree}
 use Rattle.occ_syntax.specs.declared.scope.Kind.{Kind}
 use Rattle.std.proofs.Common.{Bool, List, None, Option, Some, [], ap, if◌then◌else◌, map, refl, ℕ, ◌&&◌, ◌++◌, ◌||◌, ◌∙◌, ◌∷◌, ◌≡◌}

@@ -1,5 +1,5 @@
 -- The places that a line without a fault uses stand in its scope.
-use Rattle.std.proofs.Common.{◌≡◌, Bool, true, false, not, ◌||◌, if◌then◌else◌, List, [], ◌∷◌, ◌++◌, Option, Some, None, is_none, refl, subst, ℕ}
+use Rattle.std.proofs.Common.{◌≡◌, Bool, true, false, not, ◌||◌, List, [], ◌∷◌, ◌++◌, Option, Some, None, is_none, refl, subst, ℕ}
 use Rattle.std.specs.Prelude.{option_to_list}
 use Rattle.std.specs.List.{AllByRecursion, list_any}
 use Rattle.std.proofs.lemmas.Bool.{not-false, or_parts}
@@ -15,13 +15,10 @@ use Rattle.occ_parse_rules.specs.declared.sort.Sort.TheVariants as sort
 use Rattle.occ_parse_rules.specs.Names.{index_counts, is_outside, is_undeclared, is_undeclared_at, items_in, items_in_all, items_of_waiting, left_items, name_fault, redeclares, some_meet, uses}
 use Rattle.occ_parse_rules.specs.Places.{Place, Sorts, Indices, for_some, place_at, place_with, sort_at, sort_of_place}
 use Rattle.occ_parse_rules.specs.Types.{has_lost, line_clashes, sort_here, type_fault}
+use Rattle.occ_parse_sound.proofs.Facts.{if_none}
 use Rattle.occ_parse_unroll.specs.Elements.{item_places, items_places, operand_places, places_in, values_places, waiting_places}
 use Rattle.occ_print.proofs.Lists.{all-back, all-front}
 use Rattle.occ_script_table.proofs.Scoped.{AllFit, IsFit, both_fit, in_scope}
-
-if_none : {F : Type 0} (b : Bool) (f : F) (rest : Option F) → (if b then Some f else rest) ≡ None → (b ≡ false) × (rest ≡ None)
-if_none false f rest h = (refl, h)
-if_none true f rest h = absurd cc
 
 some_of : {A : Type 0} (o : Option A) → is_none o ≡ false → (a : A) × (o ≡ Some a)
 some_of None h = true_not_false h

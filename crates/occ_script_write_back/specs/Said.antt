@@ -10,11 +10,15 @@ use Rattle.occ_syntax.specs.declared.scope.Kind.{Kind}
 use Rattle.occ_syntax.specs.declared.scope.Program.{Program}
 use Rattle.occ_syntax.specs.View.{tree}
 
+-- the numbers of a path that a text writes have 32 bits
+abbrev pub IsShortPath : List ℕ → Type 0
+IsShortPath path = AllByRecursion (λ (n : ℕ). n ≤ 4294967295) path
+
 -- the law is one of the table, and the numbers of the path are those that a path may have
 pub record IsSaid (done : Done) : Type 0 where
   pub low : 1 ≤ done.law.0
   pub high : done.law.0 ≤ 63
-  pub path : AllByRecursion (λ (n : ℕ). n ≤ 4294967295) done.path
+  pub path : IsShortPath done.path
 
 -- the line of a step can be read, and its part keeps types in some scope, with names of the table
 pub record IsStepWritten (names : List (List ℕ)) (P : ℕ → Place) (done : Done) : Type 0 where

@@ -1,6 +1,6 @@
 -- Lists of parts, seen through what their items look like.
-use Rattle.std.proofs.Common.{◌≡◌, ℕ, ◌+◌, ◌<◌, ◌≤◌, Bool, true, false, true≢false, IsTrue, ◌↔◌, List, [], ◌∷◌, ◌++◌, map, length, get_or, take, refl, ap, sym, ◌∙◌}
-use Rattle.std.proofs.lemmas.List.{map_more, map_push, get_or-map, length-map, take_all}
+use Rattle.std.proofs.Common.{◌≡◌, ℕ, ◌<◌, ◌≤◌, Bool, true, false, true≢false, IsTrue, ◌↔◌, List, [], ◌∷◌, map, length, get_or, take, refl, ap, sym, ◌∙◌}
+use Rattle.std.proofs.lemmas.List.{get_or-map, length-map, take_all}
 use Rattle.occ_base.specs.declared.names.Name.{Name}
 use Rattle.occ_syntax.specs.declared.expr.Expr.{Expr}
 use Rattle.occ_syntax.specs.declared.expr.Guard.{Guard}
@@ -146,12 +146,6 @@ select_alike b p q cs ds e f same = (λ h. e ∙ ap select (same.0 h) ∙ sym f,
 
 pub alt_alike : (b : Bool) (p q : Tree) (bs ds : Branches) → p ≡ alt bs → q ≡ alt ds → (IsTrue b ↔ (bs ≡ ds)) → IsTrue b ↔ (p ≡ q)
 alt_alike b p q bs ds e f same = (λ h. e ∙ ap alt (same.0 h) ∙ sym f, λ g. same.1 (cc))
-
--- a copy that looks like its model so far, and one item more
-pub copied_more : {A B : Type 0} (f : A → B) (xs ys zs : List A) (i : ℕ) (x y : A) → i < length xs → x ≡ get_or xs i x → f y ≡ f x → zs ≡ ys ++ y ∷ []
-    → map f ys ≡ map f (take i xs) → map f zs ≡ map f (take (i + 1) xs)
-copied_more f xs ys zs i x y h d e g so_far =
-    ap (map f) g ∙ map_push f ys y ∙ ap (λ ws. ws ++ f y ∷ []) so_far ∙ ap (λ z. map f (take i xs) ++ z ∷ []) (e ∙ ap f d) ∙ sym (map_more f xs i x h)
 
 -- a copy of all items of a list that has a name
 pub copied_whole : {A B : Type 0} (f : A → B) (xs ys zs : List A) (i : ℕ) → length xs ≤ i → xs ≡ ys → map f zs ≡ map f (take i xs) → map f zs ≡ map f ys

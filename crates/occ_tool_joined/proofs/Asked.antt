@@ -1,13 +1,13 @@
 -- What the words ask for decides what their answer is.
 use Rattle.std.proofs.Common.{◌≡◌, ℕ, Bool, true, false, cond, List, [], ◌∷◌, Option, Some, None, refl, sym, subst, ◌∙◌, ◌&&◌}
 use Rattle.std.specs.Prelude.{option_and_then, option_map}
-use Rattle.occ_engine_written.specs.First.{IsShortPath}
 use Rattle.occ_gen.specs.declared.shape.Shape.{Shape}
 use Rattle.occ_script_path.specs.Texts.{path_of}
 use Rattle.occ_tool_words.specs.Words.{Job, belongs, deadlock, derive, expand, expand_of, is_plain, job_of, normal, normalise, refine, replay, run, same, shape_of, stages_of, stress, stress_of, transform, with_one, with_two, with_two_later}
 use Rattle.occ_tool_run.specs.Answers.{Derives, Expands, IsAnswer, Transforms, checking, comparison, normalisation_by_laws, expanding, membership, normalisation, refinement, replaying, running, seeking, stressing, transforming, usage}
 use Rattle.occ_tool_run.specs.Derivations.{Replays}
 use Rattle.occ_tool_run.specs.Files.{Files}
+use Rattle.occ_script_write_back.specs.Said.{IsShortPath}
 
 -- ---- the answer to words that ask for it
 

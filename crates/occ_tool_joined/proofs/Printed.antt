@@ -6,7 +6,7 @@ use Rattle.occ_engine.specs.Moved.{moves_of, orders_of}
 use Rattle.occ_engine_rules.specs.Expansion.{IsExpanded}
 use Rattle.occ_engine_rules.specs.Moves.{Moves}
 use Rattle.occ_engine_rules.specs.Orders.{Follows}
-use Rattle.occ_engine_written.specs.First.{AreWritten, IsFirstProgram, IsShortPath}
+use Rattle.occ_engine_written.specs.First.{AreWritten, IsFirstProgram}
 use Rattle.occ_fresh.specs.Growth.{GrowsByNames}
 use Rattle.occ_parse_rules.specs.Places.{Place}
 use Rattle.occ_script.specs.declared.fault.ScriptFault.{ScriptFault}
@@ -18,7 +18,7 @@ use Rattle.occ_script.specs.Scripts.{IsScript}
 use Rattle.occ_script_joined.specs.Joined.{AreWrittenMoves, IsJoined as IsJoinedScript}
 use Rattle.occ_script_write.specs.declared.writing.Done.{Done}
 use Rattle.occ_script_write.specs.Text.{IsWritable, script_text}
-use Rattle.occ_script_write_back.specs.Said.{IsSaid}
+use Rattle.occ_script_write_back.specs.Said.{IsSaid, IsShortPath}
 use Rattle.occ_syntax.specs.declared.scope.Program.{Program}
 use Rattle.occ_syntax.specs.View.{tree}
 use Rattle.occ_tool_joined.specs.Joined.{IsJoined, IsPrintedNarrow}

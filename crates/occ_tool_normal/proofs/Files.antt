@@ -1,13 +1,10 @@
 -- Two files that have normal texts, and what is answered of the two.
-use Rattle.std.proofs.Common.{◌≡◌, ◌⊎◌, inl, inr, ◌↔◌, ◌<◌, ◌^◌, ℕ, true, false, cond, nat_lt, List, [], length, Option, Some, None, Vec, Global, refl, sym, ap, subst, ◌∙◌, arith}
+use Rattle.std.proofs.Common.{◌≡◌, ◌↔◌, ◌<◌, ◌^◌, ℕ, List, [], length, Some, refl, sym, ap, subst, ◌∙◌, arith}
 use Rattle.std.specs.Prelude.{codes}
-use Rattle.std.specs.FinMap.{nat_cmp-IsAntisymmetric, slice_cmp-IsAntisymmetric}
 use Rattle.std.specs.declared.cmp.Ordering.{Ordering}
 use Rattle.std.specs.declared.cmp.Ordering.TheVariants.{Less, Equal, Greater}
-use Rattle.std.proofs.lemmas.Bool.{cases_Bool}
 use Rattle.occ_nform.specs.Written.{IsNormalText}
 use Rattle.occ_base.specs.Names.{IsDistinct}
-use Rattle.occ_parse_reading.specs.Reading.{too_long}
 use Rattle.occ_parse_reading.specs.declared.fault.ParseFault.{ParseFault}
 use Rattle.occ_usage.specs.declared.fault.UsageFault.{UsageFault}
 use Rattle.occ_syntax.specs.View.{tree}
@@ -19,15 +16,13 @@ use Rattle.occ_tool_run.specs.declared.answer.Answer.{Answer}
 use Rattle.occ_tool_run.specs.declared.judge.Question.TheVariants.{WhetherSame}
 use Rattle.occ_tool_run.specs.Accepts.{IsAccepted, IsAcceptedText, IsRefused, IsUnusable}
 use Rattle.occ_tool_run.specs.Answers.{Answers, Compares, IsNormalised, Settles, Takes, TakesBoth, Turned, accepted, accepted_behind, refused, refused_behind, unusable, unusable_behind}
-use Rattle.occ_tool_run.specs.Files.{Files, order_of, short_bytes, text_order}
+use Rattle.occ_tool_run.specs.Files.{Files, order_of, short_bytes}
 use Rattle.occ_tool_run.specs.Texts.{status_of, text_of}
+use Rattle.occ_tool_run.proofs.EitherOrder.{kept_bytes, one_text}
 use Rattle.occ_tool_run.proofs.Judging.{no_name_twice}
-use Rattle.occ_tool_run.proofs.OneAnswer.{Does, back, does}
+use Rattle.occ_tool_run.proofs.OneAnswer.{Does, back, does, short}
 use Rattle.occ_tool_run.proofs.Taken.{AreOne, agree, as_taken}
 use Rattle.occ_tool_words.specs.Words.{Job, job_of, normalise, same}
-
-short : (text : Vec ℕ Global) → length text.items < 2 ^ 64
-short text = omega (arith, text.ok, text.small)
 
 -- a file whose normal text is the answer
 normal_of : (file : File) (a : Answer) → Takes First file [] IsNormalised a → status_of a ≡ 0 → IsTextOf file (text_of a)
@@ -51,21 +46,7 @@ taken place file old R a P g m (refused f r e) next = absurd (g f r)
 taken place file old R a P g m (unusable n l f r e) next = absurd (m n l f r)
 taken place file old R a P g m (accepted n p r x) next = next n p r x
 
-one_order : (x y : Option (List ℕ)) → text_order x y ≡ Equal → x ≡ y
-one_order None None e = refl
-one_order None (Some y) e = absurd (let no : ⊥ = cc in no)
-one_order (Some x) None e = absurd (let no : ⊥ = cc in no)
-one_order (Some x) (Some y) e = ap Some (slice_cmp-IsAntisymmetric nat_cmp-IsAntisymmetric x y e)
-
 module _ (L : Laws) where
-  -- an accepted file isn't too long
-  kept_bytes : (file : File) (names : Table) (p : Program) (a : IsAccepted file [] names p) → short_bytes file ≡ Some a.bytes
-  kept_bytes file names p a = ap short_bytes a.there ∙ by (cases_Bool (nat_lt 65536 (length a.bytes)))
-    where
-      by : ((nat_lt 65536 (length a.bytes) ≡ true) ⊎ (nat_lt 65536 (length a.bytes) ≡ false)) → cond (nat_lt 65536 (length a.bytes)) None (Some a.bytes) ≡ Some a.bytes
-      by (inl e) = absurd (L.once.not_both a.bytes [] names p a.text.numbers _ a.text.read (too_long e))
-      by (inr e) = ap (λ long. cond long None (Some a.bytes)) e
-
   taken_file : (place : Side) (file : File) (text : List ℕ) (x : IsTextOf file text) (old : Table) → IsDistinct old → (R : Table → Program → Answer → Type 0) (a : Answer) (P : Type 0)
       → Takes place file old R a → ((names : Table) (p : Program) → IsAccepted file old names p → R names p a → P) → P
   taken_file place file text x old d R a P h next = taken place file old R a P (no_refusal L file text x old d) (no_misuse L file text x old d) h next
@@ -94,7 +75,7 @@ module _ (L : Laws) where
         taken_file First c s x [] no_name_twice (λ n p. Compares p n p) a (Told L s t a) h
         (λ n p r z.
         let bytes : y.accepted.bytes ≡ r.bytes =
-        let k : Some y.accepted.bytes ≡ Some r.bytes = sym (kept_bytes d y.names y.program y.accepted) ∙ (sym e ∙ kept_bytes c n p r) in cc in
+        let k : Some y.accepted.bytes ≡ Some r.bytes = sym (kept_bytes L.once d y.names y.program y.accepted) ∙ (sym e ∙ kept_bytes L.once c n p r) in cc in
         let other : IsAccepted c [] y.names y.program =
         record { bytes = r.bytes; there = r.there; text = subst (λ u. IsAcceptedText u [] y.names y.program) bytes y.accepted.text } in
         let mine : AreOne n x.names p x.program = agree L.once c [] (as_taken n p) (as_taken x.names x.program) r x.accepted in
@@ -107,7 +88,7 @@ module _ (L : Laws) where
 
     ways : (order : Ordering) → order_of c d ≡ order → TakesBoth order WhetherSame c d a → Told L s t a
     ways Less e h = in_order h
-    ways Equal e h = one_file (one_order (short_bytes c) (short_bytes d) e) h
+    ways Equal e h = one_file (one_text (short_bytes c) (short_bytes d) e) h
     ways Greater e h = turned h
 
     settled : Settles WhetherSame c d a → Told L s t a

@@ -1,12 +1,10 @@
 -- The normal texts of two programs that were read one after the other, by one table of names.
-use Rattle.std.proofs.Common.{◌≡◌, ◌↔◌, ◌<◌, ◌^◌, ◌==◌, ℕ, Bool, true, false, List, [], ◌∷◌, length, Option, Some, Result, Ok, Err, refl, sym, ap, subst, ◌∙◌}
+use Rattle.std.proofs.Common.{◌≡◌, ◌↔◌, ◌<◌, ◌^◌, ℕ, true, false, List, [], length, Option, Some, Result, Ok, Err, sym, ap, subst, ◌∙◌}
 use Rattle.std.specs.Prelude.{codes}
 use Rattle.std.proofs.lemmas.Bool.{false≢true}
 use Rattle.occ_base.specs.declared.names.Name.{Name}
 use Rattle.occ_base.specs.Names.{IsDistinct}
 use Rattle.occ_behaviour.specs.Texts.{text_of_verdict}
-use Rattle.occ_behaviour.specs.declared.behaviour.Verdict.{Verdict}
-use Rattle.occ_behaviour.specs.declared.behaviour.Verdict.TheVariants.{Same, Differ}
 use Rattle.occ_lex.specs.Rows.{reading_of}
 use Rattle.occ_lex_symbols.specs.Symbols.{Extends}
 use Rattle.occ_lex_symbols.proofs.Interned.{extends_all, extends_trans}
@@ -38,8 +36,9 @@ use Rattle.occ_tool_run.specs.Accepts.{IsAccepted, IsAcceptedText, IsRefused, Is
 use Rattle.occ_tool_run.specs.Answers.{Compares, apart, compared}
 use Rattle.occ_tool_run.specs.Texts.{text_of}
 use Rattle.occ_tool_run.specs.declared.answer.Answer.{Answer}
+use Rattle.occ_tool_run.proofs.BothWays.{begins_with, verdict_same}
 use Rattle.occ_tool_run.proofs.Judging.{no_name_twice}
-use Rattle.occ_tool_normal.proofs.Usage.{RulesStay, usage_kept}
+use Rattle.occ_tool_normal.proofs.Usage.{usage_kept}
 use Rattle.occ_tool_run.proofs.Once.{IsOnce, faultless}
 use Rattle.occ_tool_run.proofs.OneAnswer.{back}
 use Rattle.occ_tool_run.proofs.Taken.{AreOne, agree, as_taken}
@@ -64,7 +63,6 @@ pub record Laws : Type 0 where
       → length text < 2 ^ 64 → IsNormalText names ps p text → IsNormalText other (kinds_renamed f ps) (renamed p f) text
   pub refused : (b : Bound) (text : List ℕ) (old between new : Table) (n : Name) (ps : List (Name × Kind)) (p : Tree) (ks : List ℕ) (fault : ParseFault)
       → IsDistinct old → IsDistinct between → StandIn old between → IsRead b text old new n ps p ks → IsRefusedText b text between fault → ⊥
-  pub rules : RulesStay
   pub apart : (names : Table) (ps : List (Name × Kind)) (p q : Tree) (s t : List ℕ) → IsDistinct names → scope_kept ps ≡ true
       → types_kept p (environment ps) ≡ true → types_kept q (environment ps) ≡ true → length s < 2 ^ 64 → length t < 2 ^ 64
       → IsNormalText names ps p s → IsNormalText names ps q t → (s ≡ t) ↔ SAME (environment ps) p q
@@ -117,7 +115,7 @@ module _ (L : Laws) where
         let read = subst (λ u. ReadsAs u between new q r.text.numbers) (one_file r.bytes r.there) r.text.read in
         let a = L.readings bound.Program bytes [] between x.names new x.program.name q.name x.program.params q.params (tree x.program.body) (tree q.body) own.numbers r.text.numbers
         no_name_twice d (none_stands between) own.read read in
-        let keeps = usage_kept L.rules a.number a.numbering.one_for_one (environment x.program.params) (tree x.program.body) (record { types = own.typed.types; usage = own.usage }) in
+        let keeps = usage_kept a.number a.numbering.one_for_one (environment x.program.params) (tree x.program.body) (record { types = own.typed.types; usage = own.usage }) in
         faultless q fault r.text.later (subst KeepsUsage (sym a.body) keeps) r.text.found
 
   -- the texts of two files that are read one after the other, by the last table
@@ -145,14 +143,6 @@ module _ (L : Laws) where
       }
 
   -- ---- what is answered of the two
-
-  abbrev begins_with : ℕ → List ℕ → Bool
-  begins_with c [] = false
-  begins_with c (b ∷ text) = b == c
-
-  verdict_same : (names : Table) (v : Verdict) → text_of_verdict names v ≡ codes "SAME\n" → v ≡ Same
-  verdict_same names Same e = refl
-  verdict_same names (Differ behaviour only) e = absurd (false≢true (ap (begins_with 83) e))
 
   abbrev pub Told : List ℕ → List ℕ → Answer → Type 0
   Told s t a = (s ≡ t) ↔ (text_of a ≡ codes "SAME\n")

@@ -1,6 +1,8 @@
 -- A part keeps the rule of usage under other names.
 use Rattle.std.proofs.Common.{ℕ, [], ◌∷◌, sym, subst}
+use Rattle.occ_law_renamed.proofs.Usage.{keeps_under}
 use Rattle.occ_meaning.proofs.RenamedTrees.{trees_agree}
+use Rattle.occ_meaning.proofs.Renaming.{exchange_is}
 use Rattle.occ_meaning.specs.Rename.{exchanging, renamed, under}
 use Rattle.occ_nform_renamed.proofs.Bounds.{below_top, top}
 use Rattle.occ_nform_renamed.proofs.Exchanges.{Exchanges, applied, so_below, tree_twice, unapplied, unchanged}
@@ -9,19 +11,15 @@ use Rattle.occ_syntax.specs.Scopes.{Environment}
 use Rattle.occ_syntax.specs.Tree.{Tree}
 use Rattle.occ_syntax.specs.Usage.{Keeps, KeepsUsage}
 
--- of two exchanged names
-abbrev pub RulesStay : Type 0
-RulesStay = (Γ : Environment) (p : Tree) (a b : ℕ) → Keeps Γ p → Keeps (under (exchanging a b) Γ) (renamed p (exchanging a b))
+-- of exchanged names, one pair after the other
+all_kept : (pairs : Exchanges) (Γ : Environment) (p : Tree) → Keeps Γ p → Keeps (under (unapplied pairs) Γ) (renamed p (applied pairs))
+all_kept [] Γ p h = subst (Keeps Γ) (sym (unchanged p)) h
+all_kept (pair ∷ pairs) Γ p h =
+    let ex = exchanging pair.0 pair.1 in
+    subst (Keeps (under ex (under (unapplied pairs) Γ))) (tree_twice (applied pairs) ex p)
+    (keeps_under (under (unapplied pairs) Γ) (renamed p (applied pairs)) ex (exchange_is pair.0 pair.1) (all_kept pairs Γ p h))
 
-module _ (stay : RulesStay) where
-  all_kept : (pairs : Exchanges) (Γ : Environment) (p : Tree) → Keeps Γ p → Keeps (under (unapplied pairs) Γ) (renamed p (applied pairs))
-  all_kept [] Γ p h = subst (Keeps Γ) (sym (unchanged p)) h
-  all_kept (pair ∷ pairs) Γ p h =
-      let ex = exchanging pair.0 pair.1 in
-      subst (Keeps (under ex (under (unapplied pairs) Γ))) (tree_twice (applied pairs) ex p)
-      (stay (under (unapplied pairs) Γ) (renamed p (applied pairs)) pair.0 pair.1 (all_kept pairs Γ p h))
-
-  pub usage_kept : (f : ℕ → ℕ) → IsOneForOne f → (Γ : Environment) (p : Tree) → Keeps Γ p → KeepsUsage (renamed p f)
-  usage_kept f one Γ p h =
-      let b = so_below f one (top p) in
-      subst KeepsUsage (trees_agree p (applied b.pairs) f (λ x k. b.same x (below_top p x k))) (all_kept b.pairs Γ p h).usage
+pub usage_kept : (f : ℕ → ℕ) → IsOneForOne f → (Γ : Environment) (p : Tree) → Keeps Γ p → KeepsUsage (renamed p f)
+usage_kept f one Γ p h =
+    let b = so_below f one (top p) in
+    subst KeepsUsage (trees_agree p (applied b.pairs) f (λ x k. b.same x (below_top p x k))) (all_kept b.pairs Γ p h).usage

@@ -7,7 +7,6 @@ ghost use Rattle.occ_tool_run.specs.Answers.{Answers};
 ghost use Rattle.occ_tool_run.specs.Files.{Files};
 ghost use Rattle.occ_tool_words.specs.Words.{job_of, normalise, same};
 
-use occ_law_renamed::exchanged_names_keep_the_rules;
 use occ_nform::normal_texts_tell_programs_apart;
 use occ_nform_params::parameters_have_names;
 use occ_nform_renamed::normal_texts_are_renamed;
@@ -30,7 +29,6 @@ pub fn normal_texts_tell_files_apart()
     programs_read_again();
     readings_are_renamed();
     readings_are_not_refused();
-    exchanged_names_keep_the_rules();
     normal_texts_are_renamed();
     normal_texts_tell_programs_apart();
 }

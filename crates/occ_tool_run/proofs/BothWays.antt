@@ -17,7 +17,7 @@ use Rattle.occ_tool_run.specs.declared.answer.Answer.{Answer}
 use Rattle.occ_tool_run.specs.Texts.{text_of, refined_text}
 use Rattle.occ_tool_run.specs.Answers.{Compares, apart, compared, Refines, other, allowed}
 
-abbrev begins_with : ℕ → List ℕ → Bool
+abbrev pub begins_with : ℕ → List ℕ → Bool
 begins_with c [] = false
 begins_with c (d ∷ text) = d == c
 
@@ -25,7 +25,7 @@ refined_yes : (names : List (List ℕ)) (v : Refinement) → refined_text names 
 refined_yes names Yes e = refl
 refined_yes names (No behaviour) e = absurd (false≢true (ap (begins_with 82) e))
 
-verdict_same : (names : List (List ℕ)) (v : Verdict) → text_of_verdict names v ≡ codes "SAME\n" → v ≡ Same
+pub verdict_same : (names : List (List ℕ)) (v : Verdict) → text_of_verdict names v ≡ codes "SAME\n" → v ≡ Same
 verdict_same names Same e = refl
 verdict_same names (Differ behaviour only) e = absurd (false≢true (ap (begins_with 83) e))
 

@@ -132,7 +132,7 @@ turned_order None (Some y) = refl
 turned_order (Some x) None = refl
 turned_order (Some x) (Some y) = nat_list_cmp_total.antisymm y x
 
-one_text : (x y : Option (List ℕ)) → text_order x y ≡ Equal → x ≡ y
+pub one_text : (x y : Option (List ℕ)) → text_order x y ≡ Equal → x ≡ y
 one_text None None e = refl
 one_text None (Some y) e = absurd (let no : ⊥ = cc in no)
 one_text (Some x) None e = absurd (let no : ⊥ = cc in no)
@@ -146,6 +146,14 @@ long_or_bytes (Some b) bytes e = by (nat_lt 65536 (length b)) e
     by : (long : Bool) → cond long None (Some b) ≡ Some bytes → Some b ≡ Some bytes
     by true e = absurd (let no : ⊥ = cc in no)
     by false e = e
+
+-- an accepted file isn't too long
+pub kept_bytes : IsOnce → (file : Option (List ℕ)) (names : List (List ℕ)) (p : Program) (a : IsAccepted file [] names p) → short_bytes file ≡ Some a.bytes
+kept_bytes once file names p a = ap short_bytes a.there ∙ by (cases_Bool (nat_lt 65536 (length a.bytes)))
+  where
+    by : ((nat_lt 65536 (length a.bytes) ≡ true) ⊎ (nat_lt 65536 (length a.bytes) ≡ false)) → cond (nat_lt 65536 (length a.bytes)) None (Some a.bytes) ≡ Some a.bytes
+    by (inl e) = absurd (once.not_both a.bytes [] names p a.text.numbers _ a.text.read (too_long e))
+    by (inr e) = ap (λ long. cond long None (Some a.bytes)) e
 
 module _ (once : IsOnce) (law : AgreeBothWays) where
   found : (place : Side) (file : File) (old : Table) (R : Table → Program → Answer → Type 0) (a : Answer) → Takes place file old R a → Found file old R a ⊎ IsNot file old a
@@ -207,15 +215,8 @@ module _ (once : IsOnce) (law : AgreeBothWays) where
 
   -- ---- two files with one text
 
-  kept_bytes : (file : File) (names : Table) (p : Program) (a : IsAccepted file [] names p) → short_bytes file ≡ Some a.bytes
-  kept_bytes file names p a = ap short_bytes a.there ∙ by (cases_Bool (nat_lt 65536 (length a.bytes)))
-    where
-      by : ((nat_lt 65536 (length a.bytes) ≡ true) ⊎ (nat_lt 65536 (length a.bytes) ≡ false)) → cond (nat_lt 65536 (length a.bytes)) None (Some a.bytes) ≡ Some a.bytes
-      by (inl e) = absurd (once.not_both a.bytes [] names p a.text.numbers _ a.text.read (too_long e))
-      by (inr e) = ap (λ long. cond long None (Some a.bytes)) e
-
   of_other : (one two : File) (names : Table) (p : Program) → short_bytes one ≡ short_bytes two → IsAccepted one [] names p → IsAccepted two [] names p
-  of_other one two names p e a = record { bytes = a.bytes; there = long_or_bytes two a.bytes (sym e ∙ kept_bytes one names p a); text = a.text }
+  of_other one two names p e a = record { bytes = a.bytes; there = long_or_bytes two a.bytes (sym e ∙ kept_bytes once one names p a); text = a.text }
 
   one_file : (one two : File) (x y z : Answer) → short_bytes one ≡ short_bytes two → TakesBoth Equal WhetherRefined one two x → TakesBoth Equal WhetherRefined two one y → TakesBoth Equal WhetherSame one two z
       → ((text_of x ≡ codes "REFINES\n") × (text_of y ≡ codes "REFINES\n")) ↔ (text_of z ≡ codes "SAME\n")

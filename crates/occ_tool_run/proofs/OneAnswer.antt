@@ -60,7 +60,7 @@ same_truth false true f g = g refl
 same_truth false false f g = refl
 
 -- a text in memory is shorter than numerals are long
-short : (text : Vec ℕ Global) → length text.items < 2 ^ 64
+pub short : (text : Vec ℕ Global) → length text.items < 2 ^ 64
 short text = omega (arith, text.ok, text.small)
 
 -- two programs have one verdict, and one answer to whether one refines the other; one program is stuck in one way

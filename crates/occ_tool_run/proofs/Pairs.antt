@@ -114,11 +114,3 @@ not_memory (Ok a) f b other is = λ e. false≢true (sym other ∙ is e)
 pub parameters_known : (names : List (List ℕ)) (p q : Program) → p.params ≡ q.params → IsOneKnown names p q → params_declare (is_below (length names)) p.params ≡ true
 parameters_known names p q same (inl h) = h.params
 parameters_known names p q same (inr h) = subst (λ (ps : List (Name × Kind)). params_declare (is_below (length names)) ps ≡ true) (sym same) h.params
-
-pub last_known : (l : Loaded) (old new : List (List ℕ)) (p q : Program) → IsAcceptedFrom l old new q → IsOneKnown new p q
-last_known (Bytes text) old new p q h = inr h.known
-last_known TooLong old new p q h = absurd h
-
-pub first_known : (l : Loaded) (old new : List (List ℕ)) (p q : Program) → IsAcceptedFrom l old new p → IsOneKnown new p q
-first_known (Bytes text) old new p q h = inl h.known
-first_known TooLong old new p q h = absurd h

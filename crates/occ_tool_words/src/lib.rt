@@ -1,10 +1,12 @@
 //! The words of a command line: which command they ask for, and its words. The commands are `same A B`, `normalise A`,
 //! `normal T`, `belongs A T`, `transform A T`, `expand A PATH`, `derive A`, `refine A B`, `deadlock A`, `replay T`, `run A T`
 //! and `stress KIND N`, where `PATH` is a path, `KIND` is `buffers`, `adders` or `muxes`, and `N` a number from 1 to 48; the other
-//! words name files.
+//! words name files. Other programs have a command line of two words that name files.
 #![tactic(auto)]
 
+mod pair;
 mod stages;
 mod words;
 
+pub use pair::file_pair;
 pub use words::{Command, command_in, is_plain_word};

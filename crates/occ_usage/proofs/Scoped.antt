@@ -1,5 +1,5 @@
 -- Environments of lists, and the rules of types in other words.
-use Rattle.std.proofs.Common.{◌≡◌, ℕ, ◌+◌, ◌<◌, ◌≤◌, ◌==◌, Bool, true, false, true≢false, IsTrue, ◌↔◌, cond, not, ◌&&◌, ◌||◌, Option, Some, None, is_none, is_some, List, [], ◌∷◌, ◌++◌, length, get_or, take, drop, refl, sym, ap, ◌∙◌, arith, append_assoc}
+use Rattle.std.proofs.Common.{◌≡◌, ℕ, ◌+◌, ◌<◌, ◌≤◌, ◌==◌, Bool, true, false, true≢false, IsTrue, ◌↔◌, cond, not, ◌&&◌, ◌||◌, Option, Some, None, is_none, is_some, List, [], ◌∷◌, ◌++◌, length, get_or, take, drop, refl, sym, ap, ◌∙◌, arith}
 use mathlib.Core.Bool.{beq}
 use mathlib.Core.Path.{fun_ext}
 use Rattle.std.specs.List.{list_any}
@@ -68,9 +68,6 @@ skipped_at false es x y k j o e h = refl
 pub environment-skip : (es rest : List (Name × Kind)) (n : Name) (k j : Kind) → environment es n.0 ≡ Some j → environment (es ++ rest) ≡ environment (es ++ (n, k) ∷ rest)
 environment-skip es rest n k j h =
     fun_ext (λ y. environment-append es rest y ∙ skipped_at (y == n.0) es n.0 y k j (environment rest y) refl h ∙ sym (environment-append es ((n, k) ∷ rest) y))
-
-pub environment-enter : (es fs rest : List (Name × Kind)) (n : Name) (k : Kind) → fs ≡ es ++ (n, k) ∷ [] → environment (fs ++ rest) ≡ environment (es ++ (n, k) ∷ rest)
-environment-enter es fs rest n k e = ap (λ gs. environment (gs ++ rest)) e ∙ ap environment (append_assoc es ((n, k) ∷ []) rest)
 
 -- ---- declarations
 
@@ -233,9 +230,6 @@ insert_new [] n k h = refl
 insert_new (e ∷ es) n k h = new_at (n.0 == e.0.0) n k e.1 (environment es n.0) e.0 es (insert_entry (λ (a b : Name). a.0 == b.0) es n k) h (insert_new es n k)
 
 -- ---- whole programs
-
-refuted : {P : Type 0} → (P → ⊥) → IsTrue false ↔ P
-refuted wrong = (λ h. absurd (true≢false (sym h)), λ p. absurd (wrong p))
 
 usage_told : (program : Program) (fs : List UsageFault) → fs ≡ usage_faults program → is_none (first fs) ≡ true → first fs ≡ None
 usage_told program [] e h = refl

@@ -8,7 +8,7 @@ use Rattle.occ_tool_run.specs.declared.load.Stop.{Stop}
 use Rattle.occ_tool_run.specs.declared.load.Stop.TheVariants.{Memory}
 use Rattle.occ_tool_run.specs.Files.{AsksFor, Files, IsLoaded, most_bytes}
 use Rattle.occ_witness_run.specs.Answers.{Answers, AnswersNames, Ran, Tells, answered, cut_short}
-use Rattle.occ_witness_run.specs.Words.{names_in}
+use Rattle.occ_tool_words.specs.Pairs.{names_in}
 use Rattle.occ_witness_run.specs.declared.top.Reply.{Reply}
 
 pub wrote_all : (told : Option Files) (words : List (List ℕ)) (status : ℕ) (text bytes : List ℕ) (old between new : Option (List ℕ))

@@ -4,7 +4,8 @@ use Rattle.occ_desk.specs.Desk.{with_more, IsCutShort}
 use Rattle.occ_tool_run.specs.Files.{Files}
 use Rattle.occ_witness_run.specs.declared.finding.Finding.{Finding}
 use Rattle.occ_witness_run.specs.Findings.{Finds, status_of_finding, text_of_finding}
-use Rattle.occ_witness_run.specs.Words.{file_words, usage_text}
+use Rattle.occ_tool_words.specs.Pairs.{file_pair}
+use Rattle.occ_witness_run.specs.Words.{usage_text}
 
 -- the files of a program and of a behaviour have an answer with this status and this text
 pub record Tells (one two : Option (List ℕ)) (status : ℕ) (text : List ℕ) : Type 0 where
@@ -20,7 +21,7 @@ AnswersNames files (Some names) status text = Tells (files names.0) (files names
 
 -- the words and the files have an answer with this status and this text
 abbrev pub Answers : Files → List (List ℕ) → ℕ → List ℕ → Type 0
-Answers files words status text = AnswersNames files (file_words words) status text
+Answers files words status text = AnswersNames files (file_pair words) status text
 
 -- The whole answer was written, with its own status; or a front of it, where a write failed; or nothing, where a read failed or
 -- memory ran out.

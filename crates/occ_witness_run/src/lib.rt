@@ -5,6 +5,5 @@
 mod finding;
 mod searching;
 mod top;
-mod word;
 
 pub use top::witness;

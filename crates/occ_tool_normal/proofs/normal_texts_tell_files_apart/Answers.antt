@@ -17,6 +17,5 @@ returns c = files_apart (record {
   readings = c.readings_are_renamed.ensures;
   texts = c.normal_texts_are_renamed.ensures;
   refused = c.readings_are_not_refused.ensures;
-  rules = c.exchanged_names_keep_the_rules.ensures;
   apart = c.normal_texts_tell_programs_apart.ensures;
 })

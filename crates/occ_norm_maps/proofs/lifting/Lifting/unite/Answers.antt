@@ -2,7 +2,7 @@ use Rattle.std.proofs.Common.{refl}
 use Rattle.occ_choice.proofs.Uniting.{unions-lead}
 use Rattle.occ_scope.proofs.Keeping.{shifts-lead}
 use Rattle.occ_weave.proofs.Keeping.{weaves-lead}
-use Rattle.occ_norm_maps.proofs.Worlds.{goes_from, either_union, either_first, either_second, turned_now, prefixed_now, woven_now}
+use Rattle.occ_norm_maps.proofs.Worlds.{goes_from}
 use Rattle.occ_norm_maps.proofs.lifting.Lifting.unite.Goals as goal
 
 pub returns-in_err-both-in-Some-Some-clause-goes : goal.returns-in_err-both-in-Some-Some-clause-goes

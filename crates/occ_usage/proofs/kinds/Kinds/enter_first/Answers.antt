@@ -1,5 +1,5 @@
 use Rattle.std.proofs.Common.{sym}
-use Rattle.occ_usage.proofs.Scoped.{environment-skip, environment-enter}
+use Rattle.occ_usage.proofs.Scoped.{environment-skip}
 use Rattle.occ_usage.proofs.kinds.Kinds.enter_first.Goals as goal
 
 pub returns-in-Some : goal.returns-in-Some

@@ -1,12 +1,12 @@
-//! The words of the command line.
+//! The words of a command line that names two files alone.
 
 ghost use Rattle.std.specs.Prelude.{map, string_bytes};
-ghost use Rattle.occ_prove_run.specs.Words.{AreFound, ArePlain};
+ghost use Rattle.occ_tool_words.specs.Pairs.{AreFound, ArePlain};
 
-use occ_tool_words::is_plain_word;
+use crate::words::is_plain_word;
 
 /// The two words that name files, where exactly these stand behind the program's own name.
-pub(crate) fn file_words(words: &[String]) -> Option<(&str, &str)>
+pub fn file_pair(words: &[String]) -> Option<(&str, &str)>
     ensures { AreFound (map string_bytes words.now) result }
 {
     match words {
