@@ -1,0 +1,5 @@
+pub mod Children
+pub mod Keeping
+pub mod Lifting
+pub mod Trails
+pub mod Within
