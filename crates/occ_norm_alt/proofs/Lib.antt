@@ -12,3 +12,5 @@ pub mod Adding
 pub mod Done
 pub mod Rooms
 pub mod Values
+pub mod AtOnce
+pub mod ByStates

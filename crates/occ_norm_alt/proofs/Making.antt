@@ -76,7 +76,7 @@ alone : (a : Bool) → (false || (a || false)) ≡ a
 alone true = refl
 alone false = refl
 
-event_iff : (e f : Event) (b : Bool) → ((eq_by_cmp event_cmp e f && b) ≡ true) ↔ ((e ≡ f) × (b ≡ true))
+pub event_iff : (e f : Event) (b : Bool) → ((eq_by_cmp event_cmp e f && b) ≡ true) ↔ ((e ≡ f) × (b ≡ true))
 event_iff e f b = (
   λ h. let parts = and_parts (eq_by_cmp event_cmp e f) b h in (tied_same cmp_total event_exact e f parts.0, parts.1),
   λ h. and_from (eq_by_cmp event_cmp e f) b (subst (λ g. eq_by_cmp event_cmp e g ≡ true) h.0 (tied cmp_total e)) h.1,

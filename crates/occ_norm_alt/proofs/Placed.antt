@@ -147,7 +147,7 @@ module _ (entries : List (Name × Width × ℕ)) (is : IsLayout entries) (var : 
   placed_state = λ i z. at_each z i
 
 -- ---- the change of it
-row_cases : (first n k : ℕ) → ((j : ℕ) × (j < n) × (k ≡ first + j)) ⊎ ((k < first) ⊎ (first + n ≤ k))
+pub row_cases : (first n k : ℕ) → ((j : ℕ) × (j < n) × (k ≡ first + j)) ⊎ ((k < first) ⊎ (first + n ≤ k))
 row_cases first n k = ⊎_elim
     (λ (l : k < first). inr (inl l))
     (λ (l : first ≤ k). ⊎_elim

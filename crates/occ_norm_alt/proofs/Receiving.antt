@@ -173,7 +173,7 @@ module _ (v w : World) (k : Extends v w) (next : MapId) (has : HasNodes v next) 
       node : (y : ℕ) → y < 2 ^ 64 → (m : NodeId) → value v.maps next y ≡ Some m → IsNode v m
       node y h m e = let found = has.nodes y h in subst (IsNode v) (same_Some found.0 m (sym found.1 ∙ e)) found.2
 
-  input_leads : (chan : Name) (first left base x : ℕ) → first + left ≤ 64 → x < 2 ^ 64 → (e : Event) (B C : ℕ → NodeId → Bool) → ((u : ℕ) (m : NodeId) → IsNode v m → C u m ≡ B u m)
+  pub input_leads : (chan : Name) (first left base x : ℕ) → first + left ≤ 64 → x < 2 ^ 64 → (e : Event) (B C : ℕ → NodeId → Bool) → ((u : ℕ) (m : NodeId) → IsNode v m → C u m ≡ B u m)
       → LeadsInput chan first left base x e (λ u y. At v next y (B u)) ↔ LeadsInput chan first left base x e (λ u y. At w next y (C u))
   input_leads chan first left base x fits h e B C f = (
     λ l. record { u = l.u; below = l.below; is = l.is; behaved = (at_grow (placed first left l.u x) (placed_small first left l.u x fits h) (B (base + l.u)) (C (base + l.u)) (f (base + l.u))).0 l.behaved },

@@ -1,5 +1,5 @@
 -- The inputs of the values of some digits, and the outputs of a value, each with what comes after it.
-use Rattle.std.specs.Prelude.{ℕ, zero, suc, ◌+◌, ◌*◌, ◌%◌, ◌<◌, ◌≡◌, ◌^◌, Bool, true, Some, bit_and, bit_xor}
+use Rattle.std.specs.Prelude.{ℕ, zero, suc, ◌+◌, ◌*◌, ◌%◌, ◌<◌, ◌≤◌, ◌≡◌, ◌^◌, Bool, true, List, Some, length, slice_get, bit_and, bit_xor}
 use Rattle.std.specs.Int.{bit_at}
 use Rattle.occ_base.specs.declared.event.Dir.TheVariants.{Input, Output}
 use Rattle.occ_base.specs.declared.event.Event.{Event}
@@ -7,6 +7,7 @@ use Rattle.occ_base.specs.declared.names.Name.{Name}
 use Rattle.occ_diagram.specs.Assignment.{with_bit}
 use Rattle.occ_mdd.specs.Maps.{value}
 use Rattle.occ_mdd.specs.declared.map.MapId.{MapId}
+use Rattle.occ_follow.specs.Sequence.{HasNodes}
 use Rattle.occ_node.specs.World.{fails, ends}
 use Rattle.occ_node.specs.declared.node.NodeId.{NodeId}
 use Rattle.occ_node.specs.declared.world.World.{World}
@@ -49,6 +50,22 @@ AreInputsAt w chan first left keep base next x a = IsOffering w a (TakesInput ch
 
 pub record AreInputs (w : World) (chan : Name) (first left keep base : ℕ) (next r : MapId) : Type 0 where
   pub inputs : (x : ℕ) (a : NodeId) → x < 2 ^ 64 → value w.maps r x ≡ Some a → AreInputsAt w chan first left keep base next x a
+
+-- a node for each number of some digits: that of `next` where the number is put in place
+pub record AreNexts (w : World) (first bits : ℕ) (next : MapId) (state : ℕ) (nodes : List NodeId) : Type 0 where
+  pub count : length nodes ≡ 2 ^ bits
+  pub each : (u : ℕ) → u < 2 ^ bits → slice_get nodes u ≡ value w.maps next (placed first bits u state)
+
+-- the second assignment has the lowest bits of the first, so many, and else those of the state
+pub record Agrees (left state x y : ℕ) : Type 0 where
+  pub small : y < 2 ^ 64
+  pub low : (k : ℕ) → k < left → bit_at y k ≡ bit_at x k
+  pub high : (k : ℕ) → left ≤ k → bit_at y k ≡ bit_at state k
+
+-- the map waits at each assignment for the inputs from all states that agree with it
+pub record AreRows (w : World) (chan : Name) (first bits : ℕ) (next : MapId) (left state : ℕ) (r : MapId) : Type 0 where
+  pub has : HasNodes w r
+  pub rows : (x y : ℕ) (a : NodeId) → x < 2 ^ 64 → Agrees left state x y → value w.maps r x ≡ Some a → AreInputsAt w chan first bits 0 0 next y a
 
 -- where the test holds, r is `next` after the output of a value that depends on the assignment
 pub record AreOutputs (w : World) (chan : Name) (test : ℕ → Bool) (v : ℕ → ℕ) (next r : MapId) : Type 0 where

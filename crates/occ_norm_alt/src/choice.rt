@@ -1,4 +1,5 @@
 ghost use Rattle.std.specs.Prelude.{◌≡◌, ℕ, ◌+◌, ◌^◌, ◌≤◌, ◌<◌, true, List, length, take, IfOk, IsSome};
+ghost use Rattle.std.specs.Bool.{OnTrue};
 ghost use Rattle.std.specs.List.{All};
 ghost use Rattle.occ_base.specs.declared.names.Name.{Name};
 ghost use Rattle.occ_base.specs.declared.width.Width.{Width};
@@ -6,6 +7,7 @@ ghost use Rattle.occ_bits.specs.Layout.{environment_in};
 ghost use Rattle.occ_bits.specs.Words.{number_at};
 ghost use Rattle.occ_dd.specs.Store.{IsKnown as IsSetKnown, has};
 ghost use Rattle.occ_follow.specs.Sequence.{HasNodes};
+ghost use Rattle.occ_mdd.specs.Maps.{IsKnown};
 ghost use Rattle.occ_norm_maps.specs.Maps.{Extends, MayHaveNodes};
 ghost use Rattle.occ_syntax.specs.Scopes.{variable_width};
 ghost use Rattle.occ_syntax.specs.Types.{type_of};
@@ -19,6 +21,7 @@ ghost use Rattle.occ_norm_alt.specs.Alternation.{IsAlternation, IsEnabledBy, IsO
 ghost use Rattle.occ_norm_alt.specs.Inputs.{AreInputs, AreOutputs};
 ghost use Rattle.occ_norm_alt.specs.Offering.{IsGuarded};
 
+use crate::listed::{Listed, rows};
 use occ_base::{Dir, Event, Memory, Name};
 use occ_dd::SetId;
 use occ_mdd::MapId;
@@ -42,6 +45,7 @@ pub struct Alternation {
 struct Inputs {
     chan: Name,
     first: u32,
+    bits: u32,
     keep: u64,
 }
 
@@ -106,6 +110,65 @@ fn input_from(
     merged(alloc, world, low, high)
 }
 
+// How many nodes a map has.
+fn node_count(world: &mut World, map: MapId) -> Result<usize, Memory>
+    requires { IsKnown world.old.maps map }
+    ensures { Extends world.old world.new }
+{
+    let full = world.store.full();
+    let nodes = world.maps.leaves_under(&mut world.store, map, full)?;
+    Ok(nodes.len())
+}
+
+// Whether the states should be gone through one by one: there are few of them, what follows has many nodes for so few, and the bits
+// of the variable aren't told as changes.
+fn is_by_states(
+    world: &mut World,
+    frame: &Frame,
+    inputs: Inputs,
+    next: MapId,
+) -> Result<bool, Memory>
+    requires { IsKnown world.old.maps next }
+    ensures extends { Extends world.old world.new }
+    ensures unkept { IfOk result (λ r. OnTrue r (inputs.keep ≡ 0)) }
+    ensures few { IfOk result (λ r. OnTrue r (frame.now.bits ≤ 16)) }
+{
+    if inputs.keep != 0 || frame.bits > 16 || frame.bits <= inputs.bits {
+        return Ok(false);
+    }
+    let nodes = node_count(world, next)?;
+    Ok(nodes >> (frame.bits - inputs.bits) > 0)
+}
+
+// The map of the inputs of all values, and then what the map has: by going through the states, or by halves of the values.
+fn all_inputs(
+    alloc: Global,
+    world: &mut World,
+    frame: &Frame,
+    inputs: Inputs,
+    next: MapId,
+) -> Result<MapId, Memory>
+    requires bits { inputs.bits ≤ 8 }
+    requires fits { inputs.first + inputs.bits ≤ 64 }
+    requires below { inputs.first < 64 }
+    requires next { IsOver world.old frame.now.bits next }
+    ensures extends { Extends world.old world.new }
+    ensures nodes { IfOk result (HasNodes world.new) }
+    ensures inputs { IfOk result (AreInputs world.new inputs.chan inputs.first inputs.bits inputs.keep 0 next) }
+{
+    let by_states = is_by_states(world, frame, inputs, next)?;
+    if !by_states {
+        return input_from(alloc, world, inputs, inputs.bits, 0, next);
+    }
+    let listed = Listed {
+        chan: inputs.chan,
+        first: inputs.first,
+        bits: inputs.bits,
+        next,
+    };
+    rows(alloc, world, listed, frame.bits, 0)
+}
+
 /// The map of an input and then what another map has.
 pub fn input(
     alloc: Global,
@@ -130,8 +193,13 @@ pub fn input(
     let (width, first) = frame.slot(var);
     let bits = width.bits();
     let keep = frame.keep & bits_from(first, bits);
-    let inputs = Inputs { chan, first, keep };
-    let map = input_from(alloc, world, inputs, u32::from(bits), 0, next)?;
+    let inputs = Inputs {
+        chan,
+        first,
+        bits: u32::from(bits),
+        keep,
+    };
+    let map = all_inputs(alloc, world, frame, inputs, next)?;
     rebased(alloc, world, keep, map)
 }
 

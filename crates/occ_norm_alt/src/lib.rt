@@ -2,5 +2,6 @@
 #![tactic(auto)]
 
 mod choice;
+mod listed;
 
 pub use choice::{Alternation, input, output};

@@ -7,7 +7,7 @@ use Rattle.occ_norm_alt.proofs.choice.input.Goals as goal
 pub returns-clause-guarded : goal.returns-clause-guarded
 returns-clause-guarded c = IfOk-weaker c.rebased.result _ _
     (λ r changed. input_done c.args.frame.now.vars c.args.frame.now.layout c.args.frame.now.bits c.args.frame.now.kept c.args.frame.now.keep c.args.frame.now.inside c.args.frame.now.closed.items
-    c.args.world.now c.input_from.new.world c.rebased.new.world c.input_from.ensures.extends c.rebased.ensures.extends c.args.next c.requires.next c.args.chan
+    c.args.world.now c.all_inputs.new.world c.rebased.new.world c.all_inputs.ensures.extends c.rebased.ensures.extends c.args.next c.requires.next c.args.chan
     c.args.var.0 c.slot-width.result.0 c.slot-width.result.1 c.from.result c.bits-bits.result _ _ c.in_ok-map.map r c.slot-width.ensures.found (c.from.ensures ∙ c.bits-bits.ensures) c.bits-bits.ensures c.bits_from.ensures refl
     (not_closed c.is_closed.result _ c.is_closed.ensures c.if-is_closed.false) c.in_ok-map.ensures.nodes c.in_ok-map.ensures.inputs changed)
     c.rebased.ensures.changed
@@ -15,9 +15,9 @@ returns-clause-guarded c = IfOk-weaker c.rebased.result _ _
 pub returns-clause-after : goal.returns-clause-after
 returns-clause-after c = IfOk-weaker c.rebased.result _ _
     (λ r changed. receive_done c.args.frame.now.vars c.args.frame.now.layout c.args.frame.now.bits c.args.frame.now.kept c.args.frame.now.keep c.args.frame.now.inside c.args.frame.now.closed.items
-    c.args.world.now c.rebased.new.world (extends_trans c.args.world.now c.input_from.new.world c.rebased.new.world c.input_from.ensures.extends c.rebased.ensures.extends) c.args.next c.requires.next c.args.chan r c.args.var.0
+    c.args.world.now c.rebased.new.world (extends_trans c.args.world.now c.all_inputs.new.world c.rebased.new.world c.all_inputs.ensures.extends c.rebased.ensures.extends) c.args.next c.requires.next c.args.chan r c.args.var.0
     (input_done c.args.frame.now.vars c.args.frame.now.layout c.args.frame.now.bits c.args.frame.now.kept c.args.frame.now.keep c.args.frame.now.inside c.args.frame.now.closed.items
-    c.args.world.now c.input_from.new.world c.rebased.new.world c.input_from.ensures.extends c.rebased.ensures.extends c.args.next c.requires.next c.args.chan
+    c.args.world.now c.all_inputs.new.world c.rebased.new.world c.all_inputs.ensures.extends c.rebased.ensures.extends c.args.next c.requires.next c.args.chan
     c.args.var.0 c.slot-width.result.0 c.slot-width.result.1 c.from.result c.bits-bits.result _ _ c.in_ok-map.map r c.slot-width.ensures.found (c.from.ensures ∙ c.bits-bits.ensures) c.bits-bits.ensures c.bits_from.ensures refl
     (not_closed c.is_closed.result _ c.is_closed.ensures c.if-is_closed.false) c.in_ok-map.ensures.nodes c.in_ok-map.ensures.inputs changed))
     c.rebased.ensures.changed
