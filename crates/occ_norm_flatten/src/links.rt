@@ -76,9 +76,17 @@ struct Waiting {
 }
 
 impl Waiting {
-    // Whether it comes before another one: it leaves fewer channels open, or as few and it is linked to a part that was
-    // placed later.
+    // Whether it is linked to a part that is placed.
+    fn is_linked(self) -> bool {
+        self.closed > 0
+    }
+
+    // Whether it comes before another one: it alone is linked to a part that is placed; or it leaves fewer channels open, or as
+    // few and it is linked to a part that was placed later.
     fn is_before(self, other: Waiting) -> bool {
+        if self.is_linked() != other.is_linked() {
+            return self.is_linked();
+        }
         let mine = self.open.saturating_add(other.closed);
         let theirs = other.open.saturating_add(self.closed);
         mine < theirs || (mine == theirs && self.latest > other.latest)
@@ -142,39 +150,95 @@ fn tell(waiting: &mut Vec<Waiting>, links: &[Link], place: usize, time: usize) {
     }
 }
 
-/// An order of parts: which of those that are left comes next, again and again, and how far the ends of the links stand apart
-/// then, all together.
+// Where a place stands among those that are left when some were taken.
+fn place_left(place: usize, taken: &[usize]) -> usize {
+    let mut at = place;
+    for other in taken {
+        if *other < place {
+            at = at.saturating_sub(1);
+        }
+    }
+    at
+}
+
+// Places from the last to the first: which of those that are left comes next, again and again.
+fn backward(alloc: Global, places: &[usize]) -> Result<Vec<usize>, Memory> {
+    let mut takes = Vec::new(alloc);
+    let count = places.len();
+    for time in 0..count {
+        let at = count - 1 - time;
+        let left = place_left(places[at], &places[at + 1..]);
+        takes.push(left)?;
+    }
+    Ok(takes)
+}
+
+/// What it takes to put parts side by side one by one, from the last to the first: how many of them share no channel with those
+/// behind them, and how far the ends of the links stand apart, all together.
+#[derive(Clone, Copy)]
+pub struct Cost {
+    apart: usize,
+    length: usize,
+}
+
+impl Cost {
+    /// Whether it is less than another: fewer parts stand apart, or as many and the links are shorter.
+    pub fn is_less(self, other: Cost) -> bool {
+        self.apart < other.apart || (self.apart == other.apart && self.length < other.length)
+    }
+}
+
+/// An order of parts: which of those that are left comes next, again and again, and what it takes to put them side by side.
 #[derive(Drop)]
 pub struct Order {
     pub takes: Vec<usize>,
-    pub length: usize,
+    pub cost: Cost,
 }
 
-/// So many parts in an order that begins with one of few links, and goes on with the part that leaves the fewest channels open.
+/// So many parts in an order whose last part is one of few links. In front of it stands a part that is linked to it, if there is
+/// one, and again and again one that is linked to those behind it: the one that leaves the fewest channels open.
 pub fn close_order(alloc: Global, count: usize, links: &[Link]) -> Result<Order, Memory> {
     let mut waiting = all_waiting(alloc, count, links)?;
-    let mut takes = Vec::new(alloc);
+    let mut places = Vec::new(alloc);
     let mut across: usize = 0;
-    let mut length: usize = 0;
+    let mut cost = Cost {
+        apart: 0,
+        length: 0,
+    };
     for time in 0..count {
         if waiting.is_empty() {
-            return Ok(Order { takes, length });
+            break;
         }
         let at = next_of(&waiting);
         let part = waiting.remove(at);
-        takes.push(at)?;
+        places.push(part.place)?;
         tell(&mut waiting, links, part.place, time);
         across = across.saturating_add(part.open).saturating_sub(part.closed);
-        length = length.saturating_add(across);
+        cost.length = cost.length.saturating_add(across);
+        if time > 0 && !part.is_linked() {
+            cost.apart = cost.apart.saturating_add(1);
+        }
     }
-    Ok(Order { takes, length })
+    let takes = backward(alloc, places.as_slice())?;
+    Ok(Order { takes, cost })
 }
 
-/// How far the ends of the links stand apart, all together.
-pub fn length_of(links: &[Link]) -> usize {
+// Whether a part shares a channel with one behind it.
+fn reaches_on(links: &[Link], place: usize) -> bool {
+    links.iter().any(|link| link.other(place).is_some_and(|other| place < other))
+}
+
+/// What it takes to put so many parts side by side as they stand.
+pub fn cost_of(count: usize, links: &[Link]) -> Cost {
     let mut length: usize = 0;
     for link in links {
         length = length.saturating_add(link.length());
     }
-    length
+    let mut apart: usize = 0;
+    for place in 1..count {
+        if !reaches_on(links, place - 1) {
+            apart = apart.saturating_add(1);
+        }
+    }
+    Cost { apart, length }
 }

@@ -5,7 +5,7 @@ ghost use Rattle.occ_norm_flatten.specs.Arranged.{AddsAll, AreArranged, IsReshap
 
 use crate::apart::write_apart;
 use crate::flat::last_flattened;
-use crate::links::{close_order, length_of, links_of};
+use crate::links::{close_order, cost_of, links_of};
 use occ_base::Memory;
 use occ_syntax::{Proc, Procs, Scope};
 use std::alloc::Global;
@@ -74,15 +74,15 @@ fn in_order(alloc: Global, parts: Vec<Proc>, takes: &[usize]) -> Result<Procs, M
     Ok(sorted)
 }
 
-// An order in which parts that share channels stand closer together than they do now, if there is one: which of those that
-// are left comes next, again and again.
+// An order in which fewer parts share no channel with those behind them than now, or as many and parts that share channels stand
+// closer together, if there is one: which of those that are left comes next, again and again.
 fn closer_order(alloc: Global, parts: &[Proc]) -> Result<Option<Vec<usize>>, Memory> {
     if MOST_PARTS < parts.len() {
         return Ok(None);
     }
     let links = links_of(alloc, parts)?;
     let order = close_order(alloc, parts.len(), &links)?;
-    if order.length < length_of(&links) {
+    if order.cost.is_less(cost_of(parts.len(), &links)) {
         return Ok(Some(order.takes));
     }
     Ok(None)
