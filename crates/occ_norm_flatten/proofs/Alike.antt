@@ -4,8 +4,11 @@ use Rattle.std.proofs.lemmas.Bool.{and_parts}
 use Rattle.occ_meaning.proofs.Beside.{Gives, beside_gives, gives_itself, gives_through}
 use Rattle.occ_meaning.proofs.Parts.{all_of_beside, beside_all_of}
 use Rattle.occ_meaning.specs.Parallel.{all_of, one}
-use Rattle.occ_norm_flatten.proofs.Listed.{all_of_none, all_of_three}
-use Rattle.occ_norm_flatten.proofs.Spreading.{bits_of_both, types_of_all, types_of_both, weight_of_both}
+use Rattle.occ_norm_straight.proofs.Listed.{all_of_none, all_of_three}
+use Rattle.occ_norm_flatten.proofs.Reshaped.{reshaped_itself}
+use Rattle.occ_norm_flatten.proofs.Spreading.{weight_of_both}
+use Rattle.occ_norm_straight.proofs.Flat.{one_of_par}
+use Rattle.occ_norm_straight.proofs.Itself.{arranged_steps, both_arranged}
 use Rattle.occ_norm_flatten.specs.Arranged.{AddsAll, AreArranged}
 use Rattle.occ_syntax.proofs.Weights.{weight, weight_of_all}
 use Rattle.occ_syntax.specs.Meaning.{at_the_same_time, beside}
@@ -13,36 +16,15 @@ use Rattle.occ_syntax.specs.Scopes.{Environment}
 use Rattle.occ_syntax.specs.Tree.{Tree, Trees, no_tree, par}
 use Rattle.occ_syntax.specs.Types.{all_types_kept}
 
--- ---- two lists of parts in one
-
-both_give : (Γ : Environment) (ps ps' qs qs' : Trees) → Gives Γ (at_the_same_time ps) (at_the_same_time ps') → Gives Γ (at_the_same_time qs) (at_the_same_time qs')
-    → Gives Γ (at_the_same_time (all_of ps qs)) (at_the_same_time (all_of ps' qs'))
-both_give Γ ps ps' qs qs' h k =
-    gives_through Γ (at_the_same_time (all_of ps qs)) (beside (at_the_same_time ps) (at_the_same_time qs)) (at_the_same_time (all_of ps' qs')) (all_of_beside Γ ps qs)
-    (gives_through Γ (beside (at_the_same_time ps) (at_the_same_time qs)) (beside (at_the_same_time ps') (at_the_same_time qs')) (at_the_same_time (all_of ps' qs'))
-    (beside_gives Γ (at_the_same_time ps) (at_the_same_time ps') (at_the_same_time qs) (at_the_same_time qs') h k) (beside_all_of Γ ps' qs'))
-
 -- ---- parts that do the same
 
 alike_itself : (ps : Trees) → AreArranged ps ps
-alike_itself ps = record {
-  types = λ Γ h. h;
-  forth = λ Γ h. gives_itself Γ (at_the_same_time ps);
-  back = λ Γ h. gives_itself Γ (at_the_same_time ps);
-  bits = λ n. omega arith;
-  weighs = omega arith;
-}
+alike_itself ps = reshaped_itself (par ps)
 
 alike_both : (ps ps' qs qs' : Trees) → AreArranged ps ps' → AreArranged qs qs' → AreArranged (all_of ps qs) (all_of ps' qs')
+unfolding weight
 alike_both ps ps' qs qs' a b = record {
-  types = λ Γ h. let k = types_of_all ps qs Γ h in types_of_both ps' qs' Γ (a.types Γ k.0) (b.types Γ k.1);
-  forth = λ Γ h. let k = types_of_all ps qs Γ h in both_give Γ ps ps' qs qs' (a.forth Γ k.0) (b.forth Γ k.1);
-  back = λ Γ h. let k = types_of_all ps qs Γ h in both_give Γ ps' ps qs' qs (a.back Γ k.0) (b.back Γ k.1);
-  bits = λ n.
-      let e = bits_of_both ps qs n in
-      let f = bits_of_both ps' qs' n in
-      let g = a.bits n in
-      let h = b.bits n in omega (arith, e, f, g, h);
+  arranged = both_arranged ps ps' qs qs' a.arranged b.arranged;
   weighs =
       let e = weight_of_both ps qs in
       let f = weight_of_both ps' qs' in
@@ -54,10 +36,7 @@ alike_both ps ps' qs qs' a b = record {
 alike_par : (qs rs : Trees) → AreArranged qs rs → AreArranged (one (par qs)) rs
 unfolding weight weight_of_all
 alike_par qs rs a = record {
-  types = λ Γ h. a.types Γ (and_parts (all_types_kept qs Γ) true h).0;
-  forth = λ Γ h. a.forth Γ (and_parts (all_types_kept qs Γ) true h).0;
-  back = λ Γ h. a.back Γ (and_parts (all_types_kept qs Γ) true h).0;
-  bits = λ n. let h = a.bits n in omega (arith, h);
+  arranged = arranged_steps (par (one (par qs))) (par qs) (par rs) (one_of_par (par qs)) a.arranged;
   weighs = let h = a.weighs in omega (arith, h);
 }
 

@@ -24,37 +24,9 @@ use Rattle.occ_syntax.specs.declared.expr.Guard.{Guard}
 use Rattle.occ_syntax.specs.declared.proc.Proc.{Proc}
 use Rattle.occ_syntax.specs.declared.scope.Kind.{Kind}
 use Rattle.occ_syntax.specs.declared.scope.Kind.TheVariants.{Chan, Var}
-use Rattle.occ_norm_flatten.specs.Arranged.{IsArranged, IsBranch, IsChoice, IsPart, Pairwise, and_item, no_items}
-
--- ---- itself, and in steps
-
-pub arranged_itself : (p : Tree) → IsArranged p p
-arranged_itself p = record {
-  types = λ Γ h. h;
-  forth = λ Γ h. gives_itself Γ (meaning p);
-  back = λ Γ h. gives_itself Γ (meaning p);
-  bits = λ n. omega arith;
-  weighs = omega arith;
-}
-
-pub arranged_steps : (p q r : Tree) → IsArranged p q → IsArranged q r → IsArranged p r
-arranged_steps p q r a b = record {
-  types = λ Γ h. b.types Γ (a.types Γ h);
-  forth = λ Γ h. gives_through Γ (meaning p) (meaning q) (meaning r) (a.forth Γ h) (b.forth Γ (a.types Γ h));
-  back = λ Γ h. gives_through Γ (meaning r) (meaning q) (meaning p) (b.back Γ (a.types Γ h)) (a.back Γ h);
-  bits = λ n. let h = a.bits n in let k = b.bits n in omega (arith, h, k);
-  weighs = let h = a.weighs in let k = b.weighs in omega (arith, h, k);
-}
-
-pub copied : (p q : Tree) → q ≡ p → IsArranged p q
-copied p q e = subst (λ z. IsArranged p z) (sym e) (arranged_itself p)
-
--- the same process, seen from code
-pub arranged_copy : (p q r : Tree) → IsArranged p q → r ≡ q → IsArranged p r
-arranged_copy p q r a e = subst (λ z. IsArranged p z) (sym e) a
-
-pub arranged_as : (p q p' q' : Tree) → p' ≡ p → q' ≡ q → IsArranged p q → IsArranged p' q'
-arranged_as p q p' q' e f a = subst (λ r. IsArranged r q') (sym e) (subst (λ r. IsArranged p r) (sym f) a)
+use Rattle.occ_norm_flatten.specs.Arranged.{IsBranch, IsChoice, IsPart, Pairwise, and_item, no_items}
+use Rattle.occ_norm_straight.proofs.Itself.{arranged_as, arranged_itself}
+use Rattle.occ_norm_straight.specs.Arranged.{IsArranged}
 
 -- ---- within declarations
 
@@ -83,10 +55,6 @@ arranged_one x k p q a = record {
       let h = a.bits (n + bits_of_kind k) in
       let e = most_bits-declaring x k q n in
       let f = most_bits-declaring x k p n in omega (arith, h, e, f);
-  weighs =
-      let h = a.weighs in
-      let e = weight-declaring x k p in
-      let f = weight-declaring x k q in omega (arith, h, e, f);
 }
 
 pub arranged_all : (ds : List (Name × Kind)) (p q : Tree) → IsArranged p q → IsArranged (declaring_all ds p) (declaring_all ds q)
@@ -102,13 +70,11 @@ seq_empty : IsArranged (seq no_tree) (seq no_tree)
 seq_empty = arranged_itself (seq no_tree)
 
 seq_more : (p q : Tree) (ps qs : Trees) → IsArranged p q → IsArranged (seq ps) (seq qs) → IsArranged (seq (and_tree p ps)) (seq (and_tree q qs))
-unfolding weight weight_of_all
 seq_more p q ps qs a b = record {
   types = λ Γ h. let j = and_parts (types_kept p Γ) (all_types_kept ps Γ) h in and_from (types_kept q Γ) (all_types_kept qs Γ) (a.types Γ j.0) (b.types Γ j.1);
   forth = λ Γ h. let j = and_parts (types_kept p Γ) (all_types_kept ps Γ) h in followed_gives Γ (meaning p) (meaning q) (in_turn ps) (in_turn qs) (a.forth Γ j.0) (b.forth Γ j.1);
   back = λ Γ h. let j = and_parts (types_kept p Γ) (all_types_kept ps Γ) h in followed_gives Γ (meaning q) (meaning p) (in_turn qs) (in_turn ps) (a.back Γ j.0) (b.back Γ j.1);
   bits = λ n. let h = a.bits n in let k = b.bits n in omega (arith, h, k);
-  weighs = let h = a.weighs in let k = b.weighs in omega (arith, h, k);
 }
 
 pub arranged_seq : (xs ys : List Proc) → Pairwise IsPart xs ys → IsArranged (seq (trees xs)) (seq (trees ys))
@@ -125,13 +91,11 @@ whole_gives Γ p q ps qs h k =
     (beside_gives Γ (meaning p) (meaning q) (at_the_same_time ps) (at_the_same_time qs) h k) (beside_whole Γ q qs))
 
 par_more : (p q : Tree) (ps qs : Trees) → IsArranged p q → IsArranged (par ps) (par qs) → IsArranged (par (and_tree p ps)) (par (and_tree q qs))
-unfolding weight weight_of_all
 par_more p q ps qs a b = record {
   types = λ Γ h. let j = and_parts (types_kept p Γ) (all_types_kept ps Γ) h in and_from (types_kept q Γ) (all_types_kept qs Γ) (a.types Γ j.0) (b.types Γ j.1);
   forth = λ Γ h. let j = and_parts (types_kept p Γ) (all_types_kept ps Γ) h in whole_gives Γ p q ps qs (a.forth Γ j.0) (b.forth Γ j.1);
   back = λ Γ h. let j = and_parts (types_kept p Γ) (all_types_kept ps Γ) h in whole_gives Γ q p qs ps (a.back Γ j.0) (b.back Γ j.1);
   bits = λ n. let h = a.bits n in let k = b.bits n in omega (arith, h, k);
-  weighs = let h = a.weighs in let k = b.weighs in omega (arith, h, k);
 }
 
 pub arranged_par : (xs ys : List Proc) → Pairwise IsPart xs ys → IsArranged (par (trees xs)) (par (trees ys))
@@ -144,7 +108,6 @@ choice_gives : (Γ : Environment) (e : Exp) (m m' n n' : Meaning) → Gives Γ m
 choice_gives Γ e m m' n n' hm hn = record { gives = λ s t o d. both (is_true Γ e s) (λ h. hm.gives s t o h) (λ h. hn.gives s t o h) d }
 
 choice_more : (e : Exp) (p q : Tree) (cs ds : Cases) → IsArranged p q → IsArranged (select cs) (select ds) → IsArranged (select (and_case e p cs)) (select (and_case e q ds))
-unfolding weight weight_of_cases
 choice_more e p q cs ds a b = record {
   types = λ Γ h.
       let j = and_three (is_condition Γ e) (types_kept p Γ) (cases_kept cs Γ) h in
@@ -156,7 +119,6 @@ choice_more e p q cs ds a b = record {
       let j = and_three (is_condition Γ e) (types_kept p Γ) (cases_kept cs Γ) h in
       choice_gives Γ e (meaning q) (meaning p) (first_choice ds) (first_choice cs) (a.back Γ j.1) (b.back Γ j.2);
   bits = λ n. let h = a.bits n in let k = b.bits n in omega (arith, h, k);
-  weighs = let h = a.weighs in let k = b.weighs in omega (arith, h, k);
 }
 
 pub arranged_if : (xs ys : List (Expr × Proc)) → Pairwise IsChoice xs ys → IsArranged (select (cases xs)) (select (cases ys))
@@ -220,19 +182,12 @@ branches_bits : (xs ys : List (Guard × Proc)) → Pairwise IsBranch xs ys → (
 branches_bits xs ys no_items n = omega arith
 branches_bits xs ys (and_item {x} {y} {xs = us} {ys = vs} a rest) n = let h = a.2.bits n in let k = branches_bits us vs rest n in omega (arith, h, k)
 
-branches_weigh : (xs ys : List (Guard × Proc)) → Pairwise IsBranch xs ys → weight_of_branches (branches ys) ≤ weight_of_branches (branches xs)
-unfolding weight_of_branches
-branches_weigh xs ys no_items = omega arith
-branches_weigh xs ys (and_item {x} {y} {xs = us} {ys = vs} a rest) = let h = a.2.weighs in let k = branches_weigh us vs rest in omega (arith, h, k)
-
 pub arranged_alt : (xs ys : List (Guard × Proc)) → Pairwise IsBranch xs ys → IsArranged (alt (branches xs)) (alt (branches ys))
-unfolding weight
 arranged_alt xs ys a = record {
   types = λ Γ h. branches_types Γ xs ys a h;
   forth = λ Γ h. record { gives = alternates_give Γ (guards (branches xs)) (guards (branches ys)) (guards_forth Γ xs ys h a) };
   back = λ Γ h. record { gives = alternates_give Γ (guards (branches ys)) (guards (branches xs)) (guards_back Γ xs ys h a) };
   bits = λ n. branches_bits xs ys a n;
-  weighs = let h = branches_weigh xs ys a in omega (arith, h);
 }
 
 -- ---- lists that grow at their ends

@@ -1,7 +1,7 @@
 pub mod LastPart
-pub mod Listed
 pub mod Elsewhere
 pub mod Congruent
+pub mod Reshaped
 pub mod Spreading
 pub mod Noting
 pub mod Alike

@@ -14,62 +14,14 @@ use Rattle.occ_syntax.specs.declared.expr.Guard.{Guard}
 use Rattle.occ_syntax.specs.declared.proc.Proc.{Proc}
 use Rattle.occ_syntax.specs.declared.scope.Kind.{Kind}
 use Rattle.occ_syntax.specs.declared.scope.Kind.TheVariants.{Chan, Var}
-use Rattle.occ_norm_flatten.specs.Declares.{Notes, branches_declare, cases_declare, declares, some_declare}
+use Rattle.occ_norm_flatten.specs.Declares.{branches_declare, cases_declare, declares, some_declare}
 use Rattle.occ_norm_flatten.specs.Spread.{AreKnown}
+use Rattle.occ_norm_straight.specs.Notes.{Notes}
 
--- ---- what is noted so far, where g is what is left of f
-
-pub record Opened (before : List ℕ) (f : ℕ → Bool) (now : List ℕ) (g : ℕ → Bool) : Type 0 where
-  pub kept : (x : ℕ) → is_in now x ≡ false → is_in before x ≡ false
-  pub left : (x : ℕ) → is_in now x ≡ false → g x ≡ false → f x ≡ false
-
-pub opened_first : (before : List ℕ) (f : ℕ → Bool) → Opened before f before f
-opened_first before f = record { kept = λ x h. h; left = λ x h k. k }
-
-pub opened_next : (before : List ℕ) (f : ℕ → Bool) (now : List ℕ) (g : ℕ → Bool) (later : List ℕ) (h r : ℕ → Bool) → Opened before f now g → Notes now h later
-    → ((x : ℕ) → g x ≡ (h x || r x)) → Opened before f later r
-opened_next before f now g later h r o n e = record {
-  kept = λ x k. o.kept x (n.kept x k);
-  left = λ x k l. o.left x (n.kept x k) (e x ∙ or_from (h x) (r x) (n.noted x k) l);
-}
-
-pub opened_done : (before : List ℕ) (f : ℕ → Bool) (now : List ℕ) (g : ℕ → Bool) → Opened before f now g → ((x : ℕ) → g x ≡ false) → Notes before f now
-opened_done before f now g o e = record { kept = o.kept; noted = λ x k. o.left x k (e x) }
-
-pub opened_last : (before : List ℕ) (f : ℕ → Bool) (now : List ℕ) (g : ℕ → Bool) (later : List ℕ) → Opened before f now g → Notes now g later → Notes before f later
-opened_last before f now g later o n = record {
-  kept = λ x k. o.kept x (n.kept x k);
-  noted = λ x k. o.left x (n.kept x k) (n.noted x k);
-}
+-- ---- a declaration
 
 pub notes_as : (before : List ℕ) (p q : Tree) (after : List ℕ) → p ≡ q → Notes before (declares q) after → Notes before (declares p) after
 notes_as before p q after e n = subst (λ r. Notes before (declares r) after) (sym e) n
-
--- ---- one name
-
-in_two : (xs : List ℕ) (n x : ℕ) → is_in (xs ++ n ∷ []) x ≡ false → (is_in xs x ≡ false) × ((x == n) ≡ false)
-in_two [] n x h = (refl, (or_parts (x == n) false h).0)
-in_two (y ∷ xs) n x h =
-    let j = or_parts (x == y) (is_in (xs ++ n ∷ []) x) h in
-    let k = in_two xs n x j.1 in (or_from (x == y) (is_in xs x) j.0 k.0, k.1)
-
-is_other : (xs : List ℕ) (n x : ℕ) → is_in xs n ≡ true → is_in xs x ≡ false → (x == n) ≡ false
-is_other xs n x h k = ⊎_elim
-    (λ (e : (x == n) ≡ true). clash (is_in xs n) h (ap (is_in xs) (sym (eqb-true x n e)) ∙ k))
-    (λ (e : (x == n) ≡ false). e)
-    (cases_Bool (x == n))
-
-one_noted : (xs : List ℕ) (n x : ℕ) → is_in (with_one same_number xs n) x ≡ false → (is_in xs x ≡ false) × ((x == n) ≡ false)
-one_noted xs n x h = ⊎_elim
-    (λ (e : is_in xs n ≡ true). (let k = sym (ap (λ ys. is_in ys x) (if_true (is_in xs n) xs (xs ++ n ∷ []) e)) ∙ h in (k, is_other xs n x e k)))
-    (λ (e : is_in xs n ≡ false). in_two xs n x (sym (ap (λ ys. is_in ys x) (if_false (is_in xs n) xs (xs ++ n ∷ []) e)) ∙ h))
-    (cases_Bool (is_in xs n))
-
-pub notes_one : (before : List ℕ) (n : ℕ) (now : List ℕ) → now ≡ with_one same_number before n → Notes before (λ x. x == n) now
-notes_one before n now e = subst (λ xs. Notes before (λ x. x == n) xs) (sym e) (record {
-  kept = λ x h. (one_noted before n x h).0;
-  noted = λ x h. (one_noted before n x h).1;
-})
 
 pub declares_declaring : (n : ℕ) (k : Kind) (p : Tree) (x : ℕ) → declares (declaring n k p) x ≡ (x == n || declares p x)
 declares_declaring n (Var w) p x = refl

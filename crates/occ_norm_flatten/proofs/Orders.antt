@@ -5,8 +5,8 @@ use Rattle.occ_base.specs.declared.names.Name.{Name}
 use Rattle.occ_meaning.proofs.Beside.{gives_through}
 use Rattle.occ_meaning.proofs.Parts.{apart_reordered, reordered_back, reordered_gives, types_reordered}
 use Rattle.occ_meaning.specs.Parallel.{EachWritesApart, Reordered, all_of, as_they_are, behind_first, first_two, in_steps, one}
-use Rattle.occ_norm_flatten.proofs.Congruent.{arranged_within}
-use Rattle.occ_norm_flatten.proofs.Listed.{all_of_none, all_of_three, trees_both, trees_pushed}
+use Rattle.occ_norm_straight.proofs.Itself.{arranged_steps}
+use Rattle.occ_norm_straight.proofs.Listed.{all_of_none, all_of_three, trees_both, trees_pushed}
 use Rattle.occ_syntax.proofs.Weights.{weight, weight_of_all}
 use Rattle.occ_syntax.specs.Counts.{most_bits, most_bits_of_all}
 use Rattle.occ_syntax.specs.Declarations.{declaring_all}
@@ -15,7 +15,7 @@ use Rattle.occ_syntax.specs.Tree.{Tree, Trees, and_tree, no_tree, par}
 use Rattle.occ_syntax.specs.View.{tree, trees}
 use Rattle.occ_syntax.specs.declared.proc.Proc.{Proc}
 use Rattle.occ_syntax.specs.declared.scope.Kind.{Kind}
-use Rattle.occ_norm_flatten.specs.Arranged.{AreArranged, IsArranged}
+use Rattle.occ_norm_flatten.specs.Arranged.{AreArranged}
 
 -- ---- one part is taken out of a list
 
@@ -63,32 +63,18 @@ weight_reordered ps qs (in_steps {ps = us} {qs = vs} {rs = ws} r1 r2) = weight_r
 
 -- parts that do the same, and then in another order
 pub arranged_from : (ps rs qs : Trees) → AreArranged ps rs → EachWritesApart rs → Reordered rs qs → AreArranged ps qs
+unfolding weight
 arranged_from ps rs qs a apart r = record {
-  types = λ Γ t. types_reordered Γ rs qs r (a.types Γ t);
-  forth = λ Γ t. gives_through Γ (at_the_same_time ps) (at_the_same_time rs) (at_the_same_time qs) (a.forth Γ t) (reordered_gives Γ rs qs r (a.types Γ t) apart);
-  back = λ Γ t. gives_through Γ (at_the_same_time qs) (at_the_same_time rs) (at_the_same_time ps)
-      (reordered_gives Γ qs rs (reordered_back rs qs r) (types_reordered Γ rs qs r (a.types Γ t)) (apart_reordered rs qs r apart)) (a.back Γ t);
-  bits = λ n. let e = bits_reordered rs qs r n in let h = a.bits n in omega (arith, e, h);
+  arranged = arranged_steps (par ps) (par rs) (par qs) a.arranged (record {
+    types = λ Γ t. types_reordered Γ rs qs r t;
+    forth = λ Γ t. reordered_gives Γ rs qs r t apart;
+    back = λ Γ t. reordered_gives Γ qs rs (reordered_back rs qs r) (types_reordered Γ rs qs r t) (apart_reordered rs qs r apart);
+    bits = λ n. let e = bits_reordered rs qs r n in omega (arith, e);
+  });
   weighs = let e = weight_reordered rs qs r in let h = a.weighs in omega (arith, e, h);
 }
-
--- ---- within declarations
-
-pub arranged_round : (ds : List (Name × Kind)) (ps qs : Trees) (p q : Tree) → p ≡ declaring_all ds (par ps) → q ≡ declaring_all ds (par qs) → AreArranged ps qs → IsArranged p q
-unfolding weight
-arranged_round ds ps qs p q e f a = arranged_within ds (par ps) (par qs) p q e f (record {
-  types = a.types;
-  forth = a.forth;
-  back = a.back;
-  bits = a.bits;
-  weighs = let h = a.weighs in omega (arith, h);
-})
 
 -- no part is left
 pub none_left : (ps : Trees) (sorted rest : List Proc) → length rest ≡ 0 → Reordered ps (all_of (trees sorted) (trees rest)) → Reordered ps (trees sorted)
 none_left ps sorted [] h r = subst (λ qs. Reordered ps qs) (all_of_none (trees sorted)) r
 none_left ps sorted (x ∷ rest) h r = absurd (omega (arith, h))
-
--- what is found is as all that can be found
-pub found_is : {X : Type 0} (o : Option X) (x : X) (P : X → Type 0) → o ≡ Some x → IfSome o P → P x
-found_is o x P e h = subst (λ r. IfSome r P) e h

@@ -10,6 +10,7 @@ use Rattle.occ_syntax.specs.Names.{is_in, written, written_in_some}
 use Rattle.occ_syntax.specs.Tree.{Tree, Trees, and_tree}
 use Rattle.occ_syntax.specs.View.{numbers, tree, trees}
 use Rattle.occ_syntax.specs.declared.proc.Proc.{Proc}
+use Rattle.occ_norm_straight.proofs.Noting.{none_among}
 
 -- ---- what is left of a list
 
@@ -40,16 +41,6 @@ in_both : (xs ys : List Name) (x : ℕ) → is_in (numbers (xs ++ ys)) x ≡ (is
 in_both [] ys x = refl
 in_both (n ∷ xs) ys x = ap (λ b. (x == n.0) || b) (in_both xs ys x) ∙ sym (or_three (x == n.0) (is_in (numbers xs) x) (is_in (numbers ys) x))
 
--- none of the names is among the others
-none_among : (names others : List Name) → list_any (λ (n : Name). is_in (numbers others) n.0) names ≡ false → (x : ℕ) → is_in (numbers names) x ≡ true → is_in (numbers others) x ≡ false
-none_among [] others h x k = absurd (false≢true k)
-none_among (n ∷ names) others h x k =
-    let parted = or_parts (is_in (numbers others) n.0) (list_any (λ (m : Name). is_in (numbers others) m.0) names) h in
-    ⊎_elim
-    (λ (e : (x == n.0) ≡ true). ap (λ y. is_in (numbers others) y) (eqb-true x n.0 e) ∙ parted.0)
-    (λ (e : (x == n.0) ≡ false). none_among names others parted.1 x (sym (ap (λ b. b || is_in (numbers names) x) e) ∙ k))
-    (cases_Bool (x == n.0))
-
 -- whether a name is among some, in other words
 pub names_there : (names : List Name) (n : Name) → list_any (λ (k : Name). k.0 == n.0) names ≡ is_in (numbers names) n.0
 names_there [] n = refl
@@ -67,7 +58,7 @@ pub later_more : (later names known found both : List Name) (p : Tree) (ps qs : 
 later_more later names known found both p ps qs k f a w none e g = subst (λ rs. AreLater both rs) (sym g) (record {
   apart = (
     λ x. ⊎_elim
-        (λ (t : written p x ≡ true). inr (sym (a.names x) ∙ ap (λ ns. is_in (numbers ns) x) (sym k) ∙ none_among found known none x (ap (λ ns. is_in (numbers ns) x) f ∙ w x ∙ t)))
+        (λ (t : written p x ≡ true). inr (sym (a.names x) ∙ ap (λ ns. is_in (numbers ns) x) (sym k) ∙ none_among found (numbers known) none x (ap (λ ns. is_in (numbers ns) x) f ∙ w x ∙ t)))
         (λ (t : written p x ≡ false). inl t)
         (cases_Bool (written p x)),
     a.apart,

@@ -18,36 +18,16 @@ use Rattle.occ_syntax.specs.Tree.{Tree, Trees, and_tree, connect, no_tree, par}
 use Rattle.occ_syntax.specs.Types.{all_types_kept, can_declare, is_width, types_kept}
 use Rattle.occ_syntax.specs.declared.scope.Kind.{Kind}
 use Rattle.occ_syntax.specs.declared.scope.Kind.TheVariants.{Chan}
-use Rattle.occ_norm_flatten.proofs.Congruent.{arranged_all, arranged_itself, arranged_steps}
+use Rattle.occ_norm_flatten.proofs.Reshaped.{reshaped_all, reshaped_itself, reshaped_steps}
+use Rattle.occ_norm_straight.proofs.Itself.{all_at_least, bits_of_both, types_of_all, types_of_both}
 use Rattle.occ_norm_flatten.proofs.Elsewhere.{types_beside}
 use Rattle.occ_norm_flatten.proofs.LastPart.{channel_of_last_in, channel_of_last_out}
-use Rattle.occ_norm_flatten.proofs.Listed.{all_of_three}
-use Rattle.occ_norm_flatten.specs.Arranged.{IsArranged}
+use Rattle.occ_norm_straight.proofs.Listed.{all_of_three}
+use Rattle.occ_norm_flatten.specs.Arranged.{IsReshaped}
 use Rattle.occ_norm_flatten.specs.Declares.{some_declare}
 use Rattle.occ_norm_flatten.specs.Spread.{IsNext, channel, parts, spread}
 
--- ---- lists of parts
-
-pub types_of_all : (ps qs : Trees) (Γ : Environment) → all_types_kept (all_of ps qs) Γ ≡ true → (all_types_kept ps Γ ≡ true) × (all_types_kept qs Γ ≡ true)
-types_of_all no_tree qs Γ h = (refl, h)
-types_of_all (and_tree p ps) qs Γ h =
-    let one = and_parts (types_kept p Γ) (all_types_kept (all_of ps qs) Γ) h in
-    let more = types_of_all ps qs Γ one.1 in (and_from (types_kept p Γ) (all_types_kept ps Γ) one.0 more.0, more.1)
-
-pub types_of_both : (ps qs : Trees) (Γ : Environment) → all_types_kept ps Γ ≡ true → all_types_kept qs Γ ≡ true → all_types_kept (all_of ps qs) Γ ≡ true
-types_of_both no_tree qs Γ h k = k
-types_of_both (and_tree p ps) qs Γ h k =
-    let one = and_parts (types_kept p Γ) (all_types_kept ps Γ) h in and_from (types_kept p Γ) (all_types_kept (all_of ps qs) Γ) one.0 (types_of_both ps qs Γ one.1 k)
-
--- ---- bits
-
-pub all_at_least : (ps : Trees) (n : ℕ) → n ≤ most_bits_of_all ps n
-all_at_least no_tree n = omega arith
-all_at_least (and_tree p ps) n = let h = all_at_least ps n in omega (arith, h)
-
-pub bits_of_both : (ps qs : Trees) (n : ℕ) → most_bits_of_all (all_of ps qs) n ≡ max (most_bits_of_all ps n) (most_bits_of_all qs n)
-bits_of_both no_tree qs n = let h = all_at_least qs n in omega (arith, h)
-bits_of_both (and_tree p ps) qs n = let h = bits_of_both ps qs n in omega (arith, h)
+-- ---- weights
 
 pub weight_of_both : (ps qs : Trees) → weight_of_all (all_of ps qs) ≡ weight_of_all ps + weight_of_all qs
 unfolding weight_of_all
@@ -98,15 +78,17 @@ module _ (ps : Trees) (c : ℕ) (w : Width) (last : Tree) (unheard : some_declar
   unfolding inner outer
   moved_out Γ h = channel_of_last_out Γ c w ps last Γ (parted Γ h).0 (unused Γ h)
 
-  channel_moved : IsArranged outer (connect c w inner)
+  channel_moved : IsReshaped outer (connect c w inner)
   unfolding inner outer weight weight_of_all
   channel_moved = record {
-    types = moved_types;
-    forth = moved_in;
-    back = moved_out;
-    bits = λ n.
-        let e = bits_of_both ps (and_tree last no_tree) n in
-        let f = bits_of_both ps (and_tree (connect c w last) no_tree) n in omega (arith, e, f);
+    arranged = record {
+      types = moved_types;
+      forth = moved_in;
+      back = moved_out;
+      bits = λ n.
+          let e = bits_of_both ps (and_tree last no_tree) n in
+          let f = bits_of_both ps (and_tree (connect c w last) no_tree) n in omega (arith, e, f);
+    };
     weighs =
         let e = weight_of_both ps (and_tree last no_tree) in
         let f = weight_of_both ps (and_tree (connect c w last) no_tree) in omega (arith, e, f);
@@ -114,11 +96,11 @@ module _ (ps : Trees) (c : ℕ) (w : Width) (last : Tree) (unheard : some_declar
 
 -- the channel stands behind the other declarations then
 channel_spread : (ds : List (Name × Kind)) (ps : Trees) (c : Name) (w : Width) (last : Tree) → some_declare ps c.0 ≡ false
-    → IsArranged (spread ds ps (connect c.0 w last)) (spread (ds ++ (c, Chan w None) ∷ []) ps last)
+    → IsReshaped (spread ds ps (connect c.0 w last)) (spread (ds ++ (c, Chan w None) ∷ []) ps last)
 unfolding inner outer
 channel_spread ds ps c w last unheard =
-    subst (λ q. IsArranged (spread ds ps (connect c.0 w last)) q) (sym (declaring_all-append ds (c, Chan w None) (inner ps c.0 w last unheard)))
-    (arranged_all ds (outer ps c.0 w last unheard) (connect c.0 w (inner ps c.0 w last unheard)) (channel_moved ps c.0 w last unheard))
+    subst (λ q. IsReshaped (spread ds ps (connect c.0 w last)) q) (sym (declaring_all-append ds (c, Chan w None) (inner ps c.0 w last unheard)))
+    (reshaped_all ds (outer ps c.0 w last unheard) (connect c.0 w (inner ps c.0 w last unheard)) (channel_moved ps c.0 w last unheard))
 
 -- ---- a PAR
 
@@ -129,51 +111,53 @@ module _ (ps rs : Trees) where
   opened : Tree
   opened = par (all_of ps rs)
 
-  par_opened : IsArranged nested opened
+  par_opened : IsReshaped nested opened
   unfolding nested opened weight weight_of_all
   par_opened = record {
-    types = λ Γ h.
-        let j = types_of_all ps (and_tree (par rs) no_tree) Γ h in types_of_both ps rs Γ j.0 (and_parts (all_types_kept rs Γ) true j.1).0;
-    forth = λ Γ h. behind Γ ps (and_tree (par rs) no_tree) rs (gives_itself Γ (at_the_same_time rs));
-    back = λ Γ h. behind Γ ps rs (and_tree (par rs) no_tree) (gives_itself Γ (at_the_same_time rs));
-    bits = λ n.
-        let f = bits_of_both ps rs n in
-        let g = bits_of_both ps (and_tree (par rs) no_tree) n in
-        let h = all_at_least rs n in omega (arith, f, g, h);
+    arranged = record {
+      types = λ Γ h.
+          let j = types_of_all ps (and_tree (par rs) no_tree) Γ h in types_of_both ps rs Γ j.0 (and_parts (all_types_kept rs Γ) true j.1).0;
+      forth = λ Γ h. behind Γ ps (and_tree (par rs) no_tree) rs (gives_itself Γ (at_the_same_time rs));
+      back = λ Γ h. behind Γ ps rs (and_tree (par rs) no_tree) (gives_itself Γ (at_the_same_time rs));
+      bits = λ n.
+          let f = bits_of_both ps rs n in
+          let g = bits_of_both ps (and_tree (par rs) no_tree) n in
+          let h = all_at_least rs n in omega (arith, f, g, h);
+    };
     weighs =
         let f = weight_of_both ps rs in
         let g = weight_of_both ps (and_tree (par rs) no_tree) in omega (arith, f, g);
   }
 
-parts_spread : (ds : List (Name × Kind)) (ps qs : Trees) (last : Tree) → IsArranged (spread ds ps (par (all_of qs (and_tree last no_tree)))) (spread ds (all_of ps qs) last)
+parts_spread : (ds : List (Name × Kind)) (ps qs : Trees) (last : Tree) → IsReshaped (spread ds ps (par (all_of qs (and_tree last no_tree)))) (spread ds (all_of ps qs) last)
 unfolding nested opened
 parts_spread ds ps qs last =
-    subst (λ q. IsArranged (spread ds ps (par (all_of qs (and_tree last no_tree)))) (declaring_all ds (par q))) (all_of_three ps qs (and_tree last no_tree))
-    (arranged_all ds (nested ps (all_of qs (and_tree last no_tree))) (opened ps (all_of qs (and_tree last no_tree))) (par_opened ps (all_of qs (and_tree last no_tree))))
+    subst (λ q. IsReshaped (spread ds ps (par (all_of qs (and_tree last no_tree)))) (declaring_all ds (par q))) (all_of_three ps qs (and_tree last no_tree))
+    (reshaped_all ds (nested ps (all_of qs (and_tree last no_tree))) (opened ps (all_of qs (and_tree last no_tree))) (par_opened ps (all_of qs (and_tree last no_tree))))
 
 -- ---- the beginning, and a step
 
 pub spread_first : (ps : Trees) (ds : List (Name × Kind)) (qs front : Trees) (last : Tree) → ps ≡ all_of front (and_tree last no_tree) → ds ≡ [] → qs ≡ front
-    → IsArranged (par ps) (spread ds qs last)
+    → IsReshaped (par ps) (spread ds qs last)
 spread_first ps ds qs front last e f g =
-    subst (λ es. IsArranged (par ps) (spread es qs last)) (sym f)
-    (subst (λ rs. IsArranged (par ps) (spread [] rs last)) (sym g)
-    (subst (λ rs. IsArranged (par rs) (spread [] front last)) (sym e) (arranged_itself (spread [] front last))))
+    subst (λ es. IsReshaped (par ps) (spread es qs last)) (sym f)
+    (subst (λ rs. IsReshaped (par ps) (spread [] rs last)) (sym g)
+    (subst (λ rs. IsReshaped (par rs) (spread [] front last)) (sym e) (reshaped_itself (spread [] front last))))
 
 step_spread : (ds : List (Name × Kind)) (ps : Trees) (last : Tree) (ds' : List (Name × Kind)) (ps' : Trees) (last' : Tree)
-    → IsNext ds ps last ds' ps' last' → IsArranged (spread ds ps last) (spread ds' ps' last')
+    → IsNext ds ps last ds' ps' last' → IsReshaped (spread ds ps last) (spread ds' ps' last')
 step_spread ds ps last ds' ps' last' (channel c w unheard e f g) =
-    subst (λ b. IsArranged (spread ds ps b) (spread ds' ps' last')) (sym e)
-    (subst (λ es. IsArranged (spread ds ps (connect c.0 w last')) (spread es ps' last')) (sym f)
-    (subst (λ qs. IsArranged (spread ds ps (connect c.0 w last')) (spread (ds ++ (c, Chan w None) ∷ []) qs last')) (sym g) (channel_spread ds ps c w last' unheard)))
+    subst (λ b. IsReshaped (spread ds ps b) (spread ds' ps' last')) (sym e)
+    (subst (λ es. IsReshaped (spread ds ps (connect c.0 w last')) (spread es ps' last')) (sym f)
+    (subst (λ qs. IsReshaped (spread ds ps (connect c.0 w last')) (spread (ds ++ (c, Chan w None) ∷ []) qs last')) (sym g) (channel_spread ds ps c w last' unheard)))
 step_spread ds ps last ds' ps' last' (parts qs e f g) =
-    subst (λ b. IsArranged (spread ds ps b) (spread ds' ps' last')) (sym e)
-    (subst (λ es. IsArranged (spread ds ps (par (all_of qs (and_tree last' no_tree)))) (spread es ps' last')) (sym g)
-    (subst (λ rs. IsArranged (spread ds ps (par (all_of qs (and_tree last' no_tree)))) (spread ds rs last')) (sym f) (parts_spread ds ps qs last')))
+    subst (λ b. IsReshaped (spread ds ps b) (spread ds' ps' last')) (sym e)
+    (subst (λ es. IsReshaped (spread ds ps (par (all_of qs (and_tree last' no_tree)))) (spread es ps' last')) (sym g)
+    (subst (λ rs. IsReshaped (spread ds ps (par (all_of qs (and_tree last' no_tree)))) (spread ds rs last')) (sym f) (parts_spread ds ps qs last')))
 
 pub spread_next : (p : Tree) (ds : List (Name × Kind)) (ps : Trees) (last : Tree) (ds' : List (Name × Kind)) (ps' : Trees) (last' : Tree)
-    → IsArranged p (spread ds ps last) → IsNext ds ps last ds' ps' last' → IsArranged p (spread ds' ps' last')
-spread_next p ds ps last ds' ps' last' s n = arranged_steps p (spread ds ps last) (spread ds' ps' last') s (step_spread ds ps last ds' ps' last' n)
+    → IsReshaped p (spread ds ps last) → IsNext ds ps last ds' ps' last' → IsReshaped p (spread ds' ps' last')
+spread_next p ds ps last ds' ps' last' s n = reshaped_steps p (spread ds ps last) (spread ds' ps' last') s (step_spread ds ps last ds' ps' last' n)
 
 -- ---- each step leaves a smaller last part
 

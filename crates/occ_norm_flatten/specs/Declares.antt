@@ -28,8 +28,3 @@ abbrev mutual
   pub branches_declare : Branches → ℕ → Bool
   branches_declare no_branch x = false
   branches_declare (and_branch e w p bs) x = declares p x || branches_declare bs x
-
--- all that was among the names is among them yet, and so is each name for which f holds
-pub record Notes (before : List ℕ) (f : ℕ → Bool) (after : List ℕ) : Type 0 where
-  pub kept : (x : ℕ) → is_in after x ≡ false → is_in before x ≡ false
-  pub noted : (x : ℕ) → is_in after x ≡ false → f x ≡ false

@@ -1,7 +1,8 @@
 ghost use Rattle.std.specs.Prelude.{◌≡◌, OnOk, false};
 ghost use Rattle.occ_syntax.specs.Declarations.{is_declaration};
 ghost use Rattle.occ_syntax.specs.View.{branches, cases, tree, trees};
-ghost use Rattle.occ_norm_flatten.specs.Declares.{Notes, branches_declare, cases_declare, declares, some_declare};
+ghost use Rattle.occ_norm_straight.specs.Notes.{Notes};
+ghost use Rattle.occ_norm_flatten.specs.Declares.{branches_declare, cases_declare, declares, some_declare};
 
 use occ_base::Memory;
 use occ_names::NameSet;

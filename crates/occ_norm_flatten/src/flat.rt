@@ -2,7 +2,7 @@ ghost use Rattle.std.specs.Prelude.{◌≡◌, IfOk, IfSome, MatchOption, OnOk};
 ghost use Rattle.occ_meaning.specs.Parallel.{all_of};
 ghost use Rattle.occ_syntax.specs.Tree.{par};
 ghost use Rattle.occ_syntax.specs.View.{in_procs, tree, trees};
-ghost use Rattle.occ_norm_flatten.specs.Arranged.{IsArranged};
+ghost use Rattle.occ_norm_flatten.specs.Arranged.{IsReshaped};
 ghost use Rattle.occ_norm_flatten.specs.Spread.{AreKnown, IsNext, spread};
 
 use crate::declared::note_declared;
@@ -103,7 +103,7 @@ fn has_nested(parts: &[Proc]) -> bool {
 
 // The PAR of parts with one PAR in the place of those in its last part, if there are any.
 fn flat(alloc: Global, parts: &[Proc]) -> Result<Option<Proc>, Memory>
-    ensures { IfOk result (λ found. IfSome found (λ flat. IsArranged (par (trees parts.now)) (tree flat))) }
+    ensures { IfOk result (λ found. IfSome found (λ flat. IsReshaped (par (trees parts.now)) (tree flat))) }
 {
     if parts.is_empty() {
         return Ok(None);
@@ -133,7 +133,7 @@ fn flat(alloc: Global, parts: &[Proc]) -> Result<Option<Proc>, Memory>
 /// declarations is no PAR in whose last part a PAR stands so. A channel whose name is declared in a part beside it stays where
 /// it is.
 pub fn last_flattened(alloc: Global, part: &Proc) -> Result<Option<Proc>, Memory>
-    ensures { IfOk result (λ found. IfSome found (λ flat. IsArranged (tree part.now) (tree flat))) }
+    ensures { IfOk result (λ found. IfSome found (λ flat. IsReshaped (tree part.now) (tree flat))) }
 {
     let mut declarations = Scope::new(alloc);
     let mut body = part;

@@ -1,6 +1,7 @@
 ghost use Rattle.std.specs.Prelude.{◌≡◌, ◌∷◌, ◌++◌, [], IfOk, IfSome};
 ghost use Rattle.occ_syntax.specs.View.{in_alternatives, in_choices, in_procs, tree};
-ghost use Rattle.occ_norm_flatten.specs.Arranged.{IsArranged, IsBranch, IsChoice, IsPart, Pairwise};
+ghost use Rattle.occ_norm_straight.specs.Arranged.{IsArranged};
+ghost use Rattle.occ_norm_flatten.specs.Arranged.{IsBranch, IsChoice, IsPart, Pairwise};
 
 use occ_base::Memory;
 use occ_syntax::{Alternatives, Choices, Expr, Guard, Proc, Procs};

@@ -1,7 +1,7 @@
 ghost use Rattle.std.specs.Prelude.{◌<◌, ◌+◌, ◌≡◌, IfOk, IfSome, OnOk, length};
 ghost use Rattle.occ_meaning.specs.Parallel.{Reordered, all_of, one};
 ghost use Rattle.occ_syntax.specs.View.{in_procs, tree, trees};
-ghost use Rattle.occ_norm_flatten.specs.Arranged.{AddsAll, AreArranged, IsArranged};
+ghost use Rattle.occ_norm_flatten.specs.Arranged.{AddsAll, AreArranged, IsReshaped};
 
 use crate::apart::write_apart;
 use crate::flat::last_flattened;
@@ -131,7 +131,7 @@ fn rearranged(alloc: Global, parts: &[Proc]) -> Result<Option<Procs>, Memory>
 // The process with the parts of its PAR arranged, perhaps within declarations. None where it is no such PAR, or the parts stand
 // so already.
 fn arranged(alloc: Global, part: &Proc) -> Result<Option<Proc>, Memory>
-    ensures { IfOk result (λ found. IfSome found (λ other. IsArranged (tree part.now) (tree other))) }
+    ensures { IfOk result (λ found. IfSome found (λ other. IsReshaped (tree part.now) (tree other))) }
 {
     let mut declarations = Scope::new(alloc);
     let mut body = part;
@@ -154,7 +154,7 @@ fn arranged(alloc: Global, part: &Proc) -> Result<Option<Proc>, Memory>
 /// those that share channels are close together, if they write different variables. None where the process within its own
 /// declarations is no PAR, or its parts stand so already.
 pub fn body_arranged(alloc: Global, part: &Proc) -> Result<Option<Proc>, Memory>
-    ensures { IfOk result (λ found. IfSome found (λ other. IsArranged (tree part.now) (tree other))) }
+    ensures { IfOk result (λ found. IfSome found (λ other. IsReshaped (tree part.now) (tree other))) }
 {
     let Some(flat) = last_flattened(alloc, part)? else {
         return arranged(alloc, part);

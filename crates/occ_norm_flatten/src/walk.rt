@@ -1,11 +1,13 @@
 ghost use Rattle.std.specs.Prelude.{◌≡◌, IfOk, IfSome};
 ghost use Rattle.occ_syntax.specs.View.{in_alternatives, in_choices, in_procs, tree};
-ghost use Rattle.occ_norm_flatten.specs.Arranged.{IsArranged, IsBranch, IsChoice, IsPart, Pairwise};
+ghost use Rattle.occ_norm_straight.specs.Arranged.{IsArranged};
+ghost use Rattle.occ_norm_flatten.specs.Arranged.{IsBranch, IsChoice, IsPart, Pairwise};
 ghost use Rattle.occ_norm_flatten.specs.Flat.{IsFlat};
 
 use crate::lists::{more_branches, more_choices, more_parts};
 use crate::order::body_arranged;
 use occ_base::Memory;
+use occ_norm_straight::sequenced;
 use occ_syntax::{Alternatives, Choices, Expr, Guard, Proc, Procs, Scope};
 use std::alloc::Global;
 
@@ -35,10 +37,24 @@ fn inside(alloc: Global, part: &Proc) -> Result<Option<Proc>, Memory>
         declarations.push((name, kind))?;
         body = inner;
     }
-    let Some(other) = inside_body(alloc, body)? else {
+    let Some(other) = inside_and_front(alloc, body)? else {
         return Ok(None);
     };
     let whole = other.within(alloc, declarations.items())?;
+    Ok(Some(whole))
+}
+
+// The same of a process that isn't a declaration, and then the straight parts of that one in front of it.
+#[cycle(walk)]
+fn inside_and_front(alloc: Global, part: &Proc) -> Result<Option<Proc>, Memory>
+    ensures { IfOk result (λ found. IfSome found (λ other. IsArranged (tree part.now) (tree other))) }
+{
+    let Some(inner) = inside_body(alloc, part)? else {
+        return sequenced(alloc, part);
+    };
+    let Some(whole) = sequenced(alloc, &inner)? else {
+        return Ok(Some(inner));
+    };
     Ok(Some(whole))
 }
 

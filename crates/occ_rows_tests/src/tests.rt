@@ -6,3 +6,4 @@ mod follow;
 mod mdd;
 mod node;
 mod norm_flatten;
+mod norm_straight;

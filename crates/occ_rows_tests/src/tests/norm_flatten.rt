@@ -15,9 +15,9 @@ fn beside(alloc: Global, first: Proc, second: Proc) -> Result<Procs, Memory> {
 #[test]
 fn a_par_within_a_channel_in_a_par_is_one(rt: HostRuntime) -> Result<(), Memory> {
     let alloc = rt.alloc();
-    let inner = Proc::Par(beside(alloc, Proc::Skip, Proc::Stop)?).declare(alloc, Name(0), CHAN)?;
+    let inner = Proc::Par(beside(alloc, Proc::Stop, Proc::Stop)?).declare(alloc, Name(0), CHAN)?;
     let nested = Proc::Par(beside(alloc, Proc::Stop, inner)?).declare(alloc, Name(1), CHAN)?;
-    let mut parts = beside(alloc, Proc::Stop, Proc::Skip)?;
+    let mut parts = beside(alloc, Proc::Stop, Proc::Stop)?;
     parts.push(Proc::Stop)?;
     let one = Proc::Par(parts).declare(alloc, Name(0), CHAN)?;
     let wanted = one.declare(alloc, Name(1), CHAN)?;
@@ -33,7 +33,7 @@ fn a_par_within_a_channel_in_a_par_is_one(rt: HostRuntime) -> Result<(), Memory>
 fn a_channel_that_is_declared_beside_its_par_stays(rt: HostRuntime) -> Result<(), Memory> {
     let alloc = rt.alloc();
     let first = Proc::Skip.declare(alloc, Name(0), CHAN)?;
-    let last = Proc::Par(beside(alloc, Proc::Skip, Proc::Stop)?).declare(alloc, Name(0), CHAN)?;
+    let last = Proc::Par(beside(alloc, Proc::Stop, Proc::Stop)?).declare(alloc, Name(0), CHAN)?;
     let nested = Proc::Par(beside(alloc, first, last)?);
     assert!(rt; flattened(alloc, &nested)?.is_none());
     Ok(())

@@ -6,7 +6,8 @@ use Rattle.occ_syntax.proofs.Weights.{weight, weight-alt, weight-par, weight-sel
 use Rattle.occ_syntax.specs.Tree.{alt, par, select, seq}
 use Rattle.occ_syntax.specs.View.{branches, cases, tree, trees}
 use Rattle.occ_norm_flatten.specs.Declares.{declares}
-use Rattle.occ_norm_flatten.proofs.Noting.{declares_declaring, next_branch, next_choice, next_part, no_branch, no_choice, no_part, notes_as, notes_one, opened_done, opened_first, opened_last, opened_next}
+use Rattle.occ_norm_straight.proofs.Noting.{notes_one, opened_done, opened_first, opened_last, opened_next}
+use Rattle.occ_norm_flatten.proofs.Noting.{declares_declaring, next_branch, next_choice, next_part, no_branch, no_choice, no_part, notes_as}
 use Rattle.occ_norm_flatten.proofs.declared.+note.Goals as goal
 
 pub note_declared-loop-name-init : goal.note_declared-loop-name-init

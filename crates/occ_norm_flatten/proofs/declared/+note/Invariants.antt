@@ -2,7 +2,7 @@ use Rattle.std.proofs.Common.{◌*◌, ◌+◌, ◌≤◌, drop}
 use Rattle.occ_syntax.proofs.Weights.{weight, weight_of_all, weight_of_branches, weight_of_cases}
 use Rattle.occ_syntax.specs.View.{branches, cases, tree, trees}
 use Rattle.occ_norm_flatten.specs.Declares.{branches_declare, cases_declare, declares, some_declare}
-use Rattle.occ_norm_flatten.proofs.Noting.{Opened}
+use Rattle.occ_norm_straight.proofs.Noting.{Opened}
 use Rattle.occ_norm_flatten.proofs.declared.+note.Given as goal
 
 abbrev pub decreases-note_declared : goal.decreases-note_declared

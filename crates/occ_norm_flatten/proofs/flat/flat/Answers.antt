@@ -3,8 +3,8 @@ use Rattle.std.proofs.lemmas.Option.{MatchOption-at_some, MatchOption-at_none}
 use Rattle.occ_meaning.specs.Parallel.{all_of}
 use Rattle.occ_syntax.specs.View.{in_procs, tree, trees}
 use Rattle.occ_norm_flatten.specs.Spread.{spread}
-use Rattle.occ_norm_flatten.proofs.Congruent.{arranged_copy}
-use Rattle.occ_norm_flatten.proofs.Listed.{last_place, trees_last}
+use Rattle.occ_norm_flatten.proofs.Reshaped.{reshaped_copy}
+use Rattle.occ_norm_straight.proofs.Listed.{last_place, trees_last}
 use Rattle.occ_norm_flatten.proofs.Noting.{known_none}
 use Rattle.occ_norm_flatten.proofs.Spreading.{next_smaller, spread_first, spread_next}
 use Rattle.occ_norm_flatten.proofs.flat.flat.Goals as goal
@@ -40,5 +40,5 @@ returns c =
     let before = c.loop-spread.spread in
     let last = tree c.loop-spread.last.now in
     let same = MatchOption-at_none _ _ c.in_default.is c.in_ok-next.ensures.next in
-    arranged_copy _ _ _ c.loop-spread.invariant.arranged
+    reshaped_copy _ _ _ c.loop-spread.invariant.arranged
     (c.in_ok-whole.ensures ∙ ap (λ ds. spread ds (trees (in_procs now.parts)) last) same.0 ∙ ap (λ ps. spread before.chans ps last) same.1)

@@ -1,7 +1,7 @@
 use Rattle.std.proofs.Common.{arith, ap, subst, sym, ◌∙◌}
 use Rattle.std.proofs.lemmas.Result.{on_ok_weaker}
 use Rattle.occ_meaning.specs.Parallel.{one}
-use Rattle.occ_norm_flatten.proofs.Listed.{trees_more, trees_pushed}
+use Rattle.occ_norm_straight.proofs.Listed.{trees_more, trees_pushed}
 use Rattle.occ_syntax.proofs.Views.{tree-Par}
 use Rattle.occ_syntax.proofs.Weights.{weight-par, weight_in_all}
 use Rattle.occ_syntax.specs.Tree.{par}

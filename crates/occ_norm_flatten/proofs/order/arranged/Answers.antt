@@ -6,7 +6,8 @@ use Rattle.occ_syntax.proofs.Within.{one_off}
 use Rattle.occ_syntax.specs.Declarations.{declaring_all}
 use Rattle.occ_syntax.specs.Tree.{par}
 use Rattle.occ_syntax.specs.View.{in_procs, tree, trees}
-use Rattle.occ_norm_flatten.proofs.Orders.{arranged_round, found_is}
+use Rattle.occ_norm_flatten.proofs.Reshaped.{reshaped_within}
+use Rattle.occ_norm_straight.proofs.Itself.{found_is}
 use Rattle.occ_norm_flatten.proofs.order.arranged.Goals as goal
 
 pub loop-name-smaller : goal.loop-name-smaller
@@ -18,7 +19,7 @@ loop-name-preserved c = one_off _ _ _ _ _ _ c.in_ok-push.ensures.ok c.in-Some.en
 pub returns : goal.returns
 returns c =
     let sorted = c.in-Some-2.sorted in
-    arranged_round c.loop-name.declarations (trees c.items.result.now) (trees (in_procs sorted)) (tree c.args.part.now) (tree c.in_ok-whole.whole)
+    reshaped_within c.loop-name.declarations (par (trees c.items.result.now)) (par (trees (in_procs sorted))) (tree c.args.part.now) (tree c.in_ok-whole.whole)
     (sym c.loop-name.invariant ∙ ap (declaring_all c.loop-name.declarations) (ap tree c.in-Par.is ∙ tree-Par c.in-Par.parts ∙ ap (λ ps. par (trees ps)) (sym c.items.ensures)))
     (c.in_ok-whole.ensures ∙ ap (declaring_all c.items-2.result.now) (tree-Par sorted) ∙ ap (λ ds. declaring_all ds (par (trees (in_procs sorted)))) c.items-2.ensures)
     (found_is c.in_ok-sorted.field-0 sorted _ c.in-Some-2.is c.in_ok-sorted.ensures)

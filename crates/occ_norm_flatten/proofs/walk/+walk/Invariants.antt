@@ -6,22 +6,25 @@ use Rattle.occ_norm_flatten.specs.Arranged.{IsBranch, IsChoice, IsPart, Pairwise
 use Rattle.occ_norm_flatten.proofs.walk.+walk.Given as goal
 
 abbrev pub decreases-everywhere : goal.decreases-everywhere
-decreases-everywhere l = 3 * weight (tree l.part.now) + 2
+decreases-everywhere l = 4 * weight (tree l.part.now) + 3
 
 abbrev pub decreases-inside : goal.decreases-inside
-decreases-inside l = 3 * weight (tree l.part.now) + 1
+decreases-inside l = 4 * weight (tree l.part.now) + 2
+
+abbrev pub decreases-inside_and_front : goal.decreases-inside_and_front
+decreases-inside_and_front l = 4 * weight (tree l.part.now) + 1
 
 abbrev pub decreases-inside_body : goal.decreases-inside_body
-decreases-inside_body l = 3 * weight (tree l.part.now)
+decreases-inside_body l = 4 * weight (tree l.part.now)
 
 abbrev pub decreases-parts_arranged : goal.decreases-parts_arranged
-decreases-parts_arranged l = 3 * weight_of_all (trees l.parts.now)
+decreases-parts_arranged l = 4 * weight_of_all (trees l.parts.now)
 
 abbrev pub decreases-choices_arranged : goal.decreases-choices_arranged
-decreases-choices_arranged l = 3 * weight_of_cases (cases l.choices.now)
+decreases-choices_arranged l = 4 * weight_of_cases (cases l.choices.now)
 
 abbrev pub decreases-branches_arranged : goal.decreases-branches_arranged
-decreases-branches_arranged l = 3 * weight_of_branches (branches l.alternatives.now)
+decreases-branches_arranged l = 4 * weight_of_branches (branches l.alternatives.now)
 
 -- the declarations so far, round the rest, are the whole
 abbrev pub invariant-inside-loop-name : goal.invariant-inside-loop-name

@@ -2,7 +2,7 @@ use Rattle.std.proofs.Common.{ap, refl, sym, ◌∙◌, take, length, ◌-◌}
 use Rattle.occ_syntax.proofs.Views.{tree-Par}
 use Rattle.occ_syntax.specs.Tree.{connect, par}
 use Rattle.occ_syntax.specs.View.{tree, trees}
-use Rattle.occ_norm_flatten.proofs.Listed.{last_place, trees_last}
+use Rattle.occ_norm_straight.proofs.Listed.{last_place, trees_last}
 use Rattle.occ_norm_flatten.specs.Spread.{channel, parts}
 use Rattle.occ_norm_flatten.proofs.flat.Spread.next.Goals as goal
 

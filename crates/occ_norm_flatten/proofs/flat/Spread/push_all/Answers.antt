@@ -1,5 +1,5 @@
 use Rattle.std.proofs.Common.{sym, refl}
-use Rattle.occ_norm_flatten.proofs.Listed.{all_of_none, copied_more, trees_pushed}
+use Rattle.occ_norm_straight.proofs.Listed.{all_of_none, copied_more, trees_pushed}
 use Rattle.occ_norm_flatten.proofs.Noting.{known_more}
 use Rattle.occ_norm_flatten.proofs.flat.Spread.push_all.Goals as goal
 

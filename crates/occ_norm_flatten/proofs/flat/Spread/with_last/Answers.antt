@@ -4,7 +4,7 @@ use Rattle.occ_syntax.proofs.Views.{tree-Par}
 use Rattle.occ_syntax.specs.Declarations.{declaring_all}
 use Rattle.occ_syntax.specs.Tree.{par}
 use Rattle.occ_syntax.specs.View.{trees, in_procs}
-use Rattle.occ_norm_flatten.proofs.Listed.{trees_pushed}
+use Rattle.occ_norm_straight.proofs.Listed.{trees_pushed}
 use Rattle.occ_norm_flatten.proofs.flat.Spread.with_last.Goals as goal
 
 pub returns : goal.returns

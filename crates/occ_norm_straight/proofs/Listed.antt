@@ -43,3 +43,9 @@ trees_last xs i x h e = ap trees (sym (take_all (i + 1) xs (omega (arith, h)))) 
 pub last_place : (xs : List Proc) → (length xs == 0) ≡ false → length xs - 1 + 1 ≡ length xs
 last_place [] h = absurd (cc)
 last_place (x ∷ xs) h = omega arith
+
+-- a list of one part
+pub trees_one : (xs : List Proc) (x y : Proc) → length xs ≡ 1 → x ≡ get_or xs 0 x → tree y ≡ tree x → trees xs ≡ and_tree (tree y) no_tree
+trees_one [] x y h e f = absurd (cc)
+trees_one (z ∷ []) x y h e f = ap (λ q. and_tree q no_tree) (sym (f ∙ ap tree e))
+trees_one (z ∷ w ∷ xs) x y h e f = absurd (omega (arith, h))

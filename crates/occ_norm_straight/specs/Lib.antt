@@ -1,0 +1,4 @@
+pub mod Arranged
+pub mod Straight
+pub mod Notes
+pub mod Split
