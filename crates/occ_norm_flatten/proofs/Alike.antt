@@ -1,8 +1,5 @@
 -- Parts of PARs in the place of these PARs.
-use Rattle.std.proofs.Common.{◌≡◌, true, sym, ap, ◌∙◌, subst, arith}
-use Rattle.std.proofs.lemmas.Bool.{and_parts}
-use Rattle.occ_meaning.proofs.Beside.{Gives, beside_gives, gives_itself, gives_through}
-use Rattle.occ_meaning.proofs.Parts.{all_of_beside, beside_all_of}
+use Rattle.std.proofs.Common.{◌≡◌, sym, ap, ◌∙◌, subst, arith}
 use Rattle.occ_meaning.specs.Parallel.{all_of, one}
 use Rattle.occ_norm_straight.proofs.Listed.{all_of_none, all_of_three}
 use Rattle.occ_norm_flatten.proofs.Reshaped.{reshaped_itself}
@@ -11,10 +8,7 @@ use Rattle.occ_norm_straight.proofs.Flat.{one_of_par}
 use Rattle.occ_norm_straight.proofs.Itself.{arranged_steps, both_arranged}
 use Rattle.occ_norm_flatten.specs.Arranged.{AddsAll, AreArranged}
 use Rattle.occ_syntax.proofs.Weights.{weight, weight_of_all}
-use Rattle.occ_syntax.specs.Meaning.{at_the_same_time, beside}
-use Rattle.occ_syntax.specs.Scopes.{Environment}
 use Rattle.occ_syntax.specs.Tree.{Tree, Trees, no_tree, par}
-use Rattle.occ_syntax.specs.Types.{all_types_kept}
 
 -- ---- parts that do the same
 

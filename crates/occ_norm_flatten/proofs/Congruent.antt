@@ -3,13 +3,11 @@ use Rattle.std.proofs.Common.{List, None, [], ap, arith, inl, inr, refl, subst, 
 use Rattle.std.proofs.lemmas.Bool.{and_from, and_parts}
 use Rattle.std.proofs.lemmas.List.{take_all, take_more}
 use Rattle.occ_base.specs.declared.names.Name.{Name}
-use Rattle.occ_meaning.proofs.Beside.{Gives, beside_gives, gives_itself, gives_through}
+use Rattle.occ_meaning.proofs.Beside.{Gives, beside_gives, gives_through}
 use Rattle.occ_meaning.proofs.Declared.{channel_gives, variable_gives}
 use Rattle.occ_meaning.proofs.Facts.{and_four, and_three, both}
 use Rattle.occ_meaning.proofs.Parts.{beside_whole, whole_beside}
 use Rattle.occ_meaning.proofs.Sequence.{followed_gives}
-use Rattle.occ_syntax.proofs.Counting.{weight-declaring}
-use Rattle.occ_syntax.proofs.Weights.{weight, weight_of_all, weight_of_branches, weight_of_cases}
 use Rattle.occ_syntax.proofs.Widest.{most_bits-declaring}
 use Rattle.occ_syntax.specs.Counts.{bits_of_kind, most_bits_of_branches}
 use Rattle.occ_syntax.specs.Declarations.{declaring, declaring_all}

@@ -1,12 +1,9 @@
 -- The names that parts declare, as they are collected.
-use Rattle.std.proofs.Common.{◌≡◌, ◌≤◌, ◌<◌, ◌+◌, ◌==◌, ◌||◌, ◌++◌, ℕ, Bool, true, false, List, [], ◌∷◌, drop, get_or, length, refl, sym, ap, ◌∙◌, subst, ⊎_elim}
-use Rattle.std.proofs.lemmas.Bool.{cases_Bool, eqb-true, or_from, or_parts}
+use Rattle.std.proofs.Common.{◌≡◌, ◌≤◌, ◌<◌, ◌+◌, ◌==◌, ◌||◌, ℕ, false, List, [], drop, get_or, length, refl, sym, ap, ◌∙◌, subst}
+use Rattle.std.proofs.lemmas.Bool.{or_from, or_parts}
 use Rattle.std.proofs.lemmas.List.{at_drop_all, at_drop_more}
-use Rattle.occ_meaning.proofs.Facts.{clash, if_false, if_true}
 use Rattle.occ_meaning.specs.Parallel.{all_of, one}
-use Rattle.occ_names.specs.Once.{same_number, with_one}
 use Rattle.occ_syntax.specs.Declarations.{declaring}
-use Rattle.occ_syntax.specs.Names.{is_in}
 use Rattle.occ_syntax.specs.Tree.{Tree, Trees, and_tree, no_tree}
 use Rattle.occ_syntax.specs.View.{branches, cases, tree, trees}
 use Rattle.occ_syntax.specs.declared.expr.Expr.{Expr}

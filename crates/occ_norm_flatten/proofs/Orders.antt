@@ -1,20 +1,15 @@
 -- Parts in another order.
-use Rattle.std.proofs.Common.{◌≡◌, ◌<◌, ◌+◌, ℕ, max, Option, Some, IfSome, List, [], ◌∷◌, ◌++◌, take, drop, length, get_or, refl, sym, ap, ◌∙◌, subst, arith}
+use Rattle.std.proofs.Common.{◌≡◌, ◌<◌, ◌+◌, ℕ, max, List, [], ◌∷◌, ◌++◌, take, drop, length, get_or, refl, sym, ap, ◌∙◌, subst, arith}
 use Rattle.std.proofs.lemmas.List.{drop_more, take-append-drop}
-use Rattle.occ_base.specs.declared.names.Name.{Name}
-use Rattle.occ_meaning.proofs.Beside.{gives_through}
 use Rattle.occ_meaning.proofs.Parts.{apart_reordered, reordered_back, reordered_gives, types_reordered}
 use Rattle.occ_meaning.specs.Parallel.{EachWritesApart, Reordered, all_of, as_they_are, behind_first, first_two, in_steps, one}
 use Rattle.occ_norm_straight.proofs.Itself.{arranged_steps}
 use Rattle.occ_norm_straight.proofs.Listed.{all_of_none, all_of_three, trees_both, trees_pushed}
 use Rattle.occ_syntax.proofs.Weights.{weight, weight_of_all}
 use Rattle.occ_syntax.specs.Counts.{most_bits, most_bits_of_all}
-use Rattle.occ_syntax.specs.Declarations.{declaring_all}
-use Rattle.occ_syntax.specs.Meaning.{at_the_same_time}
 use Rattle.occ_syntax.specs.Tree.{Tree, Trees, and_tree, no_tree, par}
 use Rattle.occ_syntax.specs.View.{tree, trees}
 use Rattle.occ_syntax.specs.declared.proc.Proc.{Proc}
-use Rattle.occ_syntax.specs.declared.scope.Kind.{Kind}
 use Rattle.occ_norm_flatten.specs.Arranged.{AreArranged}
 
 -- ---- one part is taken out of a list

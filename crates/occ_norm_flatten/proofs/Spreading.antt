@@ -1,5 +1,5 @@
 -- Each step of taking PARs apart keeps what the process does.
-use Rattle.std.proofs.Common.{◌≡◌, ◌≤◌, ◌<◌, ◌+◌, ℕ, max, true, false, ◌&&◌, List, [], ◌∷◌, ◌++◌, Option, None, Some, is_none, refl, sym, ap, subst, arith}
+use Rattle.std.proofs.Common.{◌≡◌, ◌<◌, ◌+◌, ℕ, true, false, ◌&&◌, List, [], ◌∷◌, ◌++◌, Option, None, Some, is_none, refl, sym, ap, subst, arith}
 use Rattle.std.proofs.lemmas.Bool.{and_from, and_parts}
 use Rattle.occ_base.specs.declared.names.Name.{Name}
 use Rattle.occ_base.specs.declared.width.Width.{Width}
@@ -9,7 +9,6 @@ use Rattle.occ_meaning.proofs.Parts.{behind}
 use Rattle.occ_meaning.specs.Parallel.{all_of}
 use Rattle.occ_syntax.proofs.Weights.{weight, weight_of_all}
 use Rattle.occ_syntax.proofs.Within.{declaring_all-append}
-use Rattle.occ_syntax.specs.Counts.{most_bits_of_all}
 use Rattle.occ_syntax.specs.Declarations.{declaring_all}
 use Rattle.occ_syntax.specs.Meaning.{at_the_same_time, meaning}
 use Rattle.occ_syntax.specs.Names.{free_in_some}

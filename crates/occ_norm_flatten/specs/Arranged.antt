@@ -1,13 +1,8 @@
 -- What a process becomes where the parts of its PARs are arranged, and what lists of parts, choices and alternatives become.
-use Rattle.std.specs.Prelude.{ℕ, ◌≡◌, ◌≤◌, true, List, [], ◌∷◌}
+use Rattle.std.specs.Prelude.{◌≡◌, ◌≤◌, List, [], ◌∷◌}
 use Rattle.occ_meaning.specs.Parallel.{all_of}
-use Rattle.occ_meaning.proofs.Beside.{Gives}
-use Rattle.occ_syntax.proofs.Weights.{weight, weight_of_all}
-use Rattle.occ_syntax.specs.Counts.{most_bits, most_bits_of_all}
-use Rattle.occ_syntax.specs.Meaning.{at_the_same_time, meaning}
-use Rattle.occ_syntax.specs.Scopes.{Environment}
+use Rattle.occ_syntax.proofs.Weights.{weight}
 use Rattle.occ_syntax.specs.Tree.{Tree, Trees, par}
-use Rattle.occ_syntax.specs.Types.{all_types_kept, types_kept}
 use Rattle.occ_syntax.specs.View.{exp, tree, waiting}
 use Rattle.occ_norm_straight.specs.Arranged.{IsArranged}
 use Rattle.occ_syntax.specs.declared.expr.Expr.{Expr}

@@ -1,6 +1,5 @@
 -- Which names a part declares anywhere in it.
-use Rattle.std.specs.Prelude.{ℕ, ◌≡◌, ◌==◌, Bool, false, ◌||◌, List}
-use Rattle.occ_syntax.specs.Names.{is_in}
+use Rattle.std.specs.Prelude.{ℕ, ◌==◌, Bool, false, ◌||◌}
 use Rattle.occ_syntax.specs.Tree.{Tree, skip, stop, assign, receive, send, seq, par, select, alt, declare, connect, Trees, no_tree, and_tree, Cases, no_case, and_case, Branches, no_branch, and_branch}
 
 abbrev mutual

@@ -43,7 +43,8 @@ impl Split {
         requires off { (x : ℕ) → (is_in self.old.writes x ≡ false) ⊎ (is_free (tree part.now) x ≡ false) }
         ensures { IfOk result (λ fits. fits ≡ true → (ps : Trees)
             → IsSplit ps (trees (in_procs self.old.front)) (trees (in_procs self.old.others)) self.old.writes self.old.names
-            → IsSplit (all_of ps (one (tree part.now))) (trees (in_procs self.new.front)) (trees (in_procs self.new.others)) self.new.writes self.new.names) }
+            → IsSplit (all_of ps (one (tree part.now))) (trees (in_procs self.new.front)) (trees (in_procs self.new.others))
+            self.new.writes self.new.names) }
     {
         let own = written(alloc, part)?;
         if has_any(own.as_slice(), &self.names) {
@@ -61,7 +62,8 @@ impl Split {
         requires off { (x : ℕ) → (is_in self.old.writes x ≡ false) ⊎ (is_free (tree part.now) x ≡ false) }
         ensures { IfOk result (λ fits. fits ≡ true → (ps : Trees)
             → IsSplit ps (trees (in_procs self.old.front)) (trees (in_procs self.old.others)) self.old.writes self.old.names
-            → IsSplit (all_of ps (one (tree part.now))) (trees (in_procs self.new.front)) (trees (in_procs self.new.others)) self.new.writes self.new.names) }
+            → IsSplit (all_of ps (one (tree part.now))) (trees (in_procs self.new.front)) (trees (in_procs self.new.others))
+            self.new.writes self.new.names) }
     {
         note_all(&mut self.names, names)?;
         self.others.push(part.copy(alloc)?)?;
@@ -72,7 +74,8 @@ impl Split {
     fn add(&mut self, alloc: Global, part: &Proc) -> Result<bool, Memory>
         ensures { IfOk result (λ fits. fits ≡ true → (ps : Trees)
             → IsSplit ps (trees (in_procs self.old.front)) (trees (in_procs self.old.others)) self.old.writes self.old.names
-            → IsSplit (all_of ps (one (tree part.now))) (trees (in_procs self.new.front)) (trees (in_procs self.new.others)) self.new.writes self.new.names) }
+            → IsSplit (all_of ps (one (tree part.now))) (trees (in_procs self.new.front)) (trees (in_procs self.new.others))
+            self.new.writes self.new.names) }
     {
         let found = free(alloc, part)?;
         let names = found.as_slice();

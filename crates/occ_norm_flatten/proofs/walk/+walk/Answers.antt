@@ -10,7 +10,7 @@ use Rattle.occ_syntax.specs.declared.expr.Expr.{Expr}
 use Rattle.occ_syntax.specs.declared.expr.Guard.{Guard}
 use Rattle.occ_syntax.specs.declared.proc.Proc.{Proc}
 use Rattle.occ_norm_flatten.proofs.Congruent.{arranged_alt, arranged_if, arranged_par, arranged_seq, arranged_within}
-use Rattle.occ_norm_straight.proofs.Itself.{arranged_as, arranged_steps, found_is}
+use Rattle.occ_norm_straight.proofs.Itself.{arranged_as, found_is}
 use Rattle.occ_norm_flatten.proofs.walk.+walk.Goals as goal
 
 pub inside-loop-name-smaller : goal.inside-loop-name-smaller
