@@ -1,5 +1,5 @@
 -- What each step on maps has of its parts, in the world at the end.
-use Rattle.std.proofs.Common.{◌≡◌, ◌<◌, ◌≤◌, ◌+◌, ◌*◌, ◌^◌, ◌==◌, ◌&&◌, ◌++◌, ℕ, suc, Bool, true, false, cond, min, not, length, get_or, take, List, [], ◌∷◌, Some, None, sym, ap, ◌∙◌, subst, ⊎_elim, arith}
+use Rattle.std.proofs.Common.{◌≡◌, ◌<◌, ◌≤◌, ◌+◌, ◌*◌, ◌^◌, ◌==◌, ◌&&◌, ◌++◌, ℕ, suc, Bool, true, false, cond, min, not, length, get_or, take, List, [], ◌∷◌, Some, None, refl, sym, ap, ◌∙◌, subst, ⊎_elim, arith}
 use Rattle.std.specs.Prelude.{◌⊎◌, if◌then◌else◌, nat_le, nat_lt}
 use Rattle.std.specs.Int.{bit_at}
 use Rattle.std.specs.Int.Bits.{bit_and}
@@ -99,6 +99,25 @@ pub last_outputs : (w : World) (chan : Name) (test : ℕ → Bool) (base : ℕ) 
 last_outputs w chan test base v next r same prefixed = record {
   outputs = λ x m a h on there here. subst (λ n. IsPrefixed w (output_event chan n) m a) (same x) (on_one _ _ _ m a (prefixed.related x h) there here);
 }
+
+-- the output of the same value in other words
+pub outputs_same : (w : World) (chan : Name) (test : ℕ → Bool) (u v : ℕ → ℕ) (next r : MapId) → ((x : ℕ) → u x ≡ v x) → AreOutputs w chan test u next r → AreOutputs w chan test v next r
+outputs_same w chan test u v next r same is = record { outputs = λ x m a h t e f. subst (λ n. IsPrefixed w (output_event chan n) m a) (same x) (is.outputs x m a h t e f) }
+
+-- One value, on a set alone. The worlds: at first, with the map that stops, with what follows on the set, and at the end.
+pub outputs_chosen : (t u v w : World) → Extends t u → Extends u v → Extends v w → (chan : Name) (base : ℕ) (set : SetId) (next stopped there r : MapId) → IsSetKnown t.store set → HasNodes t next
+    → IsMap v.maps there (λ x. cond (has u.store set x) (value u.maps next x) (value u.maps stopped x)) → Lifts w there there r (λ a b. OnOne (IsPrefixed w (output_event chan base)) a)
+    → AreOutputs w chan (has t.store set) (λ x. base) next r
+outputs_chosen t u v w tu uv vw chan base set next stopped there r known nodes made is = record {
+  outputs = λ x m a h on e f. (last_outputs w chan (has t.store set) base (λ x. base) there r (λ x. refl) is).outputs x m a h on (same x on ∙ e) f;
+}
+  where
+    same : (x : ℕ) → has t.store set x ≡ true → value w.maps there x ≡ value w.maps next x
+    same x on =
+        let next_u = has_nodes-extends t u tu next nodes in
+        let next_v = has_nodes-extends u v uv next next_u in
+        vw.maps.same there x made.known ∙ made.values x ∙ ap (λ b. cond b (value u.maps next x) (value u.maps stopped x)) (tu.grows.stored.same set x known ∙ on)
+        ∙ sym (vw.maps.same next x next_v.known ∙ uv.maps.same next x next_u.known)
 
 module _ (u b c d e : World) (kb : Extends u b) (kc : Extends b c) (kd : Extends c d) (ke : Extends d e) (chan : Name) (digits : List SetId) (left place base above : ℕ) (set one_digit dflt with_it outside : SetId) (next high low r : MapId)
     (known : All (IsSetKnown u.store) digits) (more : place + 1 ≡ left) (few : left ≤ length digits) (here : one_digit ≡ get_or digits place dflt) (is_above : above ≡ base + 2 ^ place)

@@ -203,6 +203,31 @@ pub fn input(
     rebased(alloc, world, keep, map)
 }
 
+// The map of the output of a value on a set of states, and then what the map has. Elsewhere it says nothing.
+fn output_on(
+    alloc: Global,
+    world: &mut World,
+    outputs: Outputs,
+    set: SetId,
+    value: u8,
+) -> Result<MapId, Memory>
+    requires set { IsSetKnown world.old.store set }
+    requires next { HasNodes world.old outputs.next }
+    ensures extends { Extends world.old world.new }
+    ensures nodes { IfOk result (HasNodes world.new) }
+    ensures outputs { IfOk result (AreOutputs world.new outputs.chan (has world.old.store set) (λ x. value) outputs.next) }
+{
+    let stopped = stop(alloc, world)?;
+    let there = choose(world, set, outputs.next, stopped)?;
+    let event = Event {
+        chan: outputs.chan,
+        dir: Dir::Output,
+        value,
+    };
+    let map = prefixed(alloc, world, there, event)?;
+    Ok(map)
+}
+
 // The map of the outputs of the values that have some digits above those that are left, on the set of states in which
 // these are the digits, and then what the map has. Elsewhere it says nothing.
 fn output_from(
@@ -229,12 +254,7 @@ fn output_from(
         return stop(alloc, world);
     }
     if left == 0 {
-        let event = Event {
-            chan: outputs.chan,
-            dir: Dir::Output,
-            value,
-        };
-        return prefixed(alloc, world, outputs.next, event);
+        return output_on(alloc, world, outputs, set, value);
     }
     let place = left - 1;
     let digit = digits[place];

@@ -4,7 +4,7 @@ use Rattle.occ_norm_frame.proofs.Keeping.{set-extends, sets-extend}
 use Rattle.occ_norm_alt.proofs.Rooms.{above_is, plus_one, room_fits, room_high, room_low}
 use Rattle.std.proofs.lemmas.Result.{IfOk-weaker}
 use Rattle.occ_dd.specs.Store.{has}
-use Rattle.occ_norm_alt.proofs.Steps.{empty_set, last_outputs, no_outputs, none_taken, outputs_more, outside_later, within_later}
+use Rattle.occ_norm_alt.proofs.Steps.{empty_set, no_outputs, none_taken, outputs_more, outputs_same, outside_later, within_later}
 use Rattle.occ_norm_alt.proofs.choice.+output_from.Goals as goal
 
 pub output_from-requires : goal.output_from-requires
@@ -29,10 +29,10 @@ returns-then-eq-clause-outputs t c = IfOk-weaker c.stop.result _ _
     c.stop.ensures.stop
 
 pub returns-then-left-eq0-clause-outputs : goal.returns-then-left-eq0-clause-outputs
-returns-then-left-eq0-clause-outputs t c = IfOk-weaker c.prefixed.result _ _
-    (λ r is. last_outputs c.prefixed.new.world c.args.outputs.chan (has c.args.world.now.store c.args.set) c.args.value _ c.args.outputs.next r
+returns-then-left-eq0-clause-outputs t c = IfOk-weaker c.output_on.result _ _
+    (λ r is. outputs_same c.output_on.new.world c.args.outputs.chan (has c.args.world.now.store c.args.set) (λ x. c.args.value) _ c.args.outputs.next r
     (none_taken c.args.world.now.store c.args.digits.now c.args.value c.args.left c.if-left-eq0.true) is)
-    c.prefixed.ensures.prefixed
+    c.output_on.ensures.outputs
 
 pub returns-clause-outputs : goal.returns-clause-outputs
 returns-clause-outputs t c =
