@@ -159,6 +159,15 @@ carried (pair ∷ pairs) Γ p s t o =
     ↔ (meaning (renamed p (applied (pair ∷ pairs)))).does (under ex (under u Γ)) (under ex (under u s)) (renamed_trace (applied (pair ∷ pairs)) t) r in
     subst R (outcome_next a b pairs o) (subst Q (trace_twice g ex t) (subst P (tree_twice g ex p) (λ d. second.0 (first.0 d), λ d. first.1 (second.1 d))))
 
+-- ---- an exchange of two names
+
+-- a name that is neither of the two stays
+pub left_alone : (c d y : ℕ) → (y ≡ c → ⊥) → (y ≡ d → ⊥) → exchanging c d y ≡ y
+left_alone c d y h k = if_false (y == c) d (if y == d then c else y) (ne_eqb y c h) ∙ if_false (y == d) c y (ne_eqb y d k)
+
+pub to_second : (c d : ℕ) → exchanging c d c ≡ d
+to_second c d = if_true (c == c) d (if c == d then c else c) (at_itself c)
+
 -- ---- a row of exchanges that is a given map below a number
 
 pub record IsSoBelow (f : ℕ → ℕ) (n : ℕ) : Type 0 where
@@ -183,15 +192,9 @@ module _ (f : ℕ → ℕ) (one : IsOneForOne f) where
             let away : x ≡ n → ⊥ = λ e. omega (arith, e, l) in
             let first : g x ≡ a → ⊥ = λ e. away (sym (there_and_back before.pairs x) ∙ (ap (unapplied before.pairs) e ∙ there_and_back before.pairs n)) in
             let second : g x ≡ b → ⊥ = λ e. differ x n away (sym (before.same x l) ∙ e) in
-            other a b (g x) first second ∙ before.same x l)
+            left_alone a b (g x) first second ∙ before.same x l)
             (λ (l : n ≤ x).
             let last : x ≡ n = omega (arith, l, h) in
             ap (λ y. exchanging a b (g y)) last ∙ (to_second a b ∙ ap f (sym last)))
             (cases_lt x n);
       }
-    where
-      other : (c d y : ℕ) → (y ≡ c → ⊥) → (y ≡ d → ⊥) → exchanging c d y ≡ y
-      other c d y h k = if_false (y == c) d (if y == d then c else y) (ne_eqb y c h) ∙ if_false (y == d) c y (ne_eqb y d k)
-
-      to_second : (c d : ℕ) → exchanging c d c ≡ d
-      to_second c d = if_true (c == c) d (if c == d then c else c) (at_itself c)

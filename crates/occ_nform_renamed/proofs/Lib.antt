@@ -4,3 +4,6 @@ pub mod Tables
 pub mod Standing
 pub mod Texts
 pub mod Meaning
+pub mod Headers
+pub mod Numbers
+pub mod Again

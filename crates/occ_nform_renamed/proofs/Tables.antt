@@ -1,8 +1,9 @@
 -- Tables under other names: they are normal, and have the same text.
-use Rattle.std.proofs.Common.{◌≡◌, ℕ, suc, ◌+◌, ◌*◌, ◌/◌, ◌%◌, ◌<◌, ◌≤◌, ◌==◌, ◌^◌, Bool, not, ◌&&◌, ◌||◌, nat_lt, nat_le, if◌then◌else◌, max, List, [], ◌∷◌, ◌++◌, map, length, Option, Some, None, slice_get, get_or, unwrap_or, refl, sym, ap, ap₂, subst, ◌∙◌}
+use Rattle.std.proofs.Common.{◌≡◌, ⊎_elim, true, false, ℕ, suc, ◌+◌, ◌*◌, ◌/◌, ◌%◌, ◌<◌, ◌≤◌, ◌==◌, ◌^◌, Bool, not, ◌&&◌, ◌||◌, nat_lt, nat_le, if◌then◌else◌, max, List, [], ◌∷◌, ◌++◌, map, length, Option, Some, None, slice_get, get_or, unwrap_or, refl, sym, ap, ap₂, subst, ◌∙◌}
 use Rattle.std.specs.Prelude.{codes, decimal}
 use Rattle.std.specs.List.{AllByRecursion, flat_map, list_all, list_any}
 use Rattle.std.specs.Str.{bytes_eq}
+use Rattle.std.proofs.lemmas.Bool.{and_parts, cases_Bool, cond-false, eqb-true, false≢true}
 use Rattle.std.proofs.lemmas.List.{length-map}
 use mathlib.Core.Path.{fun_ext}
 use Rattle.occ_base.specs.declared.event.Event.{Event}
@@ -19,6 +20,7 @@ use Rattle.occ_nform_table.specs.Lines.{AreNamed, HaveWidths, can_follow, is_par
 use Rattle.occ_nform_table.specs.Normal.{first_empty, first_mark, first_unreached, or_fault, table_fault}
 use Rattle.occ_nform_table.specs.Tables.{AreRowsOf, IsNormal, IsRowOf, are_params, is_marked}
 use Rattle.occ_nform_table.specs.Texts.{param_text, params_text, rows_text, state_at_place, states_text, table_text}
+use Rattle.occ_nform_text.proofs.Names.{all_push}
 use Rattle.occ_parse_renamed.specs.Renamed.{kinds_renamed}
 use Rattle.occ_parse_renamed.specs.Standing.{IsOneForOne}
 use Rattle.occ_syntax.specs.Counts.{bits_of_kind, bits_of_scope}
@@ -40,13 +42,24 @@ each_map : {A : Type 0} (R : A → A) (P Q : A → Type 0) → ((x : A) → P x 
 each_map R P Q h [] all = tt
 each_map R P Q h (x ∷ xs) all = (h x all.0, each_map R P Q h xs all.1)
 
-behind_map : {A : Type 0} (R : A → A) (w v : A → List ℕ) → ((x : A) → w (R x) ≡ v x) → (xs : List A) → flat_map (λ y. 32 ∷ w y) (map R xs) ≡ flat_map (λ y. 32 ∷ v y) xs
-behind_map R w v h [] = refl
-behind_map R w v h (x ∷ xs) = ap₂ (λ s t. (32 ∷ s) ++ t) (h x) (behind_map R w v h xs)
+behind_map : {A : Type 0} (R : A → A) (Q : A → Type 0) (w v : A → List ℕ) → ((x : A) → Q x → w (R x) ≡ v x) → (xs : List A) → AllByRecursion Q xs
+    → flat_map (λ y. 32 ∷ w y) (map R xs) ≡ flat_map (λ y. 32 ∷ v y) xs
+behind_map R Q w v h [] all = refl
+behind_map R Q w v h (x ∷ xs) all = ap₂ (λ s t. (32 ∷ s) ++ t) (h x all.0) (behind_map R Q w v h xs all.1)
 
-spaced_map : {A : Type 0} (R : A → A) (w v : A → List ℕ) → ((x : A) → w (R x) ≡ v x) → (xs : List A) → spaced w (map R xs) ≡ spaced v xs
-spaced_map R w v h [] = refl
-spaced_map R w v h (x ∷ xs) = ap₂ ◌++◌ (h x) (behind_map R w v h xs)
+spaced_map : {A : Type 0} (R : A → A) (Q : A → Type 0) (w v : A → List ℕ) → ((x : A) → Q x → w (R x) ≡ v x) → (xs : List A) → AllByRecursion Q xs
+    → spaced w (map R xs) ≡ spaced v xs
+spaced_map R Q w v h [] all = refl
+spaced_map R Q w v h (x ∷ xs) all = ap₂ ◌++◌ (h x all.0) (behind_map R Q w v h xs all.1)
+
+-- what holds of all things holds of those in a list
+all_of : {A : Type 0} (Q : A → Type 0) → ((x : A) → Q x) → (xs : List A) → AllByRecursion Q xs
+all_of Q h [] = tt
+all_of Q h (x ∷ xs) = (h x, all_of Q h xs)
+
+each_of : {A : Type 0} (P Q : A → Type 0) → ((x : A) → P x → Q x) → (xs : List A) → AllByRecursion P xs → AllByRecursion Q xs
+each_of P Q h [] all = tt
+each_of P Q h (x ∷ xs) all = (h x all.0, each_of P Q h xs all.1)
 
 -- ---- under other names
 
@@ -216,49 +229,67 @@ module _ (f : ℕ → ℕ) (one : IsOneForOne f) where
   unreached_same rows states =
       ap₂ (λ (r : ℕ → Bool) n. first_unreached r n 0) (fun_ext (λ k. reached_same (λ i. list_any (λ s. s == i) states) 0 rows k)) (length-map rows (row_renamed f))
 
-  -- ---- texts, where each name has its text under its other number
+  -- ---- texts, where names have their texts under their other numbers
 
-  module _ (names other : List (List ℕ)) (texts : (x : ℕ) → unwrap_or (slice_get other (f x)) [] ≡ unwrap_or (slice_get names x) []) where
-    event_same : (e : Event) → event_text other (renamed_event f e) ≡ event_text names e
-    event_same e = ap (λ t. t ++ mark_text e.dir ++ decimal e.value) (texts e.chan.0)
+  module _ (names other : List (List ℕ)) where
+    -- the name has its text under its other number
+    abbrev pub Stays : ℕ → Type 0
+    Stays x = (unwrap_or (slice_get other (f x)) [] ≡ unwrap_or (slice_get names x) []) × (f x < length other)
 
-    set_same : (set : List Event) → set_text other (events_renamed f set) ≡ set_text names set
-    set_same set = ap (λ t. codes "{" ++ t ++ codes "}") (spaced_map (renamed_event f) (event_text other) (event_text names) event_same set)
+    abbrev pub StaysAll : List (Name × Kind) → Type 0
+    StaysAll params = AllByRecursion (λ (p : Name × Kind). Stays p.0.0) params
+
+    abbrev EventsStay : List Event → Type 0
+    EventsStay set = AllByRecursion (λ (e : Event). Stays e.chan.0) set
+
+    abbrev RowStays : TableRow → Type 0
+    RowStays row = AllByRecursion EventsStay row.accepts × AllByRecursion (λ (o : Event × ℕ). Stays o.0.chan.0) row.offers
+
+    event_same : (e : Event) → Stays e.chan.0 → event_text other (renamed_event f e) ≡ event_text names e
+    event_same e h = ap (λ t. t ++ mark_text e.dir ++ decimal e.value) h.0
+
+    set_same : (set : List Event) → EventsStay set → set_text other (events_renamed f set) ≡ set_text names set
+    set_same set h =
+        ap (λ t. codes "{" ++ t ++ codes "}") (spaced_map (renamed_event f) (λ (e : Event). Stays e.chan.0) (event_text other) (event_text names) event_same set h)
 
     state_same : (state : List (Name × ℕ)) → state_text (state_renamed f state) ≡ state_text state
-    state_same state = ap (λ t. codes "[" ++ t ++ codes "]") (spaced_map (λ (v : Name × ℕ). (record { 0 = f v.0.0 }, v.1)) (λ v. decimal v.1) (λ v. decimal v.1) (λ v. refl) state)
+    state_same state =
+        ap (λ t. codes "[" ++ t ++ codes "]")
+        (spaced_map (λ (v : Name × ℕ). (record { 0 = f v.0.0 }, v.1)) (λ v. Unit {0}) (λ v. decimal v.1) (λ v. decimal v.1) (λ v h. refl) state (all_of (λ v. Unit {0}) (λ v. tt) state))
 
     ends_same : (states : List (List (Name × ℕ))) → ends_text (map (state_renamed f) states) ≡ ends_text states
     unfolding ends_text
     ends_same [] = refl
     ends_same (state ∷ states) = ap₂ (λ t u. codes "END " ++ t ++ codes "\n" ++ u) (state_same state) (ends_same states)
 
-    sets_same : (sets : List (List Event)) → accepts_text other (map (events_renamed f) sets) ≡ accepts_text names sets
+    sets_same : (sets : List (List Event)) → AllByRecursion EventsStay sets → accepts_text other (map (events_renamed f) sets) ≡ accepts_text names sets
     unfolding accepts_text
-    sets_same [] = refl
-    sets_same (set ∷ sets) = ap₂ (λ t u. codes "ACCEPT " ++ t ++ codes "\n" ++ u) (set_same set) (sets_same sets)
+    sets_same [] h = refl
+    sets_same (set ∷ sets) h = ap₂ (λ t u. codes "ACCEPT " ++ t ++ codes "\n" ++ u) (set_same set h.0) (sets_same sets h.1)
 
-    offers_same : (offers : List (Event × ℕ)) → offers_text other (map (offer_renamed f) offers) ≡ offers_text names offers
+    offers_same : (offers : List (Event × ℕ)) → AllByRecursion (λ (o : Event × ℕ). Stays o.0.chan.0) offers
+        → offers_text other (map (offer_renamed f) offers) ≡ offers_text names offers
     unfolding offers_text
-    offers_same [] = refl
-    offers_same (o ∷ offers) = ap₂ (λ t u. codes "OFFER " ++ t ++ codes " " ++ decimal o.1 ++ codes "\n" ++ u) (event_same o.0) (offers_same offers)
+    offers_same [] h = refl
+    offers_same (o ∷ offers) h =
+        ap₂ (λ t u. codes "OFFER " ++ t ++ codes " " ++ decimal o.1 ++ codes "\n" ++ u) (event_same o.0 h.0) (offers_same offers h.1)
 
-    row_same : (row : TableRow) → row_text other (row_renamed f row) ≡ row_text names row
-    row_same row =
+    row_same : (row : TableRow) → RowStays row → row_text other (row_renamed f row) ≡ row_text names row
+    row_same row h =
         let first = ends_same row.ends in
-        let second = sets_same row.accepts in
-        let third = offers_same row.offers in
+        let second = sets_same row.accepts h.0 in
+        let third = offers_same row.offers h.1 in
         λ i. first i ++ second i ++ third i
 
-    rows_same : (n : ℕ) (rows : List TableRow) → rows_text other n (rows_renamed f rows) ≡ rows_text names n rows
+    rows_same : (n : ℕ) (rows : List TableRow) → AllByRecursion RowStays rows → rows_text other n (rows_renamed f rows) ≡ rows_text names n rows
     unfolding rows_text
-    rows_same n [] = refl
-    rows_same n (row ∷ rows) = ap₂ (λ t u. codes "ROW " ++ decimal n ++ codes "\n" ++ t ++ u) (row_same row) (rows_same (n + 1) rows)
+    rows_same n [] h = refl
+    rows_same n (row ∷ rows) h = ap₂ (λ t u. codes "ROW " ++ decimal n ++ codes "\n" ++ t ++ u) (row_same row h.0) (rows_same (n + 1) rows h.1)
 
-    params_same : (params : List (Name × Kind)) → params_text other (kinds_renamed f params) ≡ params_text names params
+    params_same : (params : List (Name × Kind)) → StaysAll params → params_text other (kinds_renamed f params) ≡ params_text names params
     unfolding params_text
-    params_same [] = refl
-    params_same (p ∷ params) = ap₂ (λ t u. codes "PARAM " ++ param_text t p.1 ++ codes "\n" ++ u) (texts p.0.0) (params_same params)
+    params_same [] h = refl
+    params_same (p ∷ params) h = ap₂ (λ t u. codes "PARAM " ++ param_text t p.1 ++ codes "\n" ++ u) h.0.0 (params_same params h.1)
 
     states_same : (params : List (Name × Kind)) (k : ℕ) (states : List ℕ) → states_text (kinds_renamed f params) k states ≡ states_text params k states
     unfolding states_text
@@ -267,93 +298,125 @@ module _ (f : ℕ → ℕ) (one : IsOneForOne f) where
         ap₂ (λ t u. codes "STATE " ++ t ++ codes " " ++ decimal n ++ codes "\n" ++ u)
         (ap state_text (at_place_same params k) ∙ state_same (state_at_place params k)) (states_same params (k + 1) states)
 
-    pub table_same : (params : List (Name × Kind)) (rows : List TableRow) (states : List ℕ)
+    -- ---- the events of an interface
+
+    declared : (params : List (Name × Kind)) → StaysAll params → (x : ℕ) (k : Kind) → environment params x ≡ Some k → Stays x
+    declared [] h x k e = let no : ⊥ = cc in absurd no
+    declared (p ∷ params) h x k e =
+        ⊎_elim (λ (t : (x == p.0.0) ≡ true). subst Stays (sym (eqb-true x p.0.0 t)) h.0)
+        (λ (t : (x == p.0.0) ≡ false). declared params h.1 x k (sym (cond-false (x == p.0.0) (Some p.1) (environment params x) t) ∙ e)) (cases_Bool (x == p.0.0))
+
+    module _ (params : List (Name × Kind)) (all : StaysAll params) where
+      event_stays : (e : Event) → in_interface (environment params) e ≡ true → Stays e.chan.0
+      event_stays e h = at (environment params e.chan.0) refl h
+        where
+          at : (o : Option Kind) → environment params e.chan.0 ≡ o → (has_width (channel_kind o) e.value && allows o e.dir) ≡ true → Stays e.chan.0
+          at None k is = absurd (false≢true is)
+          at (Some kind) k is = declared params all e.chan.0 kind k
+
+      events_stay : (set : List Event) → list_all (in_interface (environment params)) set ≡ true → EventsStay set
+      events_stay [] h = tt
+      events_stay (e ∷ set) h = let parts = and_parts (in_interface (environment params) e) (list_all (in_interface (environment params)) set) h in (event_stays e parts.0, events_stay set parts.1)
+
+      row_stays : (n : ℕ) (row : TableRow) → IsRowOf params n row → RowStays row
+      row_stays n row h = (
+        each_of _ EventsStay (λ set k. events_stay set k.0) row.accepts h.accepts,
+        each_of _ (λ (o : Event × ℕ). Stays o.0.chan.0) (λ o k. event_stays o.0 k.0) row.offers h.offers,
+      )
+
+      pub rows_stay : (n : ℕ) (rows : List TableRow) → AreRowsOf params n rows → AllByRecursion RowStays rows
+      rows_stay n [] h = tt
+      rows_stay n (row ∷ rows) h = (row_stays n row h.0, rows_stay (n + 1) rows h.1)
+
+    pub table_same : (params : List (Name × Kind)) (rows : List TableRow) (states : List ℕ) → StaysAll params → AreRowsOf params 0 rows
         → table_text other (kinds_renamed f params) (rows_renamed f rows) states ≡ table_text names params rows states
     unfolding table_text
-    table_same params rows states =
-        let first = params_same params in
-        let second = rows_same 0 rows in
+    table_same params rows states all h =
+        let first = params_same params all in
+        let second = rows_same 0 rows (rows_stay params all 0 rows h) in
         let third = states_same params 0 states in
         λ i. codes "occam-normal 1\n" ++ first i ++ second i ++ third i
 
     -- ---- what is normal
 
-    rows_marks_same : (params : List (Name × Kind)) (heights : List ℕ) (before : Option (ℕ × List ℕ)) (rows : List TableRow)
+    rows_marks_same : (params : List (Name × Kind)) (heights : List ℕ) (before : Option (ℕ × List ℕ)) (rows : List TableRow) → AllByRecursion RowStays rows
         → rows_marks other (kinds_renamed f params) heights before (rows_renamed f rows) ≡ rows_marks names params heights before rows
     unfolding rows_marks
-    rows_marks_same params heights before [] = refl
-    rows_marks_same params heights before (row ∷ rows) =
+    rows_marks_same params heights before [] all = refl
+    rows_marks_same params heights before (row ∷ rows) all =
         let h = height_same heights row.offers in
-        let t = row_same row in
+        let t = row_same row all.0 in
         let marks = row_marks_same params row in
         ap₂ (λ m u. placed (comes_after before (m, u)) ∷ row_marks (kinds_renamed f params) (row_renamed f row)
         ++ rows_marks other (kinds_renamed f params) (heights ++ m ∷ []) (Some (m, u)) (rows_renamed f rows)) h t
         ∙ ap₂ (λ ms ns. placed (comes_after before (height_over heights row.offers, row_text names row)) ∷ ms ++ ns) marks
-        (rows_marks_same params (heights ++ height_over heights row.offers ∷ []) (Some (height_over heights row.offers, row_text names row)) rows)
+        (rows_marks_same params (heights ++ height_over heights row.offers ∷ []) (Some (height_over heights row.offers, row_text names row)) rows all.1)
 
-    fault_same : (params : List (Name × Kind)) (rows : List TableRow) (states : List ℕ)
+    fault_same : (params : List (Name × Kind)) (rows : List TableRow) (states : List ℕ) → AllByRecursion RowStays rows
         → table_fault (record { names = other; params = kinds_renamed f params; rows = rows_renamed f rows; states = states })
         ≡ table_fault (record { names = names; params = params; rows = rows; states = states })
     unfolding table_fault
-    fault_same params rows states =
+    fault_same params rows states all =
         let n = length_same f params in
-        let marks = rows_marks_same params [] None rows in
+        let marks = rows_marks_same params [] None rows all in
         let empty = empty_same 0 rows in
         let unreached = unreached_same rows states in
         λ i. or_fault (first_mark (2 + n i) (marks i)) (or_fault (empty i) (unreached i))
 
-    other_names : (before : List (Name × Kind)) (text : List ℕ)
+    other_names : (before : List (Name × Kind)) (text : List ℕ) → StaysAll before
         → list_any (λ q. bytes_eq text (text_of other q.0)) (kinds_renamed f before) ≡ list_any (λ q. bytes_eq text (text_of names q.0)) before
-    other_names [] text = refl
-    other_names (q ∷ before) text = ap₂ (λ t b. bytes_eq text t || b) (texts q.0.0) (other_names before text)
+    other_names [] text h = refl
+    other_names (q ∷ before) text h = ap₂ (λ t b. bytes_eq text t || b) h.0.0 (other_names before text h.1)
 
-    follow_same : (before : List (Name × Kind)) (text : List ℕ) (k : Kind) → can_follow other (kinds_renamed f before) (text, k) ≡ can_follow names before (text, k)
+    follow_same : (before : List (Name × Kind)) (text : List ℕ) (k : Kind) → StaysAll before → can_follow other (kinds_renamed f before) (text, k) ≡ can_follow names before (text, k)
     unfolding can_follow
-    follow_same before text k =
+    follow_same before text k h =
         let n = length_same f before in
-        let others = other_names before text in
+        let others = other_names before text h in
         let bits = bits_same f before in
         λ i. nat_lt (n i) 16 && not (others i) && nat_le (bits i + bits_of_kind k) 16
 
-    are_params_same : (before params : List (Name × Kind)) → are_params other (kinds_renamed f before) (kinds_renamed f params) ≡ are_params names before params
+    are_params_same : (before params : List (Name × Kind)) → StaysAll before → StaysAll params
+        → are_params other (kinds_renamed f before) (kinds_renamed f params) ≡ are_params names before params
     unfolding are_params
-    are_params_same before [] = refl
-    are_params_same before (p ∷ params) =
-        ap₂ (λ t qs. (is_param_name t && is_marked p.1 && can_follow other (kinds_renamed f before) (t, p.1)) && are_params other qs (kinds_renamed f params)) (texts p.0.0) (kinds_behind f before p)
-        ∙ ap₂ (λ b c. (is_param_name (text_of names p.0) && is_marked p.1 && b) && c) (follow_same before (text_of names p.0) p.1) (are_params_same (before ++ p ∷ []) params)
+    are_params_same before [] earlier all = refl
+    are_params_same before (p ∷ params) earlier all =
+        ap₂ (λ t qs. (is_param_name t && is_marked p.1 && can_follow other (kinds_renamed f before) (t, p.1)) && are_params other qs (kinds_renamed f params)) all.0.0 (kinds_behind f before p)
+        ∙ ap₂ (λ b c. (is_param_name (text_of names p.0) && is_marked p.1 && b) && c) (follow_same before (text_of names p.0) p.1 earlier)
+        (are_params_same (before ++ p ∷ []) params (all_push (λ (q : Name × Kind). Stays q.0.0) before p earlier all.0) all.1)
 
-    module _ (within : (x : ℕ) → x < length names → f x < length other) where
-      named_so : (params : List (Name × Kind)) → AreNamed names params → AreNamed other (kinds_renamed f params)
-      named_so [] h = tt
-      named_so (p ∷ params) h = (within p.0.0 h.0, named_so params h.1)
+    named_so : (params : List (Name × Kind)) → StaysAll params → AreNamed other (kinds_renamed f params)
+    named_so [] h = tt
+    named_so (p ∷ params) h = (h.0.1, named_so params h.1)
 
-      wide_so : (params : List (Name × Kind)) → HaveWidths params → HaveWidths (kinds_renamed f params)
-      wide_so [] h = tt
-      wide_so (p ∷ params) h = (h.0, wide_so params h.1)
+    wide_so : (params : List (Name × Kind)) → HaveWidths params → HaveWidths (kinds_renamed f params)
+    wide_so [] h = tt
+    wide_so (p ∷ params) h = (h.0, wide_so params h.1)
 
-      row_so : (params : List (Name × Kind)) (n : ℕ) (row : TableRow) → IsRowOf params n row → IsRowOf (kinds_renamed f params) n (row_renamed f row)
-      row_so params n row h = record {
-        ends = each_map (state_renamed f) _ _ (λ s k. is_state_same params s ∙ k) row.ends h.ends;
-        accepts = each_map (events_renamed f) _ _ (λ set k. (every_map (renamed_event f) _ _ (interface_same params) set ∙ k.0, rising_same params 0 set ∙ k.1)) row.accepts h.accepts;
-        offers = each_map (offer_renamed f) _ _ (λ o k. (interface_same params o.0 ∙ k.0, k.1)) row.offers h.offers;
-      }
+    row_so : (params : List (Name × Kind)) (n : ℕ) (row : TableRow) → IsRowOf params n row → IsRowOf (kinds_renamed f params) n (row_renamed f row)
+    row_so params n row h = record {
+      ends = each_map (state_renamed f) _ _ (λ s k. is_state_same params s ∙ k) row.ends h.ends;
+      accepts = each_map (events_renamed f) _ _ (λ set k. (every_map (renamed_event f) _ _ (interface_same params) set ∙ k.0, rising_same params 0 set ∙ k.1)) row.accepts h.accepts;
+      offers = each_map (offer_renamed f) _ _ (λ o k. (interface_same params o.0 ∙ k.0, k.1)) row.offers h.offers;
+    }
 
-      rows_so : (params : List (Name × Kind)) (n : ℕ) (rows : List TableRow) → AreRowsOf params n rows → AreRowsOf (kinds_renamed f params) n (rows_renamed f rows)
-      rows_so params n [] h = tt
-      rows_so params n (row ∷ rows) h = (row_so params n row h.0, rows_so params (n + 1) rows h.1)
+    rows_so : (params : List (Name × Kind)) (n : ℕ) (rows : List TableRow) → AreRowsOf params n rows → AreRowsOf (kinds_renamed f params) n (rows_renamed f rows)
+    rows_so params n [] h = tt
+    rows_so params n (row ∷ rows) h = (row_so params n row h.0, rows_so params (n + 1) rows h.1)
 
-      pub normal_so : (params : List (Name × Kind)) (rows : List TableRow) (states : List ℕ) → IsNormal (record { names = names; params = params; rows = rows; states = states })
-          → IsNormal (record { names = other; params = kinds_renamed f params; rows = rows_renamed f rows; states = states })
-      normal_so params rows states h = record {
-        interface = record {
-          named = named_so params h.interface.named;
-          wide = wide_so params h.interface.wide;
-          few = subst (λ n. n ≤ 16) (sym (length_same f params)) h.interface.few;
-          bits = subst (λ n. n ≤ 16) (sym (bits_same f params)) h.interface.bits;
-        };
-        params = are_params_same [] params ∙ h.params;
-        rows = rows_so params 0 rows h.rows;
-        count = h.count ∙ ap (λ n. 2 ^ n) (sym (bits_same f params));
-        states = subst (λ m. AllByRecursion (λ n. n < m) states) (sym (length-map rows (row_renamed f))) h.states;
-        fine = fault_same params rows states ∙ h.fine;
-      }
+    pub normal_so : (params : List (Name × Kind)) (rows : List TableRow) (states : List ℕ) → StaysAll params
+        → IsNormal (record { names = names; params = params; rows = rows; states = states })
+        → IsNormal (record { names = other; params = kinds_renamed f params; rows = rows_renamed f rows; states = states })
+    normal_so params rows states all h = record {
+      interface = record {
+        named = named_so params all;
+        wide = wide_so params h.interface.wide;
+        few = subst (λ n. n ≤ 16) (sym (length_same f params)) h.interface.few;
+        bits = subst (λ n. n ≤ 16) (sym (bits_same f params)) h.interface.bits;
+      };
+      params = are_params_same [] params tt all ∙ h.params;
+      rows = rows_so params 0 rows h.rows;
+      count = h.count ∙ ap (λ n. 2 ^ n) (sym (bits_same f params));
+      states = subst (λ m. AllByRecursion (λ n. n < m) states) (sym (length-map rows (row_renamed f))) h.states;
+      fine = fault_same params rows states (rows_stay params all 0 rows h.rows) ∙ h.fine;
+    }

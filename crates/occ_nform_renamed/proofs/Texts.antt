@@ -13,10 +13,11 @@ use Rattle.occ_nform.specs.Written.{IsNormalText}
 use Rattle.occ_nform_renamed.proofs.Bounds.{below_top, top}
 use Rattle.occ_nform_renamed.proofs.Exchanges.{applied, so_below}
 use Rattle.occ_nform_renamed.proofs.Standing.{stands_so}
-use Rattle.occ_nform_renamed.proofs.Tables.{events_renamed, normal_so, offer_renamed, row_renamed, rows_renamed, state_renamed, table_same}
+use Rattle.occ_nform_renamed.proofs.Tables.{events_renamed, normal_so, offer_renamed, row_renamed, rows_renamed, state_renamed, table_same, StaysAll}
 use Rattle.occ_nform_table.specs.declared.table.TableRow.{TableRow}
 use Rattle.occ_nform_table.specs.Behaviours.{Stands}
 use Rattle.occ_nform_table.specs.Judging.{row_text}
+use Rattle.occ_nform_table.specs.Lines.{AreNamed}
 use Rattle.occ_nform_table.specs.Normal.{Parts, text_read}
 use Rattle.occ_nform_table.specs.Tables.{IsNormal}
 use Rattle.occ_nform_table.specs.Texts.{params_text, rows_text, states_text, table_text}
@@ -94,7 +95,7 @@ rows_short names n (row ∷ rows) =
     let c : length C ≡ 1 = refl in
     omega (arith, more, c, length-append (A ++ B ++ C ++ D) E, length-append (A ++ B ++ C) D, length-append (A ++ B) C, length-append A B)
 
-table_short : (names : List (List ℕ)) (params : List (Name × Kind)) (rows : List TableRow) (states : List ℕ) → length rows ≤ length (table_text names params rows states)
+pub table_short : (names : List (List ℕ)) (params : List (Name × Kind)) (rows : List TableRow) (states : List ℕ) → length rows ≤ length (table_text names params rows states)
 unfolding table_text
 table_short names params rows states =
     let A = codes "occam-normal 1\n" in
@@ -105,10 +106,10 @@ table_short names params rows states =
 
 -- ---- the text under other numbers
 
-abbrev parts : List (List ℕ) → List (Name × Kind) → List TableRow → List ℕ → Parts
+abbrev pub parts : List (List ℕ) → List (Name × Kind) → List TableRow → List ℕ → Parts
 parts names params rows states = record { names = names; params = params; rows = rows; states = states }
 
-parts_are : (t : Parts) (names : List (List ℕ)) (params : List (Name × Kind)) → t.names ≡ names → t.params ≡ params → t ≡ parts names params t.rows t.states
+pub parts_are : (t : Parts) (names : List (List ℕ)) (params : List (Name × Kind)) → t.names ≡ names → t.params ≡ params → t ≡ parts names params t.rows t.states
 parts_are t names params e k = λ i. record { names = e i; params = k i; rows = t.rows; states = t.states }
 
 module _ (f : ℕ → ℕ) (names other : List (List ℕ)) (d : IsDistinct other) (r : IsRenumbering f names other) where
@@ -125,6 +126,10 @@ module _ (f : ℕ → ℕ) (names other : List (List ℕ)) (d : IsDistinct other
 
   within : (x : ℕ) → x < length names → f x < length other
   within x h = slice_get_within other (f x) (get_or names x []) (r.texts x (get_or names x []) (slice_get-get_or names x [] h))
+
+  stay_all : (params : List (Name × Kind)) → AreNamed names params → StaysAll f r.one_for_one names other params
+  stay_all [] h = tt
+  stay_all (p ∷ params) h = ((texts p.0.0, within p.0.0 h.0), stay_all params h.1)
 
   stands : (params : List (Name × Kind)) (rows : List TableRow) (states : List ℕ) (p : Tree) → Stands params rows states p
       → Stands (kinds_renamed f params) (rows_renamed f rows) states (renamed p f)
@@ -146,13 +151,14 @@ module _ (f : ℕ → ℕ) (names other : List (List ℕ)) (d : IsDistinct other
       subst (λ (t : Parts). IsNormal t × (text ≡ table_text t.names t.params t.rows t.states)) (parts_are h.table names params h.names_are h.params_are)
       (normal_text names text h.table small h.reads) in
       let t = parts other (kinds_renamed f params) (rows_renamed f rows) states in
-      let normal : IsNormal t = normal_so f r.one_for_one names other texts within params rows states whole.0 in
+      let all = stay_all params whole.0.interface.named in
+      let normal : IsNormal t = normal_so f r.one_for_one names other params rows states all whole.0 in
       let most : 2 ^ 64 ≤ 10 ^ 64 = lit≤ tt in
       let short = table_short names params rows states in
       let few : length (rows_renamed f rows) ≤ 10 ^ 64 = omega (arith, length-map rows (row_renamed f), short, ap (λ (s : List ℕ). length s) whole.1, small, most) in
       record {
         table = t;
-        reads = ap (text_read other) (whole.1 ∙ sym (table_same f r.one_for_one names other texts params rows states)) ∙ reads_back t d normal few;
+        reads = ap (text_read other) (whole.1 ∙ sym (table_same f r.one_for_one names other params rows states all whole.0.rows)) ∙ reads_back t d normal few;
         names_are = refl;
         params_are = refl;
         stands = stands params rows states p h.stands;

@@ -2,11 +2,13 @@
 //! nothing.
 #![tactic(auto)]
 
-ghost use Rattle.std.specs.Prelude.{ℕ, ◌<◌, ◌^◌, ◌↔◌, List, length};
+ghost use Rattle.std.specs.Prelude.{ℕ, ◌≡◌, ◌<◌, ◌^◌, ◌↔◌, List, Ok, length};
 ghost use Rattle.occ_base.specs.Names.{IsDistinct};
 ghost use Rattle.occ_base.specs.declared.names.Name.{Name};
 ghost use Rattle.occ_meaning.specs.Rename.{renamed};
 ghost use Rattle.occ_nform.specs.Written.{IsNormalText};
+ghost use Rattle.occ_nform_renamed.specs.Read.{IsReadWith};
+ghost use Rattle.occ_nform_table.specs.Normal.{Parts, text_read};
 ghost use Rattle.occ_parse_renamed.specs.Renamed.{kinds_renamed};
 ghost use Rattle.occ_parse_renamed.specs.Standing.{IsOneForOne};
 ghost use Rattle.occ_read_renamed.specs.Readings.{IsRenumbering};
@@ -27,4 +29,11 @@ pub fn normal_texts_are_renamed()
 pub fn renamed_programs_mean_the_same()
     ensures { (f : ℕ → ℕ) (params : List (Name × Kind)) (p q : Tree) → IsOneForOne f
         → SAME (environment params) p q ↔ SAME (environment (kinds_renamed f params)) (renamed p f) (renamed q f) }
+{}
+
+/// A text that reads as a normal table with one table of names reads as one with any other table of names, and has as many rows. A text in
+/// memory has fewer than 2 ^ 64 bytes.
+pub fn normal_texts_need_no_names()
+    ensures { (names other : List (List ℕ)) (text : List ℕ) (t : Parts) → IsDistinct names → IsDistinct other → length text < 2 ^ 64
+        → text_read names text ≡ Ok t → IsReadWith other text (length t.rows) }
 {}

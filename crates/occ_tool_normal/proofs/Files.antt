@@ -25,7 +25,7 @@ use Rattle.occ_tool_run.proofs.Taken.{AreOne, agree, as_taken}
 use Rattle.occ_tool_words.specs.Words.{Job, job_of, normalise, same}
 
 -- a file whose normal text is the answer
-normal_of : (file : File) (a : Answer) → Takes First file [] IsNormalised a → status_of a ≡ 0 → IsTextOf file (text_of a)
+pub normal_of : (file : File) (a : Answer) → Takes First file [] IsNormalised a → status_of a ≡ 0 → IsTextOf file (text_of a)
 normal_of file a (refused f r e) h = let no : status_of a ≡ 3 = ap status_of e in absurd (omega (arith, no, h))
 normal_of file a (unusable n l f r e) h = let no : status_of a ≡ 3 = ap status_of e in absurd (omega (arith, no, h))
 normal_of file a (accepted n p r x) h =
@@ -45,6 +45,10 @@ taken : (place : Side) (file : File) (old : Table) (R : Table → Program → An
 taken place file old R a P g m (refused f r e) next = absurd (g f r)
 taken place file old R a P g m (unusable n l f r e) next = absurd (m n l f r)
 taken place file old R a P g m (accepted n p r x) next = next n p r x
+
+-- what words that ask for something are answered with
+pub asked : (files : Files) (words : List (List ℕ)) (job : Job) (status : ℕ) (text : List ℕ) → job_of words ≡ Some job → (h : Answers files words status text) → Does files (Some job) h.answer
+asked files words job status text e h = subst (λ j. Does files j h.answer) e (does files words h.answer h.is)
 
 module _ (L : Laws) where
   taken_file : (place : Side) (file : File) (text : List ℕ) (x : IsTextOf file text) (old : Table) → IsDistinct old → (R : Table → Program → Answer → Type 0) (a : Answer) (P : Type 0)
@@ -93,9 +97,6 @@ module _ (L : Laws) where
 
     settled : Settles WhetherSame c d a → Told L s t a
     settled h = ways (order_of c d) refl h.judged
-
-  asked : (files : Files) (words : List (List ℕ)) (job : Job) (status : ℕ) (text : List ℕ) → job_of words ≡ Some job → (h : Answers files words status text) → Does files (Some job) h.answer
-  asked files words job status text e h = subst (λ j. Does files j h.answer) e (does files words h.answer h.is)
 
   pub files_apart : (files : Files) (words again pair : List (List ℕ)) (first second : List ℕ) (status : ℕ) (x y z : List ℕ) → job_of words ≡ Some (normalise first)
       → Answers files words 0 x → job_of again ≡ Some (normalise second) → Answers files again 0 y → job_of pair ≡ Some (same first second)

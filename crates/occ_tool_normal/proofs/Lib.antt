@@ -1,3 +1,5 @@
 pub mod Usage
 pub mod Texts
 pub mod Files
+pub mod Rows
+pub mod Normal

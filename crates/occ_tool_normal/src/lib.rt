@@ -1,15 +1,17 @@
-//! Two files have one normal text exactly where they are answered with SAME. There is no code: the law is the contract of a function
-//! without a body of its own.
+//! Two files have one normal text exactly where they are answered with SAME, and a file that holds a normal text is answered with NORMAL.
+//! There is no code: each law is the contract of a function without a body of its own.
 #![tactic(auto)]
 
-ghost use Rattle.std.specs.Prelude.{ℕ, ◌≡◌, ◌↔◌, List, Some, codes};
+ghost use Rattle.std.specs.Prelude.{ℕ, ◌≡◌, ◌≤◌, ◌↔◌, List, Some, codes, length};
+ghost use Rattle.occ_tool_normal.specs.Rows.{rows_of};
 ghost use Rattle.occ_tool_run.specs.Answers.{Answers};
-ghost use Rattle.occ_tool_run.specs.Files.{Files};
-ghost use Rattle.occ_tool_words.specs.Words.{job_of, normalise, same};
+ghost use Rattle.occ_tool_run.specs.Files.{Files, most_table_bytes};
+ghost use Rattle.occ_tool_run.specs.Texts.{figure_text};
+ghost use Rattle.occ_tool_words.specs.Words.{job_of, normal, normalise, same};
 
 use occ_nform::normal_texts_tell_programs_apart;
 use occ_nform_params::parameters_have_names;
-use occ_nform_renamed::normal_texts_are_renamed;
+use occ_nform_renamed::{normal_texts_are_renamed, normal_texts_need_no_names};
 use occ_parse_reading::one_reading;
 use occ_read_renamed::{readings_are_not_refused, readings_are_renamed};
 use occ_script_again::programs_read_again;
@@ -31,4 +33,17 @@ pub fn normal_texts_tell_files_apart()
     readings_are_not_refused();
     normal_texts_are_renamed();
     normal_texts_tell_programs_apart();
+}
+
+/// Where words that ask for the normal text of a file are answered with status 0, the answer is a normal text: words that ask of a file that
+/// holds it whether it is one are answered with NORMAL and the number of its rows, with status 0, and with nothing else, whatever names the
+/// program has beside those of its parameters. The text has at most 67,108,864 bytes: a longer one is refused.
+pub fn written_texts_are_normal()
+    ensures { (files later : Files) (words again : List (List ℕ)) (program name text : List ℕ) (status : ℕ) (answer : List ℕ)
+        → job_of words ≡ Some (normalise program) → Answers files words 0 text
+        → job_of again ≡ Some (normal name) → later name ≡ Some text → length text ≤ most_table_bytes
+        → Answers later again status answer ↔ ((status ≡ 0) × (answer ≡ figure_text (codes "NORMAL") (rows_of text))) }
+{
+    parameters_have_names();
+    normal_texts_need_no_names();
 }
