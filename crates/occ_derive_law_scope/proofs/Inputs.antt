@@ -1,6 +1,6 @@
 -- The second form of var-alt: an input goes into a declared variable first, and from there to its own.
-use Rattle.std.proofs.Common.{◌≡◌, ◌∙◌, ℕ, true, false, ◌&&◌, ◌==◌, List, [], ◌∷◌, Some, inr, refl, ap, sym}
-use Rattle.std.proofs.lemmas.Bool.{and_from, and_parts}
+use Rattle.std.proofs.Common.{◌≡◌, ◌∙◌, ℕ, true, false, ◌&&◌, ◌||◌, ◌==◌, List, [], ◌∷◌, None, Some, inr, refl, ap, sym}
+use Rattle.std.proofs.lemmas.Bool.{and_from, and_parts, eqb-true, false_from_ne_true, or_from, or_parts}
 use Rattle.occ_base.specs.declared.event.Dir.TheVariants.{Input}
 use Rattle.occ_base.specs.declared.names.Name.{Name}
 use Rattle.occ_base.specs.declared.width.Width.{Width}
@@ -9,10 +9,12 @@ use Rattle.occ_derive_law_scope.specs.Steps.{MayPass}
 use Rattle.occ_law_rules.specs.Lists.{all_branches, tally}
 use Rattle.occ_law_rules.specs.Scope.{var_alt_input}
 use Rattle.occ_law_rules.specs.Table.{LAW}
-use Rattle.occ_meaning.proofs.Facts.{and_four, name_off}
+use Rattle.occ_meaning.proofs.Facts.{and_four, name_off, none_not_some, or_four}
+use Rattle.occ_meaning.proofs.InScope.{free_in_scope}
 use Rattle.occ_meaning.specs.Parallel.{two}
 use Rattle.occ_syntax.specs.declared.scope.Kind.{Kind}
 use Rattle.occ_syntax.specs.declared.scope.Kind.TheVariants.{Var}
+use Rattle.occ_syntax.specs.Names.{free, free_in_branches, free_in_waiting, names}
 use Rattle.occ_syntax.specs.Scopes.{Environment, allows, channel_width, environment, variable_kind, variable_width, with_name}
 use Rattle.occ_syntax.specs.Tree.{Branches, Exp, Tree, alt, and_branch, assign, declare, input, no_branch, seq, variable}
 use Rattle.occ_syntax.specs.Types.{agree, branches_kept, can_declare, input_kept, is_condition, types_kept, waiting_kept}
@@ -117,4 +119,28 @@ input_at_once S z w gs hs b c x p k m =
         usage = usage_behind gs old new (λ u. (u.0.1.0, u.1)) k.usage;
       };
       right = k;
+    }
+
+-- ---- a variable that isn't in scope
+
+free_in_both : (gs hs : Branches) (z : ℕ) → free_in_branches (all_branches gs hs) z ≡ false → (free_in_branches gs z ≡ false) × (free_in_branches hs z ≡ false)
+free_in_both no_branch hs z f = (refl, f)
+free_in_both (and_branch b w p gs) hs z f =
+    let j = or_parts ((names b z || free_in_waiting w z) || free p z) (free_in_branches (all_branches gs hs) z) f in
+    let k = free_in_both gs hs z j.1 in
+    (or_from ((names b z || free_in_waiting w z) || free p z) (free_in_branches gs z) j.0 k.0, k.1)
+
+pub may_pass : (S : List (Name × Kind)) (z : ℕ) (w : Width) (gs hs : Branches) (b : Exp) (c x : ℕ) (p : Tree) → environment S z ≡ None
+    → variable_width (environment S) x ≡ Some w → Keeps (environment S) (alt (all_branches gs (and_branch b (input c x) p hs))) → MayPass S z w gs hs b x p
+may_pass S z w gs hs b c x p new width k =
+    let Γ = environment S in
+    let f = free_in_both gs (and_branch b (input c x) p hs) z (free_in_scope (alt (all_branches gs (and_branch b (input c x) p hs))) Γ k.types z new) in
+    let j = or_four (names b z) (free_in_waiting (input c x) z) (free p z) (free_in_branches hs z) f.1 in
+    record {
+      other = false_from_ne_true (x == z) (λ e. none_not_some (sym (ap variable_kind new) ∙ ap (variable_width Γ) (sym (eqb-true x z e)) ∙ width));
+      width = width;
+      before = f.0;
+      condition = j.0;
+      process = j.2;
+      behind = j.3;
     }

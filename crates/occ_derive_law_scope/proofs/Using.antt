@@ -7,7 +7,7 @@ use Rattle.occ_meaning.proofs.Facts.{clash, false_not_true}
 use Rattle.occ_meaning.proofs.Free.{no_end, not_written}
 use Rattle.occ_meaning.specs.Parallel.{one, two}
 use Rattle.occ_syntax.specs.Names.{end_in_branches, end_in_cases, end_in_some, end_in_waiting, free, free_in_branches, free_in_cases, free_in_some, free_in_waiting, names, uses_end, written, written_in_branches, written_in_cases, written_in_some, written_in_waiting}
-use Rattle.occ_syntax.specs.Tree.{Branches, Cases, Exp, Tree, Trees, Waiting, alt, and_branch, and_case, and_tree, connect, declare, no_branch, no_case, no_tree, par, select, seq, skip}
+use Rattle.occ_syntax.specs.Tree.{Branches, Cases, Exp, Tree, Trees, Waiting, alt, and_branch, and_case, and_tree, connect, no_branch, no_case, no_tree, par, select, seq, skip}
 use Rattle.occ_syntax.specs.Usage.{IsSeparate}
 use Rattle.occ_usage_local.specs.Local.{UsesNoMore}
 
@@ -176,13 +176,6 @@ hidden_uses c w p off = record {
   writes = λ x. apart_from (written p) c (not_written p c off) x;
   ends = λ b d. apart_from (λ z. uses_end p z d) c (no_end p c d off) b;
 }
-
--- to declare a variable hides as much as to declare a channel
-pub variable_hides : (x : ℕ) (w : Width) (p : Tree) → UsesNoMore (connect x w p) (declare x w p)
-variable_hides x w p = record { frees = λ z h. h; writes = λ z h. h; ends = λ c d h. h }
-
-pub channel_hides : (x : ℕ) (w : Width) (p : Tree) → UsesNoMore (declare x w p) (connect x w p)
-channel_hides x w p = record { frees = λ z h. h; writes = λ z h. h; ends = λ c d h. h }
 
 more_behind : (a b c : Bool) → (b ≡ true → c ≡ true) → (not a && b) ≡ true → (not a && c) ≡ true
 more_behind true b c f h = false_not_true h

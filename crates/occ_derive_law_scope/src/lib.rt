@@ -11,8 +11,8 @@ pub use channels::{
 };
 pub use variables::{
     inputs_go_at_once, inputs_go_into_variables, last_pairs_go, names_of_first_parts_are_theirs,
-    pairs_come, pairs_go, unused_variables_come, unused_variables_go, values_are_written_out,
-    variables_are_renamed, variables_come_before_channels, variables_come_round_first_parts,
-    variables_come_round_last_parts, variables_come_round_pars, variables_end_before_last_parts,
-    variables_go_into_branches, variables_go_into_choices,
+    new_variables_may_be_passed, pairs_come, pairs_go, unused_variables_come, unused_variables_go,
+    values_are_written_out, variables_are_renamed, variables_come_before_channels,
+    variables_come_round_first_parts, variables_come_round_last_parts, variables_come_round_pars,
+    variables_end_before_last_parts, variables_go_into_branches, variables_go_into_choices,
 };

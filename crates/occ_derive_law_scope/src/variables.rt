@@ -12,7 +12,7 @@ ghost use Rattle.occ_meaning.specs.Rename.{renamed, replacing, stands};
 ghost use Rattle.occ_script_path.specs.declared.direction.Direction.TheVariants.{Backward, Forward};
 ghost use Rattle.occ_syntax.specs.declared.scope.Kind.{Kind};
 ghost use Rattle.occ_syntax.specs.Names.{free, some_names};
-ghost use Rattle.occ_syntax.specs.Scopes.{environment};
+ghost use Rattle.occ_syntax.specs.Scopes.{environment, variable_width};
 ghost use Rattle.occ_syntax.specs.Tree.{Branches, Cases, Exp, Tree, Trees, alt, and_branch, and_tree, assign, connect, declare, input, par, select, seq, variable};
 ghost use Rattle.occ_syntax.specs.Types.{is_width, pairs_kept, type_of};
 ghost use Rattle.occ_syntax.specs.Usage.{Keeps};
@@ -78,6 +78,13 @@ pub fn inputs_go_into_variables()
         let first = seq (two (assign (x ∷ []) (variable z ∷ [])) p) in
         let new = declare z w (alt (all_branches gs (and_branch b (input c z) first hs))) in
         Keeps (environment S) old → IsStep 52 Forward S old new }
+{}
+
+/// So it may where the variable isn't in scope yet, and the input's own has its width.
+pub fn new_variables_may_be_passed()
+    ensures { (S : List (Name × Kind)) (z : ℕ) (w : Width) (gs hs : Branches) (b : Exp) (c x : ℕ) (p : Tree) → environment S z ≡ None
+        → variable_width (environment S) x ≡ Some w → Keeps (environment S) (alt (all_branches gs (and_branch b (input c x) p hs)))
+        → MayPass S z w gs hs b x p }
 {}
 
 /// And backward: an input that goes into a declared variable first goes into its own at once.
