@@ -1,4 +1,4 @@
-mod Names
+pub mod Names
 pub mod Usage
 mod Composed
 mod Lists

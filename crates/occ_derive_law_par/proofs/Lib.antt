@@ -1,0 +1,4 @@
+pub mod Beside
+pub mod Expanding
+pub mod Heaviest
+pub mod Meeting
