@@ -1,0 +1,3 @@
+pub mod Choices
+pub mod Conditions
+pub mod Holding
