@@ -3,3 +3,6 @@ pub mod Moving
 pub mod Choosing
 pub mod Runs
 pub mod Putting
+pub mod Listing
+pub mod Picking
+pub mod Laying

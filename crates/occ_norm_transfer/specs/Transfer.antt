@@ -58,6 +58,11 @@ pub record IsFunction (w : World) (vars : List (Name × Kind)) (layout : List (N
   pub moves : (Γ : Environment) → IsAround Γ vars → types_kept p Γ ≡ true → (x : ℕ) (t : List Event) (o : Outcome) → x < 2 ^ 64
       → (meaning p).does Γ (state_of layout x) t o ↔ ((t ≡ []) × (o ≡ ended (state_of layout (reached w.store digits x))))
 
+-- The map is that of the part and then what the map `rest` has.
+pub record IsMapOf (w : World) (frame : Frame) (p : Tree) (rest map : MapId) : Type 0 where
+  pub nodes : HasNodes w map
+  pub after : (Γ : Environment) → IsAround Γ frame.vars → types_kept p Γ ≡ true → IsAfter w frame.layout frame.keep frame.closed.items Γ p rest map
+
 -- The map is that of the parts from a place on, and then what the map `rest` has.
 pub record IsBehind (w : World) (frame : Frame) (parts : List Proc) (rest : MapId) (start : ℕ) (map : MapId) : Type 0 where
   pub within : start < length parts

@@ -3,6 +3,8 @@
 #![tactic(auto)]
 
 mod digits;
+mod laid;
+mod lists;
 mod moves;
 mod run;
 

@@ -1,25 +1,32 @@
 ghost use Rattle.std.specs.Prelude.{◌≤◌, length, IfOk, IfSome};
 ghost use Rattle.occ_syntax.specs.Tree.{seq};
 ghost use Rattle.occ_syntax.specs.View.{trees};
-ghost use Rattle.occ_mdd.specs.Maps.{IsKnown};
 ghost use Rattle.occ_norm_assign.specs.Writes.{AreWrites};
 ghost use Rattle.occ_norm_assign.specs.Written.{AreDistinct};
 ghost use Rattle.occ_norm_maps.specs.Maps.{Extends};
 ghost use Rattle.occ_norm_frame.specs.After.{IsOver};
 ghost use Rattle.occ_norm_frame.specs.Placed.{FitAll};
 ghost use Rattle.occ_digits.specs.Digits.{AreDigits};
-ghost use Rattle.occ_norm_transfer.specs.Transfer.{IsBehind, IsFunction, SameWrites};
+ghost use Rattle.occ_norm_transfer.specs.Transfer.{IsBehind, IsFunction, IsMapOf, SameWrites};
 
 use crate::digits::identity;
+use crate::laid::laid;
+use crate::lists::{listed_all, states};
 use crate::moves::moved;
 use occ_base::Memory;
 use occ_dd::SetId;
 use occ_mdd::MapId;
 use occ_node::World;
 use occ_norm_assign::{Write, applied};
-use occ_norm_frame::{Frame, bit_set, depth};
+use occ_norm_frame::{Frame, bit_set, is_full};
 use occ_syntax::{Expr, Proc};
 use std::alloc::Global;
+
+// How many sets a function may take.
+const MOST_SETS: usize = 5000;
+
+// As many nodes as a fourth of the states of so many bits are many: a map of fewer is gone through by sets quickly.
+const LEAST_BITS: u32 = 14;
 
 // Whether the last choice of an IF is always taken where no other is.
 fn has_last(choices: &[(Expr, Proc)]) -> bool {
@@ -102,14 +109,13 @@ fn composed(
     world: &mut World,
     frame: &Frame,
     parts: &[Proc],
-    most: usize,
 ) -> Result<Option<Vec<SetId>>, Memory>
     requires parts { FitAll frame.now.vars (trees parts.now) }
     ensures extends { Extends world.old world.new }
     ensures function { IfOk result (λ found. IfSome found
         (λ r. IsFunction world.new frame.now.vars frame.now.layout (seq (trees parts.now)) r.items)) }
 {
-    let limit = world.store.sets().saturating_add(most);
+    let limit = world.store.sets().saturating_add(MOST_SETS);
     let before = identity(alloc, world)?;
     let mut now = Vec::from_slice(alloc, &before)?;
     for place in 0..parts.len() {
@@ -124,18 +130,78 @@ fn composed(
     Ok(Some(now))
 }
 
-// How many sets the digits behind some parts may take: none where a map is of more than 4096 states, since going through it by
-// wide functions may take longer than part by part.
-fn most_sets(world: &mut World, rest: MapId) -> Result<usize, Memory>
-    requires { IsKnown world.old.maps rest }
-    ensures { Extends world.old world.new }
+// The map of some parts and then what another map has, by their digits; None where these take many sets, or where the map has many
+// nodes, about as many as there are states that it tells apart.
+fn by_digits(
+    alloc: Global,
+    world: &mut World,
+    frame: &Frame,
+    parts: &[Proc],
+    rest: MapId,
+) -> Result<Option<MapId>, Memory>
+    requires parts { FitAll frame.now.vars (trees parts.now) }
+    requires rest { IsOver world.old frame.now.bits rest }
+    ensures extends { Extends world.old world.new }
+    ensures after { IfOk result (λ found. IfSome found (IsMapOf world.new frame.now (seq (trees parts.now)) rest)) }
 {
-    let bits = depth(world, rest)?;
-    Ok(if bits > 12 { 0 } else { 5000 })
+    let full = is_full(world, LEAST_BITS, rest)?;
+    if full {
+        return Ok(None);
+    }
+    let Some(digits) = composed(alloc, world, frame, parts)? else {
+        return Ok(None);
+    };
+    let writes = writes_made(alloc, world, &digits)?;
+    let map = applied(alloc, world, frame.keep, &writes, rest)?;
+    Ok(Some(map))
 }
 
-/// Where two or more parts at the end of some don't communicate and always end in one state, and their function takes few sets
-/// and what follows looks at few bits: the place of the first of them, and the map of them and then what another map has.
+// The same by a list of where each state leads; None where there are too many states, or where a part isn't straight.
+fn by_states(
+    alloc: Global,
+    world: &mut World,
+    frame: &Frame,
+    parts: &[Proc],
+    rest: MapId,
+) -> Result<Option<MapId>, Memory>
+    requires parts { FitAll frame.now.vars (trees parts.now) }
+    requires rest { IsOver world.old frame.now.bits rest }
+    ensures extends { Extends world.old world.new }
+    ensures after { IfOk result (λ found. IfSome found (IsMapOf world.new frame.now (seq (trees parts.now)) rest)) }
+{
+    if frame.bits > 16 {
+        return Ok(None);
+    }
+    let before = states(alloc, frame.bits)?;
+    let Some(to) = listed_all(alloc, world, frame, &before, parts)? else {
+        return Ok(None);
+    };
+    let map = laid(alloc, world, frame, &to, rest)?;
+    Ok(Some(map))
+}
+
+// The same by digits or by a list, as it comes; None where neither will do.
+fn behind(
+    alloc: Global,
+    world: &mut World,
+    frame: &Frame,
+    parts: &[Proc],
+    rest: MapId,
+) -> Result<Option<MapId>, Memory>
+    requires parts { FitAll frame.now.vars (trees parts.now) }
+    requires rest { IsOver world.old frame.now.bits rest }
+    ensures extends { Extends world.old world.new }
+    ensures after { IfOk result (λ found. IfSome found (IsMapOf world.new frame.now (seq (trees parts.now)) rest)) }
+{
+    let found = by_digits(alloc, world, frame, parts, rest)?;
+    if found.is_some() {
+        return Ok(found);
+    }
+    by_states(alloc, world, frame, parts, rest)
+}
+
+/// Where two or more parts at the end of some don't communicate and always end in one state, and their function takes few sets or
+/// there are few states: the place of the first of them, and the map of them and then what another map has.
 pub fn straight(
     alloc: Global,
     world: &mut World,
@@ -152,14 +218,8 @@ pub fn straight(
     if parts.len() - start < 2 {
         return Ok(None);
     }
-    let most = most_sets(world, rest)?;
-    if most == 0 {
-        return Ok(None);
-    }
-    let Some(digits) = composed(alloc, world, frame, &parts[start..], most)? else {
+    let Some(map) = behind(alloc, world, frame, &parts[start..], rest)? else {
         return Ok(None);
     };
-    let writes = writes_made(alloc, world, &digits)?;
-    let map = applied(alloc, world, frame.keep, &writes, rest)?;
     Ok(Some((start, map)))
 }

@@ -1,0 +1,91 @@
+ghost use Rattle.std.specs.Prelude.{ℕ, ◌≡◌, ◌≤◌, ◌+◌, ◌^◌, Some, IfOk, length, slice_get};
+ghost use Rattle.occ_follow.specs.Sequence.{HasNodes};
+ghost use Rattle.occ_mdd.specs.Maps.{value};
+ghost use Rattle.occ_node.specs.World.{IsNode};
+ghost use Rattle.occ_node.specs.declared.node.NodeId.{NodeId};
+ghost use Rattle.occ_node.specs.World.{Leads as Goes};
+ghost use Rattle.occ_norm_maps.specs.Maps.{Extends};
+ghost use Rattle.occ_scope.specs.Tables.{KeepShifted};
+ghost use Rattle.occ_norm_transfer.specs.Lists.{AreLed, AreStates, IsLaid, IsSpread};
+
+use occ_base::Memory;
+use occ_mdd::MapId;
+use occ_node::{NodeId, World};
+use occ_norm_frame::{Frame, bit_set};
+use occ_norm_maps::{choose, constant};
+use occ_scope::{Shifts, shift_with};
+use std::alloc::Global;
+
+// The node that a map has at a state.
+fn node_at(world: &World, map: MapId, state: u64) -> NodeId
+    requires { HasNodes world.now map }
+    ensures there { IsNode world.now result }
+    ensures value { value world.now.maps map state ≡ Some result }
+{
+    match world.maps.get(map, state) {
+        Some(node) => node,
+        None => unreachable!(),
+    }
+}
+
+// A node for each state of a list: what a map has where the state leads, turned by what changes of its bits.
+fn led(
+    alloc: Global,
+    world: &mut World,
+    keep: u64,
+    to: &[u64],
+    rest: MapId,
+) -> Result<Vec<NodeId>, Memory>
+    requires { HasNodes world.old rest }
+    ensures goes { Goes world.old world.new }
+    ensures led { IfOk result (λ r. AreLed world.new keep to.now rest (length to.now) r.items) }
+{
+    let mut shifts = Shifts::new(alloc);
+    let mut nodes = Vec::with_capacity(alloc, to.len())?;
+    for place in 0..to.len() {
+        let state = to[place];
+        let change = (place as u64 ^ state) & keep;
+        let there = node_at(world, rest, state);
+        let node = shift_with(alloc, world, &mut shifts, there, change)?;
+        nodes.push(node)?;
+    }
+    Ok(nodes)
+}
+
+// The map that has, at each assignment, the node at the place that its lowest bits say, so many, from a first place on.
+fn spread(world: &mut World, nodes: &[NodeId], left: u32, first: usize) -> Result<MapId, Memory>
+    requires left { left ≤ 16 }
+    requires within { first + 2 ^ left ≤ length nodes.now }
+    requires there { (i : ℕ) (a : NodeId) → slice_get nodes.now i ≡ Some a → IsNode world.old a }
+    ensures extends { Extends world.old world.new }
+    ensures spread { IfOk result (IsSpread world.new nodes.now left first) }
+{
+    if left == 0 {
+        return constant(world, Some(nodes[first]));
+    }
+    let bit = left - 1;
+    let low = spread(world, nodes, bit, first)?;
+    let high = spread(world, nodes, bit, first + (1 << bit))?;
+    let set = bit_set(world, bit)?;
+    let map = choose(world, set, high, low)?;
+    Ok(map)
+}
+
+/// The map that has, at each assignment, what another map has where the list leads from its lowest bits, as many as the frame has,
+/// turned by what changes of those that the frame keeps.
+pub(crate) fn laid(
+    alloc: Global,
+    world: &mut World,
+    frame: &Frame,
+    to: &[u64],
+    rest: MapId,
+) -> Result<MapId, Memory>
+    requires bits { frame.now.bits ≤ 16 }
+    requires to { AreStates frame.now.bits to.now }
+    requires rest { HasNodes world.old rest }
+    ensures extends { Extends world.old world.new }
+    ensures laid { IfOk result (IsLaid world.new frame.now.keep frame.now.bits to.now rest) }
+{
+    let nodes = led(alloc, world, frame.keep, to, rest)?;
+    spread(world, &nodes, frame.bits, 0)
+}
