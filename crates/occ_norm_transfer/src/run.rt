@@ -19,7 +19,8 @@ use occ_mdd::MapId;
 use occ_node::World;
 use occ_norm_assign::{Write, applied};
 use occ_norm_frame::{Frame, bit_set, is_full};
-use occ_syntax::{Expr, Proc};
+use occ_norm_straight::is_straight;
+use occ_syntax::Proc;
 use std::alloc::Global;
 
 // How many sets a function may take.
@@ -27,48 +28,6 @@ const MOST_SETS: usize = 5000;
 
 // As many nodes as a fourth of the states of so many bits are many: a map of fewer is gone through by sets quickly.
 const LEAST_BITS: u32 = 14;
-
-// Whether the last choice of an IF is always taken where no other is.
-fn has_last(choices: &[(Expr, Proc)]) -> bool {
-    if choices.is_empty() {
-        return false;
-    }
-    let last = &choices[choices.len() - 1];
-    matches!(&last.0, Expr::Bool(true))
-}
-
-// Whether a part doesn't communicate, and always ends in one state.
-#[cycle(is_straight)]
-fn is_straight(part: &Proc) -> bool {
-    match part {
-        Proc::Skip | Proc::Assign { .. } => true,
-        Proc::Seq(parts) => are_straight(parts.items()),
-        Proc::If(choices) => has_last(choices.items()) && leads_straight(choices.items()),
-        _ => false,
-    }
-}
-
-// The same of each of some parts.
-#[cycle(is_straight)]
-fn are_straight(parts: &[Proc]) -> bool {
-    for part in parts {
-        if !is_straight(part) {
-            return false;
-        }
-    }
-    true
-}
-
-// The same of the part of each of some choices.
-#[cycle(is_straight)]
-fn leads_straight(choices: &[(Expr, Proc)]) -> bool {
-    for (_, part) in choices {
-        if !is_straight(part) {
-            return false;
-        }
-    }
-    true
-}
 
 // The first of the straight parts at the end of some.
 fn run_start(parts: &[Proc]) -> usize

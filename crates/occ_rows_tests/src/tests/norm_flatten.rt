@@ -56,15 +56,17 @@ fn input(chan: usize, var: usize) -> Proc {
 // Two users of each of two channels, those of one behind those of the other where they are close.
 fn users(alloc: Global, is_close: bool) -> Result<Proc, Memory> {
     let mut parts = Procs::new(alloc);
-    parts.push(output(0))?;
     if is_close {
+        parts.push(input(1, 3))?;
+        parts.push(output(1))?;
         parts.push(input(0, 2))?;
-    }
-    parts.push(output(1))?;
-    if !is_close {
+        parts.push(output(0))?;
+    } else {
+        parts.push(output(0))?;
+        parts.push(output(1))?;
         parts.push(input(0, 2))?;
+        parts.push(input(1, 3))?;
     }
-    parts.push(input(1, 3))?;
     Ok(Proc::Par(parts))
 }
 
