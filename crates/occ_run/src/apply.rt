@@ -1,7 +1,7 @@
 ghost use Rattle.std.specs.Prelude.{◌≡◌, ◌==◌, ℕ, IfOk};
-ghost use Rattle.occ_run.specs.Effects.{applied as after_effect, applied_from, at_leaf as left_at, body_of, changes_of, effect as seen};
+ghost use Rattle.occ_run.specs.Effects.{at_leaf as left_at, body_of, changes_of, effect as seen};
 ghost use Rattle.occ_run.specs.Effects.{part_of, value_of, next_left};
-ghost use Rattle.occ_run.specs.View.{control as left, controls};
+ghost use Rattle.occ_run.specs.View.{control as left};
 ghost use Rattle.occ_run_steps.specs.Step.{changed as after_changes};
 ghost use Rattle.occ_syntax.specs.Scopes.{values};
 ghost use Rattle.occ_base.specs.declared.names.Name.{Name as TheName};
@@ -14,75 +14,8 @@ use occ_base::{Memory, Name};
 use std::alloc::Global;
 use std::rc::Rc;
 
-/// A control after a step with that effect. What doesn't change is shared.
-#[cycle(applied)]
-pub(crate) fn applied<'a>(
-    alloc: Global,
-    control: &Control<'a>,
-    effect: &Effect<'a>,
-) -> Result<Control<'a>, Memory>
-    ensures { IfOk result (λ next. left next ≡ after_effect (left control.now) (seen effect.now)) }
-{
-    match control {
-        Control::Done => Ok(Control::Done),
-        Control::Ready | Control::Stuck | Control::Unbegun(_) => at_leaf(alloc, effect),
-        Control::Input { .. } | Control::Output { .. } => at_leaf(alloc, effect),
-        Control::After(body, rest) => {
-            let body = applied(alloc, body, effect)?;
-            Ok(Control::After(Rc::new(alloc, body)?, *rest))
-        }
-        Control::Both(parts) => Ok(Control::Both(all_applied(alloc, parts, effect)?)),
-        Control::Local {
-            name,
-            width,
-            value,
-            body,
-        } => {
-            let body = applied(alloc, body, inside(effect))?;
-            Ok(Control::Local {
-                name: *name,
-                width: *width,
-                value: value_inside(*value, effect),
-                body: Rc::new(alloc, body)?,
-            })
-        }
-        Control::Channels { first, more, body } => {
-            let body = applied(alloc, body, effect)?;
-            Ok(Control::Channels {
-                first: *first,
-                more: Vec::from_slice(alloc, more)?,
-                body: Rc::new(alloc, body)?,
-            })
-        }
-    }
-}
-
-/// Controls at once after a step.
-#[cycle(applied)]
-fn all_applied<'a>(
-    alloc: Global,
-    parts: &[Rc<Control<'a>>],
-    effect: &Effect<'a>,
-) -> Result<Vec<Rc<Control<'a>>>, Memory>
-    ensures { IfOk result (λ all. controls all.items ≡ applied_from 0 (controls parts.now) (seen effect.now)) }
-{
-    let mut all = Vec::new(alloc);
-    let mut index: usize = 0;
-    let mut rest = parts;
-    while let [part, later @ ..] = rest {
-        let next = match effect_on(effect, index) {
-            None => part.clone()?,
-            Some(effect) => Rc::new(alloc, applied(alloc, part, effect)?)?,
-        };
-        all.push(next)?;
-        index += 1;
-        rest = later;
-    }
-    Ok(all)
-}
-
 /// What a process with steps becomes.
-fn at_leaf<'a>(alloc: Global, effect: &Effect<'a>) -> Result<Control<'a>, Memory>
+pub(crate) fn at_leaf<'a>(alloc: Global, effect: &Effect<'a>) -> Result<Control<'a>, Memory>
     ensures { IfOk result (λ next. left next ≡ left_at (seen effect.now)) }
 {
     match effect {
@@ -113,7 +46,7 @@ fn begins<'a>(alloc: Global, next: Next<'a>) -> Result<Control<'a>, Memory>
 }
 
 /// The effect on the body of a VAR.
-fn inside<'e, 'a>(effect: &'e Effect<'a>) -> &'e Effect<'a>
+pub(crate) fn inside<'e, 'a>(effect: &'e Effect<'a>) -> &'e Effect<'a>
     ensures { seen result.now ≡ body_of (seen effect.now) }
 {
     match effect {
@@ -123,7 +56,7 @@ fn inside<'e, 'a>(effect: &'e Effect<'a>) -> &'e Effect<'a>
 }
 
 /// The value that the variable of a VAR has then.
-fn value_inside(old: u8, effect: &Effect) -> u8
+pub(crate) fn value_inside(old: u8, effect: &Effect) -> u8
     ensures { result ≡ value_of old (seen effect.now) }
 {
     match effect {
@@ -133,7 +66,7 @@ fn value_inside(old: u8, effect: &Effect) -> u8
 }
 
 /// The effect on the control of that index among controls at once; None where it doesn't change.
-fn effect_on<'e, 'a>(effect: &'e Effect<'a>, index: usize) -> Option<&'e Effect<'a>>
+pub(crate) fn effect_on<'e, 'a>(effect: &'e Effect<'a>, index: usize) -> Option<&'e Effect<'a>>
     ensures { IsPartOf (part_of (seen effect.now) index) result }
 {
     match effect {

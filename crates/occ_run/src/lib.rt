@@ -7,6 +7,7 @@ mod control;
 mod effect;
 mod law;
 mod machine;
+mod moving;
 mod offers;
 mod pairs;
 mod place;

@@ -1,5 +1,6 @@
-ghost use Rattle.std.specs.Prelude.{◌≡◌};
+ghost use Rattle.std.specs.Prelude.{◌≡◌, true};
 ghost use Rattle.occ_run_steps.specs.Kept.{Kept};
+ghost use Rattle.occ_run_steps.specs.Settled.{is_settled};
 ghost use Rattle.occ_syntax.specs.Scopes.{IsState, environment, values};
 ghost use Rattle.occ_run.specs.View.{control as left};
 
@@ -13,6 +14,7 @@ pub struct Point<'a> {
     pub(crate) place: Place,
     pub(crate) control: Control<'a>,
     pub ghost kept: { ∥ Kept (environment place.scope.items) (left control) ∥₁ },
+    pub ghost rests: { is_settled (left control) ≡ true },
     pub ghost state: { IsState (environment place.scope.items) (values place.state.items) },
 }
 

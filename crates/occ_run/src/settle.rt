@@ -59,7 +59,7 @@ fn channels_in<'a>(alloc: Global, part: &'a Proc) -> Result<(Vec<(Name, Width)>,
 }
 
 /// CHANs in a row round a control, which are over with it.
-fn in_channels<'a>(
+pub(crate) fn in_channels<'a>(
     alloc: Global,
     first: (Name, Width),
     more: Vec<(Name, Width)>,
@@ -76,7 +76,7 @@ fn in_channels<'a>(
 
 /// What processes in turn come to.
 #[cycle(begun)]
-fn begun_turn<'a>(place: &Place, parts: &'a [Proc]) -> Result<Control<'a>, Memory>
+pub(crate) fn begun_turn<'a>(place: &Place, parts: &'a [Proc]) -> Result<Control<'a>, Memory>
     requires { all_types_kept (trees parts.now) (names_at place.now) ≡ true }
     ensures { IfOk result (λ control. left control ≡ turn_begins_as (names_at place.now) (values_at place.now) (trees parts.now)) }
 {
@@ -107,7 +107,7 @@ fn begun_all<'a>(place: &Place, parts: &'a [Proc]) -> Result<Control<'a>, Memory
 }
 
 /// Controls at once, which are over with the last of them.
-fn side_by_side<'a>(parts: Vec<Rc<Control<'a>>>) -> Control<'a>
+pub(crate) fn side_by_side<'a>(parts: Vec<Rc<Control<'a>>>) -> Control<'a>
     ensures { left result ≡ at_once (controls parts.entry.items) }
 {
     if are_over(&parts) {
