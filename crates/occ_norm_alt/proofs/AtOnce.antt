@@ -33,15 +33,6 @@ use Rattle.occ_norm_alt.proofs.Placed.{placed_small}
 pub never_none : (w : World) (map : MapId) → HasNodes w map → (x : ℕ) → x < 2 ^ 64 → value w.maps map x ≡ None → ⊥
 never_none w map has x h e = let found = has.nodes x h in let f : Some found.0 ≡ None = sym found.1 ∙ e in cc
 
-last_there : {A : Type 0} (xs : List A) (y : A) → slice_get (xs ++ y ∷ []) (length xs) ≡ Some y
-last_there [] y = refl
-last_there (x ∷ xs) y = last_there xs y
-
-kept_there : {A : Type 0} (xs : List A) (y : A) (i : ℕ) → i < length xs → slice_get (xs ++ y ∷ []) i ≡ slice_get xs i
-kept_there [] y i h = absurd (omega (arith, h))
-kept_there (x ∷ xs) y zero h = refl
-kept_there (x ∷ xs) y (suc i) h = kept_there xs y i (omega (arith, h))
-
 within_list : {A : Type 0} (xs : List A) (a : A) (i : ℕ) → slice_get xs i ≡ Some a → i < length xs
 within_list [] a i e = absurd (cc)
 within_list (x ∷ xs) a zero e = omega arith
@@ -51,22 +42,6 @@ within_list (x ∷ xs) a (suc i) e = let h = within_list xs a i e in omega (arit
 pub record NextsTo (w : World) (first bits : ℕ) (next : MapId) (state count : ℕ) (nodes : List NodeId) : Type 0 where
   pub all : length nodes ≡ count
   pub each : (u : ℕ) → u < count → slice_get nodes u ≡ value w.maps next (placed first bits u state)
-
-pub nexts_none : (w : World) (first bits : ℕ) (next : MapId) (state : ℕ) (nodes : List NodeId) → nodes ≡ [] → NextsTo w first bits next state 0 nodes
-nexts_none w first bits next state nodes e = record { all = ap length e; each = λ u h. absurd (omega (arith, h)) }
-
-pub nexts_more : (w : World) (first bits : ℕ) (next : MapId) (state count : ℕ) (nodes : List NodeId) (n : NodeId) → NextsTo w first bits next state count nodes
-    → value w.maps next (placed first bits count state) ≡ Some n → NextsTo w first bits next state (count + 1) (nodes ++ n ∷ [])
-nexts_more w first bits next state count nodes n is e = record {
-  all = let a = is.all in let l = length-append nodes (n ∷ []) in omega (arith, a, l);
-  each = λ u h. ⊎_elim
-      (λ (l : u < count). kept_there nodes n u (let a = is.all in omega (arith, l, a)) ∙ is.each u l)
-      (λ (l : count ≤ u).
-      let last : u ≡ length nodes = (let a = is.all in omega (arith, a, l, h)) in
-      let same : count ≡ u = omega (arith, l, h) in
-      ap (slice_get (nodes ++ n ∷ [])) last ∙ last_there nodes n ∙ sym e ∙ ap (λ j. value w.maps next (placed first bits j state)) same)
-      (cases_lt u count);
-}
 
 pub nexts_known : (v : World) (first bits : ℕ) (next : MapId) (state : ℕ) (nodes : List NodeId) → first + bits ≤ 64 → state < 2 ^ 64 → HasNodes v next → AreNexts v first bits next state nodes → All (IsNode v) nodes
 nexts_known v first bits next state nodes fits small has are = λ u d l. map_node v next has (placed first bits u state) (placed_small first bits u state fits small) (get_or nodes u d)

@@ -113,6 +113,3 @@ all_gone xs i rs h a = gone (trees xs) rs (subst (λ ys. GoesOn no_tree (trees y
 
 pub single_of_seq : (ps qs : Trees) (q : Tree) → IsArranged (seq ps) (seq qs) → qs ≡ one q → IsArranged (seq ps) q
 single_of_seq ps qs q a e = arranged_steps (seq ps) (seq (one q)) q (subst (λ zs. IsArranged (seq ps) (seq zs)) e a) (one_of_seq q)
-
-pub single_of_par : (ps : Trees) (q : Tree) → ps ≡ one q → IsArranged (par ps) q
-single_of_par ps q e = subst (λ zs. IsArranged (par zs) q) (sym e) (one_of_par q)

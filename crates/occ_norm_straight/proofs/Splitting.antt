@@ -118,15 +118,6 @@ one_more ps qs p a = both_arranged ps qs (one p) (one p) a (arranged_itself (par
 
 -- ---- what the parts are split into
 
-pub split_none : IsSplit no_tree no_tree no_tree [] []
-split_none = record { alike = arranged_itself (par no_tree); leads = tt; writes = λ x h. refl; names = λ x h. refl }
-
-pub split_new : (xs ys : List Proc) (ws ns : List ℕ) → xs ≡ [] → ys ≡ [] → ws ≡ [] → ns ≡ [] → IsSplit no_tree (trees xs) (trees ys) ws ns
-split_new xs ys ws ns e f g h =
-    subst (λ zs. IsSplit no_tree (trees zs) (trees ys) ws ns) (sym e)
-    (subst (λ zs. IsSplit no_tree no_tree (trees zs) ws ns) (sym f)
-    (subst (λ zs. IsSplit no_tree no_tree no_tree zs ns) (sym g) (subst (λ zs. IsSplit no_tree no_tree no_tree [] zs) (sym h) split_none)))
-
 pub split_other : (ps front others : Trees) (writes names names' : List ℕ) (p : Tree) → IsSplit ps front others writes names
     → ((x : ℕ) → (is_in writes x ≡ false) ⊎ (free p x ≡ false)) → Notes names (free p) names' → IsSplit (all_of ps (one p)) front (all_of others (one p)) writes names'
 split_other ps front others writes names names' p a off n = record {

@@ -68,11 +68,6 @@ got_within [] a i e = absurd (cc)
 got_within (x ∷ xs) a zero e = omega arith
 got_within (x ∷ xs) a (suc i) e = let h = got_within xs a i e in omega (arith, h)
 
-pub got_at : {A : Type 0} (xs : List A) (i : ℕ) → i < length xs → (a : A) × (slice_get xs i ≡ Some a)
-got_at [] i h = absurd (omega (arith, h))
-got_at (x ∷ xs) zero h = (x, refl)
-got_at (x ∷ xs) (suc i) h = got_at xs i (omega (arith, h))
-
 -- ---- states
 pub states_whole : (n : ℕ) (list : List ℕ) → length list ≡ 2 ^ n → Each (λ i x. x ≡ i) list → AreStates n list × StaySame n list
 states_whole n list size is = (

@@ -44,6 +44,3 @@ picked_no s members before there old now place off is = record {
       (cases_eq i place);
   above = λ i k. is.above i (omega (arith, k));
 }
-
-pub picked_all : (s : Store) (members : SetId) (before there old now : List ℕ) (place : ℕ) → length before ≤ place → ArePickedTo s members before there old place now → ArePicked s members before there old now
-picked_all s members before there old now place all is i h = is.below i (omega (arith, all, h))
