@@ -49,11 +49,12 @@ struct Inputs {
     keep: u64,
 }
 
-// The outputs of a value to a channel, and what comes after them.
+// The outputs of a value to a channel, and what comes after them, which may have several nodes.
 #[derive(Clone, Copy)]
 struct Outputs {
     chan: Name,
     next: MapId,
+    several: bool,
 }
 
 // The map of the input of a value, and then what the map has.
@@ -120,8 +121,35 @@ fn node_count(world: &mut World, map: MapId) -> Result<usize, Memory>
     Ok(nodes.len())
 }
 
-// Whether the states should be gone through one by one: there are few of them, what follows has many nodes for so few, and the bits
-// of the variable aren't told as changes.
+// Whether a map differs at two states by a bit: where no other bit is 1, or where all are.
+fn shows_bit(world: &World, map: MapId, bit: u32) -> bool
+    requires bit { bit < 64 }
+    requires map { IsKnown world.now.maps map }
+{
+    let one: u64 = 1 << bit;
+    let maps = &world.maps;
+    maps.get(map, 0) != maps.get(map, one)
+        || maps.get(map, u64::MAX) != maps.get(map, u64::MAX ^ one)
+}
+
+// How many bits of a frame outside a variable a map shows.
+fn bits_shown(world: &World, frame: &Frame, inputs: Inputs, map: MapId) -> u32
+    requires bits { frame.now.bits ≤ 16 }
+    requires map { IsKnown world.now.maps map }
+    ensures { result ≤ 16 }
+{
+    let mut count: u32 = 0;
+    for bit in 0..frame.bits {
+        let inside = inputs.first <= bit && bit - inputs.first < inputs.bits;
+        if !inside && shows_bit(world, map, bit) {
+            count += 1;
+        }
+    }
+    count
+}
+
+// Whether the states should be gone through one by one: there are few of them, what follows differs by them and has many nodes for so
+// few, and the bits of the variable aren't told as changes.
 fn is_by_states(
     world: &mut World,
     frame: &Frame,
@@ -133,11 +161,15 @@ fn is_by_states(
     ensures unkept { IfOk result (λ r. OnTrue r (inputs.keep ≡ 0)) }
     ensures few { IfOk result (λ r. OnTrue r (frame.now.bits ≤ 16)) }
 {
-    if inputs.keep != 0 || frame.bits > 16 || frame.bits <= inputs.bits {
+    if inputs.keep != 0 || frame.bits > 16 {
+        return Ok(false);
+    }
+    let shown = bits_shown(world, frame, inputs, next);
+    if shown == 0 {
         return Ok(false);
     }
     let nodes = node_count(world, next)?;
-    Ok(nodes >> (frame.bits - inputs.bits) > 0)
+    Ok(nodes >> shown > 0)
 }
 
 // The map of the inputs of all values, and then what the map has: by going through the states, or by halves of the values.
@@ -217,13 +249,16 @@ fn output_on(
     ensures nodes { IfOk result (HasNodes world.new) }
     ensures outputs { IfOk result (AreOutputs world.new outputs.chan (has world.old.store set) (λ x. value) outputs.next) }
 {
-    let stopped = stop(alloc, world)?;
-    let there = choose(world, set, outputs.next, stopped)?;
     let event = Event {
         chan: outputs.chan,
         dir: Dir::Output,
         value,
     };
+    if !outputs.several {
+        return prefixed(alloc, world, outputs.next, event);
+    }
+    let stopped = stop(alloc, world)?;
+    let there = choose(world, set, outputs.next, stopped)?;
     let map = prefixed(alloc, world, there, event)?;
     Ok(map)
 }
@@ -288,9 +323,14 @@ pub fn output(
     if closed {
         return stop(alloc, world);
     }
+    let several = node_count(world, next)? > 1;
     let digits = digits(alloc, world, frame, value)?;
     let full = world.store.full();
-    let outputs = Outputs { chan, next };
+    let outputs = Outputs {
+        chan,
+        next,
+        several,
+    };
     let sets = digits.bits();
     output_from(alloc, world, outputs, sets, sets.len(), full, 0)
 }
