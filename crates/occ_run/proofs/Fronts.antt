@@ -16,6 +16,11 @@ front_is (y ∷ l) x h e =
     let rest : take (length (y ∷ l) - 1) l ≡ l = take_all (length (y ∷ l) - 1) l (omega arith) in
     ap (λ z. z ∷ l) (sym e) ∙ ap (λ zs. x ∷ zs) (sym rest)
 
+-- two first items of a list are the same
+pub same_first : {A : Type 0} (l : List A) (x y : A) → 0 < length l → x ≡ get_or l 0 x → y ≡ get_or l 0 y → x ≡ y
+same_first [] x y h e f = absurd (omega (arith, h))
+same_first (z ∷ l) x y h e f = e ∙ sym f
+
 pub none_is : {A : Type 0} (l : List A) → length l < 1 → l ≡ []
 none_is [] h = refl
 none_is (x ∷ l) h = absurd (omega (arith, h))

@@ -15,4 +15,6 @@ pub mod Applying
 pub mod Refusing
 pub mod Listing
 pub mod Listed
+pub mod Founds
+pub mod Processes
 pub mod Holding

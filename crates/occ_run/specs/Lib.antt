@@ -1,6 +1,7 @@
 pub mod View
 pub mod Effects
 pub mod Offers
+pub mod Founds
 pub mod Places
 pub mod Configurations
 pub mod Stands

@@ -27,7 +27,7 @@ pub fn of_variable<'a>(
 }
 
 /// A step in the body of a VAR as the outside sees it.
-fn outside<'a>(
+pub(crate) fn outside<'a>(
     alloc: Global,
     name: Name,
     value: u8,
@@ -103,7 +103,7 @@ fn is_off(channel: (Name, Width), event: Option<Event>) -> bool
     }
 }
 
-fn are_off(channels: &[(Name, Width)], event: Option<Event>) -> bool
+pub(crate) fn are_off(channels: &[(Name, Width)], event: Option<Event>) -> bool
     ensures { result ≡ off_all channels.now event }
 {
     let mut rest = channels;

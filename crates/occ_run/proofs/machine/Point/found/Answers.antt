@@ -1,0 +1,16 @@
+use Rattle.std.proofs.Common.{List, subst, ◌∙◌}
+use Rattle.occ_base.specs.declared.names.Name.{Name}
+use Rattle.occ_base.specs.declared.width.Width.{Width}
+use Rattle.occ_run.specs.Effects.{off_channels}
+use Rattle.occ_run.specs.Founds.{IsAt, effects}
+use Rattle.occ_run.specs.Places.{names_at, values_at}
+use Rattle.occ_run.specs.View.{control}
+use Rattle.occ_run.proofs.Bodies.{on_ok}
+use Rattle.occ_run.proofs.Founds.{at_all}
+use Rattle.occ_run.proofs.machine.Point.found.Goals as goal
+
+pub returns : goal.returns
+returns c =
+    let ks = effects (names_at c.args.self.now.place) (values_at c.args.self.now.place) (control c.args.self.now.control) in
+    on_ok c.found.result (λ found h. at_all ks c.args.number found
+    (subst (λ (cs : List (Name × Width)). IsAt (off_channels cs ks) c.args.number found) (c.as_slice-hidden.ensures.value ∙ c.new-hidden.ensures.items) h)) c.found.ensures
