@@ -1,13 +1,16 @@
--- The names of a program that was read are those of the table that reading left.
-use Rattle.std.proofs.Common.{◌≡◌, ℕ, List, [], refl, sym, subst, ◌∙◌}
+-- The names of a program that was read are those of the table that reading left, and it keeps types.
+use Rattle.std.proofs.Common.{◌≡◌, ℕ, true, List, [], refl, sym, subst, ◌∙◌}
 use Rattle.std.proofs.lemmas.List.{append-nil}
+use Rattle.occ_base.specs.Names.{IsDistinct}
 use Rattle.occ_lex_symbols.specs.Symbols.{Extends}
 use Rattle.occ_lex_symbols.proofs.Interned.{extends_trans}
 use Rattle.occ_parse.specs.Known.{NamesAreKnown}
+use Rattle.occ_parse.proofs.Checked.{typed}
 use Rattle.occ_parse.proofs.Declared.{known_from}
 use Rattle.occ_parse.proofs.Knowing.{lines_known, params_known}
 use Rattle.occ_parse_reading.specs.declared.bound.Bound.{Bound}
 use Rattle.occ_parse_reading.specs.Drafts.{header_below, header_params}
+use Rattle.occ_parse_reading.specs.Limits.{is_limited}
 use Rattle.occ_parse_reading.specs.Reading.{IsRead, names_in}
 use Rattle.occ_parse_rules.specs.Places.{Place}
 use Rattle.occ_parse_rules.specs.Unrolled.{params_named, slot_process}
@@ -20,6 +23,7 @@ use Rattle.occ_script_again.proofs.Numbers.{AreSame, IsSame, back_of, front_of, 
 use Rattle.occ_script_again.proofs.Settled.{places_same}
 use Rattle.occ_syntax.specs.declared.scope.Program.{Program}
 use Rattle.occ_syntax.specs.View.{tree}
+use Rattle.occ_usage.specs.Accepted.{IsTyped}
 
 module _ (b : Bound) (text : List ℕ) (old new : List (List ℕ)) (p : Program) (lines : List ℕ)
     (r : IsRead b text old new p.name p.params (tree p.body) lines) where
@@ -58,3 +62,7 @@ module _ (b : Bound) (text : List ℕ) (old new : List (List ℕ)) (p : Program)
 
   pub names_known : NamesAreKnown new p
   names_known = known_from b text old new r.draft r.laid_out grown p params_stay body_stays
+
+  -- it keeps names, types, directions and limits
+  pub program_typed : IsDistinct new → is_limited b ≡ true → IsTyped p
+  program_typed d limited = typed b text old new r.draft r.laid_out grown d r.in_order limited p params_stay body_stays

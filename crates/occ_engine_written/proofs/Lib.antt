@@ -1,6 +1,6 @@
 mod Paths
 mod Said
-mod Known
+pub mod Known
 mod Plain
 pub mod Printed
 mod Made

@@ -3,7 +3,8 @@
 #![tactic(auto)]
 
 ghost use Rattle.std.specs.List.{AllByRecursion};
-ghost use Rattle.std.specs.Prelude.{ℕ, ◌≡◌, List, Some};
+ghost use Rattle.std.specs.Prelude.{ℕ, ◌≡◌, List, Some, true};
+ghost use Rattle.occ_base.specs.Names.{IsDistinct};
 ghost use Rattle.occ_engine.specs.Moved.{moves_of, orders_of};
 ghost use Rattle.occ_engine_rules.specs.Expansion.{IsExpanded};
 ghost use Rattle.occ_engine_rules.specs.Moves.{Moves};
@@ -12,6 +13,7 @@ ghost use Rattle.occ_engine_written.specs.First.{AreWritten, IsFirstProgram};
 ghost use Rattle.occ_fresh.specs.Growth.{GrowsByNames};
 ghost use Rattle.occ_parse.specs.Known.{NamesAreKnown};
 ghost use Rattle.occ_parse_reading.specs.declared.bound.Bound.{Bound};
+ghost use Rattle.occ_parse_reading.specs.Limits.{is_limited};
 ghost use Rattle.occ_parse_reading.specs.Reading.{IsRead};
 ghost use Rattle.occ_script.specs.declared.script.Order.{Order};
 ghost use Rattle.occ_script.specs.Orders.{IsOrders};
@@ -21,6 +23,7 @@ ghost use Rattle.occ_script_write.specs.Text.{IsWritable};
 ghost use Rattle.occ_script_write_back.specs.Said.{IsSaid, IsShortPath};
 ghost use Rattle.occ_syntax.specs.declared.scope.Program.{Program};
 ghost use Rattle.occ_syntax.specs.View.{tree};
+ghost use Rattle.occ_usage.specs.Accepted.{IsTyped};
 
 use occ_engine_known::{
     expansions_have_known_names, followed_orders_have_known_names, kept_parts_have_known_names,
@@ -39,6 +42,13 @@ pub fn paths_of_texts_are_short()
 pub fn read_programs_declare_known_names()
     ensures { (b : Bound) (text : List ℕ) (old new : List (List ℕ)) (program : Program) (lines : List ℕ)
         → IsRead b text old new program.name program.params (tree program.body) lines → NamesAreKnown new program }
+{}
+
+/// A program that was read within the limits keeps names, types, directions and limits.
+pub fn read_programs_are_typed()
+    ensures { (b : Bound) (text : List ℕ) (old new : List (List ℕ)) (program : Program) (lines : List ℕ)
+        → IsRead b text old new program.name program.params (tree program.body) lines → IsDistinct new → is_limited b ≡ true
+        → IsTyped program }
 {}
 
 /// Orders that are followed from a program that was read make moves that are written from the table that reading the orders left.

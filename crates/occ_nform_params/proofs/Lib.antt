@@ -1,4 +1,4 @@
 mod Header
 mod Named
 mod Params
-mod Whole
+pub mod Whole

@@ -6,6 +6,6 @@ pub mod Small
 pub mod Knowing
 pub mod Places
 pub mod Faultless
-mod Checked
+pub mod Checked
 pub mod Placed
 pub mod Declared

@@ -43,6 +43,8 @@ use Rattle.occ_syntax.specs.Tree.{Tree}
 use Rattle.occ_syntax.specs.View.{tree}
 use Rattle.occ_tool_joined.specs.Joined.{IsPrintedNarrow}
 use Rattle.occ_tool_run.proofs.OneAnswer.{Does, does}
+use Rattle.occ_tool_run.proofs.Accepting.{read_typed}
+use Rattle.occ_tool_run.proofs.Judging.{no_name_twice}
 use Rattle.occ_tool_run.specs.Accepts.{IsAccepted}
 use Rattle.occ_tool_run.specs.Answers.{Answers as ToolAnswers, IsAnswer}
 use Rattle.occ_tool_run.specs.declared.answer.Answer.{Answer}
@@ -121,7 +123,7 @@ module _ (laws : Laws) (one two : Option (List ℕ)) (between names new : Table)
   written : (steps : List Done) → AllByRecursion (IsWritable new) steps → AllByRecursion IsSaid steps → Moves p.params (tree p.body) (moves_of steps) (tree q.body)
       → q.name ≡ p.name → q.params ≡ p.params → AreWrittenMoves new end.0 p steps q
   written steps w s moves same_name same_params =
-      let typed = first.text.typed in
+      let typed = read_typed first.bytes [] between p first.text.numbers no_name_twice first.text.read in
       let below = names_below bound.Program first.bytes [] between p first.text.numbers first.text.read in
       let later = laws.stay (length between) (length new) p.params (tree p.body) (longer between new extends) below in
       record {

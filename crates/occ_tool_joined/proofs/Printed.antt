@@ -24,6 +24,8 @@ use Rattle.occ_syntax.specs.View.{tree}
 use Rattle.occ_tool_joined.specs.Joined.{IsJoined, IsPrintedNarrow}
 use Rattle.occ_tool_joined.proofs.Asked.{PathLaw, derive_asked, expand_asked, path_asked, replay_asked, transform_asked}
 use Rattle.occ_tool_joined.proofs.Replayed.{IsDerived, OneLaw, replay_joined}
+use Rattle.occ_tool_run.proofs.Accepting.{read_typed}
+use Rattle.occ_tool_run.proofs.Judging.{no_name_twice}
 use Rattle.occ_tool_run.specs.Accepts.{IsAccepted}
 use Rattle.occ_tool_run.specs.Answers.{Answers, Takes, accepted, refused, unusable}
 use Rattle.occ_tool_run.specs.Derivations.{Replays}
@@ -116,11 +118,11 @@ refusing : (answer : _) (n : ℕ) → status_of answer ≡ 0 → status_of answe
 refusing answer n z e h = absurd (omega (arith, z, e, h))
 
 first_program : (file : Option (List ℕ)) (names : Table) (p : Program) → IsPrintedNarrow file → IsAccepted file [] names p → IsFirstProgram names p
-first_program file names p narrow a = record {
+first_program file names p narrow a = let typed = read_typed a.bytes [] names p a.text.numbers no_name_twice a.text.read in record {
   text = a.bytes;
   lines = a.text.numbers;
   read = a.text.read;
-  accepted = record { typed = a.text.typed; keeps = record { types = a.text.typed.types; usage = a.text.usage } };
+  accepted = record { typed = typed; keeps = record { types = typed.types; usage = a.text.usage } };
   narrow = narrow names p a;
 }
 

@@ -18,6 +18,8 @@ use Rattle.occ_tool_run.specs.Accepts.{IsAccepted, IsAcceptedText, IsRefused, Is
 use Rattle.occ_tool_run.specs.Answers.{Answers, Compares, IsNormalised, Settles, Takes, TakesBoth, Turned, accepted, accepted_behind, refused, refused_behind, unusable, unusable_behind}
 use Rattle.occ_tool_run.specs.Files.{Files, order_of, short_bytes}
 use Rattle.occ_tool_run.specs.Texts.{status_of, text_of}
+use Rattle.occ_usage.specs.Accepted.{IsTyped}
+use Rattle.occ_tool_run.proofs.Accepting.{read_typed}
 use Rattle.occ_tool_run.proofs.EitherOrder.{kept_bytes, one_text}
 use Rattle.occ_tool_run.proofs.Judging.{no_name_twice}
 use Rattle.occ_tool_run.proofs.OneAnswer.{Does, back, does, short}
@@ -50,6 +52,10 @@ taken place file old R a P g m (accepted n p r x) next = next n p r x
 pub asked : (files : Files) (words : List (List ℕ)) (job : Job) (status : ℕ) (text : List ℕ) → job_of words ≡ Some job → (h : Answers files words status text) → Does files (Some job) h.answer
 asked files words job status text e h = subst (λ j. Does files j h.answer) e (does files words h.answer h.is)
 
+-- the program of a file keeps types
+typed_in : (file : File) (old names : Table) (p : Program) → IsAccepted file old names p → IsDistinct old → IsTyped p
+typed_in file old names p a d = read_typed a.bytes old names p a.text.numbers d a.text.read
+
 module _ (L : Laws) where
   taken_file : (place : Side) (file : File) (text : List ℕ) (x : IsTextOf file text) (old : Table) → IsDistinct old → (R : Table → Program → Answer → Type 0) (a : Answer) (P : Type 0)
       → Takes place file old R a → ((names : Table) (p : Program) → IsAccepted file old names p → R names p a → P) → P
@@ -63,7 +69,7 @@ module _ (L : Laws) where
     in_order h =
         taken_file First c s x [] no_name_twice (λ m p. Takes Second d m (Compares p)) a (Told L s t a) h
         (λ m p r k. taken_file Second d t y m (left_distinct c m p r) (Compares p) a (Told L s t a) k
-        (λ n q u z. told L n p q s t a r.text.typed u.text.typed x.small y.small (both L c d s t x y m n p q r u) z))
+        (λ n q u z. told L n p q s t a (typed_in c [] m p r no_name_twice) (typed_in d m n q u (left_distinct c m p r)) x.small y.small (both L c d s t x y m n p q r u) z))
 
     turned : Turned WhetherSame c d a → Told L s t a
     turned (refused_behind f r h) = absurd (no_refusal L d t y [] no_name_twice f r)
@@ -72,7 +78,7 @@ module _ (L : Laws) where
         taken_file First c s x m (left_distinct d m q r) (λ n p. Compares p n q) a (Told L s t a) h
         (λ n p u z.
         let b = both L d c t s y x m n q p r u in
-        told L n p q s t a u.text.typed r.text.typed x.small y.small (record { distinct = b.distinct; first = b.second; second = b.first }) z)
+        told L n p q s t a (typed_in c m n p u (left_distinct d m q r)) (typed_in d [] m q r no_name_twice) x.small y.small (record { distinct = b.distinct; first = b.second; second = b.first }) z)
 
     one_file : short_bytes c ≡ short_bytes d → TakesBoth Equal WhetherSame c d a → Told L s t a
     one_file e h =
@@ -84,7 +90,7 @@ module _ (L : Laws) where
         record { bytes = r.bytes; there = r.there; text = subst (λ u. IsAcceptedText u [] y.names y.program) bytes y.accepted.text } in
         let mine : AreOne n x.names p x.program = agree L.once c [] (as_taken n p) (as_taken x.names x.program) r x.accepted in
         let theirs : AreOne n y.names p y.program = agree L.once c [] (as_taken n p) (as_taken y.names y.program) r other in
-        told L n p p s t a r.text.typed r.text.typed x.small y.small (record {
+        told L n p p s t a (typed_in c [] n p r no_name_twice) (typed_in c [] n p r no_name_twice) x.small y.small (record {
           distinct = left_distinct c n p r;
           first = back (λ ns ps u. IsNormalText ns ps u s) n x.names p.params x.program.params (tree p.body) (tree x.program.body) mine.names mine.params mine.body x.normal;
           second = back (λ ns ps u. IsNormalText ns ps u t) n y.names p.params y.program.params (tree p.body) (tree y.program.body) theirs.names theirs.params theirs.body y.normal;

@@ -36,6 +36,7 @@ use Rattle.occ_tool_run.specs.Accepts.{IsAccepted, IsAcceptedText, IsRefused, Is
 use Rattle.occ_tool_run.specs.Answers.{Compares, apart, compared}
 use Rattle.occ_tool_run.specs.Texts.{text_of}
 use Rattle.occ_tool_run.specs.declared.answer.Answer.{Answer}
+use Rattle.occ_tool_run.proofs.Accepting.{read_typed}
 use Rattle.occ_tool_run.proofs.BothWays.{begins_with, verdict_same}
 use Rattle.occ_tool_run.proofs.Judging.{no_name_twice}
 use Rattle.occ_tool_normal.proofs.Usage.{usage_kept}
@@ -115,7 +116,7 @@ module _ (L : Laws) where
         let read = subst (λ u. ReadsAs u between new q r.text.numbers) (one_file r.bytes r.there) r.text.read in
         let a = L.readings bound.Program bytes [] between x.names new x.program.name q.name x.program.params q.params (tree x.program.body) (tree q.body) own.numbers r.text.numbers
         no_name_twice d (none_stands between) own.read read in
-        let keeps = usage_kept a.number a.numbering.one_for_one (environment x.program.params) (tree x.program.body) (record { types = own.typed.types; usage = own.usage }) in
+        let keeps = usage_kept a.number a.numbering.one_for_one (environment x.program.params) (tree x.program.body) (record { types = (read_typed bytes [] x.names x.program own.numbers no_name_twice own.read).types; usage = own.usage }) in
         faultless q fault r.text.later (subst KeepsUsage (sym a.body) keeps) r.text.found
 
   -- the texts of two files that are read one after the other, by the last table

@@ -39,6 +39,8 @@ use Rattle.occ_tool_run.specs.Texts.{status_of, text_of}
 use Rattle.occ_tool_run.specs.Accepts.{IsAccepted}
 use Rattle.occ_tool_run.specs.Answers.{Takes, accepted, TakesBoth, Turned, refused_behind, unusable_behind, accepted_behind, Compares, apart, compared, Refines, other, allowed, Replies, Settles, IsSought, Seeks, IsNormalised, Normalises, IsChecked, too_long_table, faulty_table, normal_table, Checks}
 use Rattle.occ_tool_run.specs.Answers.{IsJudged, too_long_claim, faulty_claim, judged_claim, Judges, IsStressed, Stresses, IsAnswer, usage, comparison, normalisation, checking, membership, stressing, refinement, seeking, replaying, running, transforming, expanding, normalisation_by_laws, Answers, Steps, Transforms, Expands, Derives, IsDetermined}
+use Rattle.occ_tool_run.proofs.Accepting.{read_typed}
+use Rattle.occ_tool_run.proofs.Judging.{no_name_twice}
 use Rattle.occ_tool_run.proofs.Once.{AreAlike, IsOnce, IsOneText, alike, same_bytes}
 use Rattle.occ_tool_run.proofs.OneReplay.{IsOneScript, replays_alike}
 use Rattle.occ_tool_run.proofs.OneTransform.{IsOneOutcome, expanded_alike, transformed_alike}
@@ -197,7 +199,8 @@ module _ (once : IsOnce) (only : IsOneVerdict) (single : IsOneText) (scripts : I
   one_text : (file : Option (List ℕ)) (m : List (List ℕ)) (p : Program) (s t : List ℕ) → IsAccepted file [] m p → length s < 2 ^ 64 → length t < 2 ^ 64
       → IsNormalText m p.params (tree p.body) s → IsNormalText m p.params (tree p.body) t → s ≡ t
   one_text file m p s t x f g a b =
-      (single.one m p.params (tree p.body) (tree p.body) s t (single.distinct x.bytes m p x.text.numbers x.text.read) x.text.typed.scope x.text.typed.types x.text.typed.types f g a b).1
+      let typed = read_typed x.bytes [] m p x.text.numbers no_name_twice x.text.read in
+      (single.one m p.params (tree p.body) (tree p.body) s t (single.distinct x.bytes m p x.text.numbers x.text.read) typed.scope typed.types typed.types f g a b).1
       (itself p.params (tree p.body))
 
   normalised_alike : (file : Option (List ℕ)) (m n : List (List ℕ)) (p q : Program) (a b : Answer) → IsAccepted file [] m p → AreOne m n p q → IsNormalised m p a → IsNormalised n q b → AreAlike a b

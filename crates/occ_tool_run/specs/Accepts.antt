@@ -7,7 +7,7 @@ use Rattle.occ_parse_reading.specs.Reading.{IsRead}
 use Rattle.occ_parse_reading.specs.Reading.{IsRefused as IsRefusedText}
 use Rattle.occ_parse_reading.specs.declared.bound.Bound.TheVariants as bound
 use Rattle.occ_parse_reading.specs.declared.fault.ParseFault.{ParseFault}
-use Rattle.occ_usage.specs.Accepted.{IsTyped, usage_faults}
+use Rattle.occ_usage.specs.Accepted.{usage_faults}
 use Rattle.occ_usage.specs.declared.fault.UsageFault.{UsageFault}
 use Rattle.occ_usage.specs.declared.fault.UsageFault.TheVariants as shared
 
@@ -16,11 +16,10 @@ use Rattle.occ_usage.specs.declared.fault.UsageFault.TheVariants as shared
 abbrev pub ReadsAs : List ℕ → List (List ℕ) → List (List ℕ) → Program → List ℕ → Type 0
 ReadsAs text old new program numbers = IsRead bound.Program text old new program.name program.params (tree program.body) numbers
 
--- The text is one of a program that keeps all rules.
+-- The text is one of a program that keeps all rules: those of names and types, since it reads as one, and that of usage.
 pub record IsAcceptedText (text : List ℕ) (old new : List (List ℕ)) (program : Program) : Type 0 where
   pub numbers : List ℕ
   pub read : ReadsAs text old new program numbers
-  pub typed : IsTyped program
   pub usage : KeepsUsage (tree program.body)
 
 -- the number of the PAR
