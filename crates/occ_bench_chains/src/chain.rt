@@ -1,14 +1,14 @@
 ghost use Rattle.std.specs.Prelude.{◌≡◌, ◌+◌, ◌^◌, ◌<◌, ◌≤◌, [], ◌∷◌, IfOk};
-ghost use Rattle.occ_choice.specs.Union.{AreUnions};
 ghost use Rattle.occ_node.specs.World.{IsNode, Leads};
-ghost use Rattle.occ_weave.specs.Weaves.{KeepWoven};
 
 use crate::reach::reached;
 use occ_base::{Dir, Event, Memory, Name};
-use occ_choice::{Unions, alt, prefix_in, prefix_out};
+use occ_choice::{alt, prefix_in, prefix_out};
+use occ_diagram::Memo;
 use occ_node::{NodeId, World};
-use occ_weave::{Weaves, weave, weave_with};
+use occ_weave::{Manner, Weaver, weave};
 use std::alloc::Global;
+use std::mem;
 
 // How many messages pass.
 const MESSAGES: usize = 10;
@@ -28,20 +28,19 @@ pub fn measure_in_turn(alloc: Global, stages: usize) -> Result<Figures, Memory>
     requires { 1 ≤ stages }
     ensures { IfOk result (λ r. r.rows ≤ r.made) }
 {
-    let mut world = World::new(alloc)?;
-    let mut unions = Unions::new(alloc);
-    let mut even = Weaves::new(alloc, 0, &[in_turn(0)])?;
-    let mut odd = Weaves::new(alloc, 0, &[in_turn(1)])?;
-    let mut chain = buffer(alloc, &mut world, in_turn(stages - 1), Name(0))?;
+    let mut weaver = Weaver::new(alloc, World::new(alloc)?);
+    let mut manner = Manner::new(alloc, 0, &[in_turn(stages - 1)])?;
+    let mut other = Manner::new(alloc, 0, &[in_turn(stages)])?;
+    let mut other_pairs = Memo::new(alloc);
+    let mut chain = buffer(alloc, &mut weaver.world, in_turn(stages - 1), Name(0))?;
     for place in (1..stages).rev() {
-        let node = buffer(alloc, &mut world, in_turn(place - 1), in_turn(place))?;
-        chain = if place % 2 == 0 {
-            weave_with(alloc, &mut world, &mut unions, &mut even, node, chain)?
-        } else {
-            weave_with(alloc, &mut world, &mut unions, &mut odd, node, chain)?
-        };
+        let node = buffer(alloc, &mut weaver.world, in_turn(place - 1), in_turn(place))?;
+        chain = weaver.weave(&manner, node, chain)?;
+        // The next stage closes the other name.
+        mem::swap(&mut manner, &mut other);
+        mem::swap(&mut weaver.pairs, &mut other_pairs);
     }
-    measured(alloc, &world, chain)
+    measured(alloc, &weaver.world, chain)
 }
 
 /// The figures of a chain of buffers whose channels have names of their own. It is woven from its end.

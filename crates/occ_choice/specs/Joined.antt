@@ -2,10 +2,11 @@ use Rattle.std.specs.Prelude.{ℕ, ◌+◌, ◌*◌, ◌≡◌, ◌||◌, Bool, 
 use Rattle.std.specs.List.{All}
 use Rattle.occ_base.specs.declared.event.Event.{Event}
 use Rattle.occ_dd.specs.Store.{IsKnown}
-use Rattle.occ_accept.specs.Order.{strict}
-use Rattle.occ_node.specs.Offers.{offer_cmp, are_below, are_offered}
+use Rattle.occ_accept.specs.Accept.{in_set}
+use Rattle.occ_accept.specs.Order.{event_cmp, strict}
+use Rattle.occ_node.specs.Offers.{offer_cmp, are_below, are_offered, is_offered}
 use Rattle.occ_node.specs.Rows.{goes_on}
-use Rattle.occ_node.specs.World.{IsNode, nodes_of, fails, ends}
+use Rattle.occ_node.specs.World.{IsNode, nodes_of, row_of, fails, ends, row_fails, row_ends}
 use Rattle.occ_node.specs.declared.node.NodeId.{NodeId}
 use Rattle.occ_node.specs.declared.row.Row.{Row}
 use Rattle.occ_node.specs.declared.world.World.{World}
@@ -39,6 +40,13 @@ pub record IsEither (old new : World) (p q r : Option NodeId) : Type 0 where
 pub record AreReached (w : World) (offers : List (Event × NodeId)) (events : List Event) (F : List Event → (Event → Bool) → Bool) (G : List Event → ℕ → Bool) : Type 0 where
   pub events_are : map (λ o. o.0) offers ≡ events
   pub lead_on : All (λ o. Reaches w (Some o.1) (λ t X. F (o.0 ∷ t) X) (λ t x. G (o.0 ∷ t) x)) offers
+
+-- offers of the events of a row and of a node, which go on as both do
+pub record AreJoined (w : World) (row : Row) (b : NodeId) (offers : List (Event × NodeId)) : Type 0 where
+  pub events : List Event
+  pub increasing : strict event_cmp events ≡ true
+  pub all : (e : Event) → in_set events e ≡ (is_offered row.offers e || is_offered (row_of w b).offers e)
+  pub reached : AreReached w offers events (λ t X. row_fails w row t X || fails w b t X) (λ t x. row_ends w row t x || ends w b t x)
 
 -- a number that falls on the way down through unions
 abbrev pub weight : Option NodeId → ℕ

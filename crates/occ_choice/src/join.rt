@@ -2,8 +2,8 @@ ghost use Rattle.std.specs.Prelude.{◌≡◌, ◌||◌, IfOk};
 ghost use Rattle.occ_accept.specs.Accept.{in_set};
 ghost use Rattle.occ_base.specs.declared.event.Event.{Event};
 ghost use Rattle.occ_node.specs.Offers.{is_offered};
-ghost use Rattle.occ_node.specs.World.{IsNode, Leads, row_of, fails, ends, row_fails, row_ends};
-ghost use Rattle.occ_choice.specs.Joined.{AreReached, IsSound};
+ghost use Rattle.occ_node.specs.World.{IsNode, Leads};
+ghost use Rattle.occ_choice.specs.Joined.{AreJoined, IsSound};
 ghost use Rattle.occ_choice.specs.Union.{IsAdded};
 
 use occ_accept::AcceptSet;
@@ -25,22 +25,17 @@ pub(crate) fn join(
     world: &mut World,
     row: &Row,
     b: NodeId,
-    events: &AcceptSet,
     offers: Offers,
 ) -> Result<NodeId, Memory>
     requires row { IsSound world.old row.now }
     requires b { IsNode world.old b }
-    requires events { (e : Event) → in_set events.now e ≡ (is_offered row.now.offers e || is_offered (row_of world.old b).offers e) }
-    requires offers { AreReached world.old offers events.now
-        (λ t X. row_fails world.old row.now t X || fails world.old b t X)
-        (λ t x. row_ends world.old row.now t x || ends world.old b t x) }
+    requires offers { AreJoined world.old row.now b offers }
     ensures leads { Leads world.old world.new }
     ensures added { IfOk result (IsAdded world.old world.new row.now b) }
 {
     let other = world.row(b);
     let other_ends = other.ends;
     let accepts = occ_accept::join(alloc, &row.accepts, &other.accepts)?;
-    let _events = events.items();
     let ends = world.store.or(row.ends, other_ends)?;
     world.make(Row {
         ends,

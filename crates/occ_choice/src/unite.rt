@@ -99,5 +99,5 @@ pub fn add(
             None => unreachable!(),
         }
     }
-    join(alloc, world, row, b, &events, offers)
+    join(alloc, world, row, b, offers)
 }

@@ -21,7 +21,7 @@ use Rattle.occ_scope.specs.Paired.{Paired}
 use Rattle.occ_scope.proofs.Pairing.{Related, paired_next, paired_more, paired_strict, paired_below, paired_offered, item_below}
 use Rattle.occ_follow.specs.Sequence.{HasNodes, Continues}
 use Rattle.occ_follow.specs.Nexts.{AreNexts, IsUnionOf}
-use Rattle.occ_follow.specs.Follows.{IsSequence}
+use Rattle.occ_follow.specs.Sequences.{IsSequence}
 use Rattle.occ_follow.proofs.Continuing.{trans_iff, turn_iff, iff_of_same, sum_iff, Starts, Steps, continues_iff, sequence_now, sequence_later}
 use Rattle.occ_follow.proofs.Uniting.{any_contains, contains_any, next_known}
 

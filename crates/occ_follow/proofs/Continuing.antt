@@ -16,7 +16,7 @@ use Rattle.occ_node.specs.declared.world.World.{World}
 use Rattle.occ_node.proofs.Behaviours.{ends_cons, ends_some, node-leads}
 use Rattle.occ_follow.specs.Sequence.{HasNodes, Continues, IsFollowed}
 use Rattle.occ_follow.specs.Nexts.{IsNext}
-use Rattle.occ_follow.specs.Follows.{IsSequence, AreSequences, node, map_id}
+use Rattle.occ_follow.specs.Sequences.{IsSequence, AreSequences, node, map_id}
 
 -- ---- equivalences
 pub trans_iff : {A B C : Type 0} → A ↔ B → B ↔ C → A ↔ C
@@ -162,8 +162,8 @@ module _ (v w : World) (k : Leads v w) (map : MapId) where
   })
 
 -- ---- the memo
-pub are_sequences_later : (v w : World) → Leads v w → (memo : Memo) → AreSequences v memo → AreSequences w memo
-are_sequences_later v w k memo are = record { each = λ call r e. sequence_later v w k (map_id call.second) (node call.first) (node r) (are.each call r e) }
+pub sequences_kept : (v w : World) → Leads v w → (old new : Memo) → new ≡ old → AreSequences v old → AreSequences w new
+sequences_kept v w k old new same are = record { each = λ call r e. sequence_later v w k (map_id call.second) (node call.first) (node r) (are.each call r (ap (λ m. recalled m call) (sym same) ∙ e)) }
 
 pub are_sequences_none : (w : World) (memo : Memo) → ((k : Call) → recalled memo k ≡ None) → AreSequences w memo
 are_sequences_none w memo none = record { each = λ k r e. absurd (let f : None ≡ Some r = sym (none k) ∙ e in cc) }

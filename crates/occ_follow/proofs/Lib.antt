@@ -1,5 +1,4 @@
 pub mod Continuing
 pub mod Uniting
 pub mod Assembling
-pub mod Keeping
 pub mod Growing

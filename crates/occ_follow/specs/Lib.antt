@@ -1,3 +1,3 @@
 pub mod Sequence
 pub mod Nexts
-pub mod Follows
+pub mod Sequences

@@ -2,9 +2,7 @@
 #![tactic(auto)]
 
 mod calls;
-mod following;
-mod follows;
+mod follower;
 mod nexts;
 
-pub use calls::{follow, follow_with};
-pub use follows::Follows;
+pub use calls::follow;

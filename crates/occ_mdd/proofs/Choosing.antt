@@ -1,46 +1,33 @@
 use Rattle.std.proofs.Common.{◌≡◌, ℕ, ◌+◌, ◌<◌, ◌≤◌, Bool, true, false, List, length, max, Some, None, cond, refl, sym, ap, ◌∙◌, subst, ⊎_elim, arith}
 use Rattle.std.specs.Int.{bit_at}
-use Rattle.occ_diagram.proofs.Bits.{bit_cases, is_one, is_zero, with_bit_same}
-use Rattle.occ_diagram.proofs.Growth.{known-keeps, depth-keeps, end-keeps}
+use Rattle.occ_diagram.proofs.Bits.{bit_cases, is_one, is_zero}
+use Rattle.occ_diagram.proofs.Growth.{known-keeps, depth-keeps, end-keeps, keeps_trans as nodes_trans}
+use Rattle.occ_diagram.proofs.Growth.{keeps_refl as nodes_stay}
 use Rattle.occ_diagram.specs.Memo.{recalled, Learns}
-use Rattle.occ_diagram.specs.Diagram.{depth_of, end_of, IsDiagram, IsSplit, IsPart}
-use Rattle.occ_diagram.specs.Diagram.{Keeps as KeepsNodes}
+use Rattle.occ_diagram.specs.Diagram.{depth_of, end_of, IsDiagram}
+use Rattle.occ_diagram.specs.Diagram.{IsSplit as IsBranch, Keeps as KeepsNodes}
 use Rattle.occ_diagram.specs.declared.memo.Call.{Call}
 use Rattle.occ_diagram.specs.declared.memo.Memo.{Memo}
 use Rattle.occ_diagram.specs.declared.node.Node.{Node}
+use Rattle.occ_dd.proofs.Callers.{keeps_refl, keeps_trans}
 use Rattle.occ_dd.proofs.Callers.{known-keeps as set_known-keeps}
 use Rattle.occ_dd.proofs.Sets.{one_number}
 use Rattle.occ_dd.specs.Store.{IsKnown, has, depth, IsFull, IsEmpty, IsConstant, Splits, Keeps, IsSet}
 use Rattle.occ_dd.specs.declared.set.SetId.{SetId}
 use Rattle.occ_dd.specs.declared.store.Store.{Store}
-use Rattle.occ_mdd.specs.Chosen.{id_of, greatest_depth, IsChosen, AreChosen, IsSetPart, IsTop}
+use Rattle.occ_mdd.specs.Chosen.{id_of, greatest_depth, AreChosen, Grown, IsAsked, IsChosen, IsHalved, IsSetPart, IsSide, IsSplit, IsTop}
+use Rattle.occ_mdd.specs.declared.choose.Choice.TheVariants.{Made, Split}
+use Rattle.occ_mdd.proofs.Combining.{part-keeps}
 
--- ---- what a longer table and a store that grew keep
-module _ {T : Type 0} (ms ns : List (Node T)) (k : KeepsNodes ms ns) (g : IsDiagram ms) (s t : Store) (l : Keeps s t) where
-  pub greatest-keeps : (set a b : ℕ) → IsKnown s (id_of set) → a < length ms → b < length ms → greatest_depth ns t set a b ≡ greatest_depth ms s set a b
-  greatest-keeps set a b hs ha hb =
-      ap (λ n. max n (max (depth_of ns a) (depth_of ns b))) (l.depths (id_of set) hs)
-      ∙ ap (λ n. max (depth s (id_of set)) (max n (depth_of ns b))) (depth-keeps ms ns k a ha)
-      ∙ ap (λ n. max (depth s (id_of set)) (max (depth_of ms a) n)) (depth-keeps ms ns k b hb)
+-- ---- a table and a store that grow
+pub grown_store : {T : Type 0} (ns : List (Node T)) {s t : Store} → Keeps s t → Grown ns ns s t
+grown_store ns k = record { nodes = nodes_stay ns; sets = k }
 
-  pub chosen-keeps : (set a b r : ℕ) → IsChosen ms s set a b r → IsChosen ns t set a b r
-  chosen-keeps set a b r is = record {
-    set_known = set_known-keeps s t l (id_of set) is.set_known;
-    first = known-keeps ms ns k a is.first;
-    second = known-keeps ms ns k b is.second;
-    known = known-keeps ms ns k r is.known;
-    depth_bound = subst (λ n. depth_of ns r ≤ n) (sym (greatest-keeps set a b is.set_known is.first is.second)) (subst (λ n. n ≤ greatest_depth ms s set a b) (sym (depth-keeps ms ns k r is.known)) is.depth_bound);
-    ends = λ x. end-keeps ms ns k g r x is.known ∙ is.ends x
-        ∙ sym (ap (λ v. cond v (end_of ns a x) (end_of ns b x)) (l.same (id_of set) x is.set_known)
-        ∙ ap (λ n. cond (has s (id_of set) x) n (end_of ns b x)) (end-keeps ms ns k g a x is.first)
-        ∙ ap (λ n. cond (has s (id_of set) x) (end_of ms a x) n) (end-keeps ms ns k g b x is.second));
-  }
+pub grown_table : {T : Type 0} {ms ns : List (Node T)} (s : Store) → KeepsNodes ms ns → Grown ms ns s s
+grown_table s k = record { nodes = k; sets = keeps_refl s }
 
-  pub are_chosen-keeps : (memo : Memo) → AreChosen ms s memo → AreChosen ns t memo
-  are_chosen-keeps memo are call r e = chosen-keeps call.first call.second call.third r (are call r e)
-
-pub nodes_stay : {T : Type 0} (ns : List (Node T)) → KeepsNodes ns ns
-nodes_stay ns = record { more = omega arith; same = λ i h. refl }
+pub grown_trans : {T : Type 0} {ls ms ns : List (Node T)} {r s t : Store} → Grown ls ms r s → Grown ms ns s t → Grown ls ns r t
+grown_trans {T} {ls} {ms} {ns} {r} {s} {t} k l = record { nodes = nodes_trans ls ms ns k.nodes l.nodes; sets = keeps_trans r s t k.sets l.sets }
 
 pub set_part-keeps : (s t : Store) → Keeps s t → (p set : SetId) (bit v : ℕ) → IsKnown s set → IsSetPart s p set bit v → IsSetPart t p set bit v
 set_part-keeps s t l p set bit v h is = record {
@@ -49,116 +36,178 @@ set_part-keeps s t l p set bit v h is = record {
   members = λ x e. l.same p x is.known ∙ is.members x e ∙ sym (l.same set x h);
 }
 
-pub chosen_learnt : {T : Type 0} (ns : List (Node T)) (s : Store) (old new : Memo) (call : Call) (r : ℕ) → Learns old new call r → AreChosen ns s old → IsChosen ns s call.first call.second call.third r → AreChosen ns s new
-chosen_learnt ns s old new call r learns are is k v e = ⊎_elim
+module _ {T : Type 0} {ms ns : List (Node T)} {s t : Store} (k : Grown ms ns s t) (g : IsDiagram ms) where
+  pub asked-keeps : (call : Call) → IsAsked ms s call → IsAsked ns t call
+  asked-keeps call is = record {
+    set = set_known-keeps s t k.sets (id_of call.first) is.set;
+    first = known-keeps ms ns k.nodes call.second is.first;
+    second = known-keeps ms ns k.nodes call.third is.second;
+  }
+
+  pub greatest-keeps : (call : Call) → IsAsked ms s call → greatest_depth ns t call ≡ greatest_depth ms s call
+  greatest-keeps call is =
+      ap (λ n. max n (max (depth_of ns call.second) (depth_of ns call.third))) (k.sets.depths (id_of call.first) is.set)
+      ∙ ap (λ n. max (depth s (id_of call.first)) (max n (depth_of ns call.third))) (depth-keeps ms ns k.nodes call.second is.first)
+      ∙ ap (λ n. max (depth s (id_of call.first)) (max (depth_of ms call.second) n)) (depth-keeps ms ns k.nodes call.third is.second)
+
+  pub chosen-keeps : (call : Call) (r : ℕ) → IsChosen ms s call r → IsChosen ns t call r
+  chosen-keeps call r is = record {
+    asked = asked-keeps call is.asked;
+    known = known-keeps ms ns k.nodes r is.known;
+    depth_bound = subst (λ n. depth_of ns r ≤ n) (sym (greatest-keeps call is.asked)) (subst (λ n. n ≤ greatest_depth ms s call) (sym (depth-keeps ms ns k.nodes r is.known)) is.depth_bound);
+    ends = λ x. end-keeps ms ns k.nodes g r x is.known ∙ is.ends x
+        ∙ sym (ap (λ v. cond v (end_of ns call.second x) (end_of ns call.third x)) (k.sets.same (id_of call.first) x is.asked.set)
+        ∙ ap (λ n. cond (has s (id_of call.first) x) n (end_of ns call.third x)) (end-keeps ms ns k.nodes g call.second x is.asked.first)
+        ∙ ap (λ n. cond (has s (id_of call.first) x) (end_of ms call.second x) n) (end-keeps ms ns k.nodes g call.third x is.asked.second));
+  }
+
+  pub are_chosen-keeps : (memo : Memo) → AreChosen ms s memo → AreChosen ns t memo
+  are_chosen-keeps memo are call r e = chosen-keeps call r (are call r e)
+
+  side-keeps : (side call : Call) (bit v : ℕ) → IsAsked ms s call → IsSide ms s side call bit v → IsSide ns t side call bit v
+  side-keeps side call bit v asked is = record {
+    set = set_part-keeps s t k.sets (id_of side.first) (id_of call.first) bit v asked.set is.set;
+    first = part-keeps ms ns k.nodes g side.second call.second bit v asked.first is.first;
+    second = part-keeps ms ns k.nodes g side.third call.third bit v asked.second is.second;
+  }
+
+pub chosen_learnt : {T : Type 0} {ns : List (Node T)} {s : Store} (old new : Memo) (call : Call) (r : ℕ) → Learns old new call r → AreChosen ns s old → IsChosen ns s call r → AreChosen ns s new
+chosen_learnt {T} {ns} {s} old new call r learns are is k v e = ⊎_elim
     (λ (h : recalled old k ≡ Some v). are k v h)
-    (λ (h : (k ≡ call) × (v ≡ r)). subst (λ n. IsChosen ns s k.first k.second k.third n) (sym h.1) (subst (λ c. IsChosen ns s c.first c.second c.third r) (sym h.0) is))
+    (λ (h : (k ≡ call) × (v ≡ r)). subst (λ n. IsChosen ns s k n) (sym h.1) (subst (λ c. IsChosen ns s c r) (sym h.0) is))
     (learns k v e)
 
 -- ---- the choices that need no branch
-module _ {T : Type 0} (ns : List (Node T)) (s : Store) (set : SetId) (a b : ℕ) (hs : IsKnown s set) (ha : a < length ns) (hb : b < length ns) where
+module _ {T : Type 0} {ns : List (Node T)} {s : Store} {call : Call} (asked : IsAsked ns s call) where
   second_le : (p q r : ℕ) → q ≤ max p (max q r)
   second_le p q r = omega arith
 
   third_le : (p q r : ℕ) → r ≤ max p (max q r)
   third_le p q r = omega arith
 
-  pub chosen_full : IsFull s set → IsChosen ns s set.0 a b a
+  pub chosen_full : IsFull s (id_of call.first) → IsChosen ns s call call.second
   chosen_full full = record {
-    set_known = hs;
-    first = ha;
-    second = hb;
-    known = ha;
-    depth_bound = second_le (depth s (id_of set.0)) (depth_of ns a) (depth_of ns b);
-    ends = λ x. sym (ap (λ v. cond v (end_of ns a x) (end_of ns b x)) (full x));
+    asked = asked;
+    known = asked.first;
+    depth_bound = second_le (depth s (id_of call.first)) (depth_of ns call.second) (depth_of ns call.third);
+    ends = λ x. sym (ap (λ v. cond v (end_of ns call.second x) (end_of ns call.third x)) (full x));
   }
 
-  pub chosen_empty : IsEmpty s set → IsChosen ns s set.0 a b b
+  chosen_empty : IsEmpty s (id_of call.first) → IsChosen ns s call call.third
   chosen_empty empty = record {
-    set_known = hs;
-    first = ha;
-    second = hb;
-    known = hb;
-    depth_bound = third_le (depth s (id_of set.0)) (depth_of ns a) (depth_of ns b);
-    ends = λ x. sym (ap (λ v. cond v (end_of ns a x) (end_of ns b x)) (empty x));
+    asked = asked;
+    known = asked.second;
+    depth_bound = third_le (depth s (id_of call.first)) (depth_of ns call.second) (depth_of ns call.third);
+    ends = λ x. sym (ap (λ v. cond v (end_of ns call.second x) (end_of ns call.third x)) (empty x));
   }
 
-  pub chosen_rest : IsConstant s set → (IsFull s set → ⊥) → IsChosen ns s set.0 a b b
-  chosen_rest w other = ⊎_elim chosen_empty (λ (full : IsFull s set). absurd (other full)) w
+  pub chosen_rest : IsConstant s (id_of call.first) → (IsFull s (id_of call.first) → ⊥) → IsChosen ns s call call.third
+  chosen_rest w other = ⊎_elim chosen_empty (λ (full : IsFull s (id_of call.first)). absurd (other full)) w
 
-  pub chosen_same : a ≡ b → IsChosen ns s set.0 a b a
+  pub chosen_same : call.second ≡ call.third → IsChosen ns s call call.second
   chosen_same e = record {
-    set_known = hs;
-    first = ha;
-    second = hb;
-    known = ha;
-    depth_bound = second_le (depth s (id_of set.0)) (depth_of ns a) (depth_of ns b);
-    ends = λ x. same (has s (id_of set.0) x) (end_of ns a x) ∙ ap (λ n. cond (has s (id_of set.0) x) (end_of ns a x) (end_of ns n x)) e;
+    asked = asked;
+    known = asked.first;
+    depth_bound = second_le (depth s (id_of call.first)) (depth_of ns call.second) (depth_of ns call.third);
+    ends = λ x. same (has s (id_of call.first) x) (end_of ns call.second x) ∙ ap (λ n. cond (has s (id_of call.first) x) (end_of ns call.second x) (end_of ns n x)) e;
   }
     where
       same : (v : Bool) (n : ℕ) → n ≡ cond v n n
       same true n = refl
       same false n = refl
 
--- ---- the parts of a set
-pub low_side : (s : Store) (set : SetId) (top : ℕ) (low high : SetId) (bit : ℕ) → Splits s set top low high → top ≡ bit → IsSetPart s low set bit 0
-low_side s set top low high bit is e = subst (λ n. IsSetPart s low set n 0) e (record {
-  known = is.low_set.known;
-  shallow = is.low_depth;
-  members = λ x z. is.low_set.members x ∙ ap (has s set) (with_bit_same x top 0 z);
-})
-
-pub high_side : (s : Store) (set : SetId) (top : ℕ) (low high : SetId) (bit : ℕ) → Splits s set top low high → top ≡ bit → IsSetPart s high set bit 1
-high_side s set top low high bit is e = subst (λ n. IsSetPart s high set n 1) e (record {
-  known = is.high_set.known;
-  shallow = is.high_depth;
-  members = λ x z. is.high_set.members x ∙ ap (has s set) (with_bit_same x top 1 z);
-})
-
 -- ---- the step
-three_below : (p q r m : ℕ) → p < m → q < m → r < m → max p (max q r) < m
-three_below p q r m e f h = omega arith
-
 three_le : (p q r m : ℕ) → p ≤ m → q ≤ m → r ≤ m → max p (max q r) ≤ m
 three_le p q r m e f h = omega arith
 
--- how deep the three are, by the top bit
-pub top_depth : {T : Type 0} (ns : List (Node T)) (s : Store) (set : SetId) (a b top bit : ℕ) (low high : SetId) → Splits s set top low high → IsTop ns top a b bit → bit + 1 ≤ greatest_depth ns s set.0 a b
-top_depth ns s set a b top bit low high is t = subst (λ n. bit + 1 ≤ max n (max (depth_of ns a) (depth_of ns b))) (sym is.deep) t.top_is
+at_most_below : (n bit m : ℕ) → n ≤ bit → bit + 1 ≤ m → n < m
+at_most_below n bit m e f = omega arith
 
-pub parts_smaller : {T : Type 0} (ns : List (Node T)) (s : Store) (set p : SetId) (a b q r bit v : ℕ) → bit + 1 ≤ greatest_depth ns s set.0 a b → IsSetPart s p set bit v → IsPart ns q a bit v → IsPart ns r b bit v → greatest_depth ns s p.0 q r < greatest_depth ns s set.0 a b
-parts_smaller ns s set p a b q r bit v top x y z =
-    let first : depth s p ≤ bit = x.shallow in
-    let second : depth_of ns q ≤ bit = y.depth in
-    let third : depth_of ns r ≤ bit = z.depth in
-    three_below (depth s p) (depth_of ns q) (depth_of ns r) (greatest_depth ns s set.0 a b) (omega (arith, first, top)) (omega (arith, second, top)) (omega (arith, third, top))
+-- how deep a choice is, by the top bit
+pub top_depth : {T : Type 0} (ns : List (Node T)) (s : Store) (call : Call) (top bit : ℕ) (low high : SetId) → Splits s (id_of call.first) top low high → IsTop ns top call.second call.third bit → bit + 1 ≤ greatest_depth ns s call
+top_depth ns s call top bit low high is t = subst (λ n. bit + 1 ≤ max n (max (depth_of ns call.second) (depth_of ns call.third))) (sym is.deep) t.top_is
 
-pub chosen_side : {T : Type 0} (ls ms ns : List (Node T)) → KeepsNodes ls ms → IsDiagram ls → KeepsNodes ms ns → (s t : Store) → Keeps s t → (set p : SetId) (a b q r bit v side : ℕ) → IsSetPart s p set bit v → IsPart ls q a bit v → IsPart ls r b bit v → IsChosen ms t p.0 q r side
-    → (side < length ns) × (depth_of ns side ≤ bit)
-chosen_side ls ms ns k g l s t sk set p a b q r bit v side x y z is =
-    let all : greatest_depth ls s p.0 q r ≤ bit = three_le (depth s p) (depth_of ls q) (depth_of ls r) bit x.shallow y.depth z.depth in
-    let kept : greatest_depth ms t p.0 q r ≡ greatest_depth ls s p.0 q r = greatest-keeps ls ms k g s t sk p.0 q r x.known y.known z.known in
-    let down : depth_of ms side ≤ greatest_depth ms t p.0 q r = is.depth_bound in
-    (known-keeps ms ns l side is.known, omega (arith, all, kept, down, depth-keeps ms ns l side is.known))
+module _ {T : Type 0} {ns : List (Node T)} {s : Store} {side call : Call} {bit v : ℕ} (is : IsSide ns s side call bit v) where
+  side_asked : IsAsked ns s side
+  side_asked = record { set = is.set.known; first = is.first.known; second = is.second.known }
 
-pub chosen_joined : {T : Type 0} (ns : List (Node T)) (s : Store) (set s₀ s₁ : SetId) (a b a₀ b₀ a₁ b₁ low high r bit : ℕ) → IsKnown s set → a < length ns → b < length ns → bit + 1 ≤ greatest_depth ns s set.0 a b
-    → IsSetPart s s₀ set bit 0 → IsSetPart s s₁ set bit 1 → IsPart ns a₀ a bit 0 → IsPart ns b₀ b bit 0 → IsPart ns a₁ a bit 1 → IsPart ns b₁ b bit 1
-    → IsChosen ns s s₀.0 a₀ b₀ low → IsChosen ns s s₁.0 a₁ b₁ high → IsSplit ns r bit low high → IsChosen ns s set.0 a b r
-chosen_joined ns s set s₀ s₁ a b a₀ b₀ a₁ b₁ low high r bit hs ha hb top ps₀ ps₁ pa₀ pb₀ pa₁ pb₁ lows highs split = record {
-  set_known = hs;
-  first = ha;
-  second = hb;
+  side_le : greatest_depth ns s side ≤ bit
+  side_le = three_le (depth s (id_of side.first)) (depth_of ns side.second) (depth_of ns side.third) bit is.set.shallow is.first.depth is.second.depth
+
+pub made_halved : {T : Type 0} {ns : List (Node T)} {s : Store} {call : Call} (r : ℕ) → IsChosen ns s call r → IsHalved ns s call (Made r)
+made_halved {T} {ns} {s} {call} r is = record { made = λ q e. let same : r ≡ q = cc in subst (λ n. IsChosen ns s call n) same is; split = λ bit low high e. absurd (cc) }
+
+pub split_halved : {T : Type 0} {ns : List (Node T)} {s : Store} {call : Call} (bit : ℕ) (low high : Call) → IsSplit ns s call bit low high → IsHalved ns s call (Split bit low high)
+split_halved {T} {ns} {s} {call} bit low high is = record {
+  made = λ r e. absurd (cc);
+  split = λ n l h e.
+      let same_bit : bit ≡ n = cc in
+      let same_low : low ≡ l = cc in
+      let same_high : high ≡ h = cc in
+      subst (λ b. IsSplit ns s call b l h) same_bit (subst (λ k. IsSplit ns s call bit k h) same_low (subst (λ k. IsSplit ns s call bit low k) same_high is));
+}
+
+-- what a side comes to is a side of a branch
+under : {T : Type 0} {ls ms : List (Node T)} {s t : Store} → Grown ls ms s t → IsDiagram ls → (ns : List (Node T)) → KeepsNodes ms ns → (side call : Call) (bit v r : ℕ) → IsSide ls s side call bit v → IsChosen ms t side r → (r < length ns) × (depth_of ns r ≤ bit)
+under {T} {ls} {ms} {s} {t} k g ns l side call bit v r x is =
+    let all : greatest_depth ls s side ≤ bit = side_le x in
+    let kept : greatest_depth ms t side ≡ greatest_depth ls s side = greatest-keeps k g side (side_asked x) in
+    let down : depth_of ms r ≤ greatest_depth ms t side = is.depth_bound in
+    (known-keeps ms ns l r is.known, omega (arith, all, kept, down, depth-keeps ms ns l r is.known))
+
+chosen_joined : {T : Type 0} (ns : List (Node T)) (s : Store) (call low high : Call) (bit l h r : ℕ) → IsAsked ns s call → bit + 1 ≤ greatest_depth ns s call
+    → IsSide ns s low call bit 0 → IsSide ns s high call bit 1 → IsChosen ns s low l → IsChosen ns s high h → IsBranch ns r bit l h → IsChosen ns s call r
+chosen_joined ns s call low high bit l h r asked top below above lows highs split = record {
+  asked = asked;
   known = split.known;
   depth_bound = omega (arith, split.depth, top);
   ends = λ x. ⊎_elim
       (λ (z : bit_at x bit ≡ 0).
-      split.ends x ∙ ap (λ t. cond t (end_of ns high x) (end_of ns low x)) (is_zero x bit z) ∙ lows.ends x
-      ∙ ap (λ v. cond v (end_of ns a₀ x) (end_of ns b₀ x)) (ps₀.members x z) ∙ ap (λ n. cond (has s set x) n (end_of ns b₀ x)) (pa₀.ends x z) ∙ ap (λ n. cond (has s set x) (end_of ns a x) n) (pb₀.ends x z))
+      split.ends x ∙ ap (λ t. cond t (end_of ns h x) (end_of ns l x)) (is_zero x bit z) ∙ lows.ends x
+      ∙ ap (λ v. cond v (end_of ns low.second x) (end_of ns low.third x)) (below.set.members x z) ∙ ap (λ n. cond (has s (id_of call.first) x) n (end_of ns low.third x)) (below.first.ends x z)
+      ∙ ap (λ n. cond (has s (id_of call.first) x) (end_of ns call.second x) n) (below.second.ends x z))
       (λ (o : bit_at x bit ≡ 1).
-      split.ends x ∙ ap (λ t. cond t (end_of ns high x) (end_of ns low x)) (is_one x bit o) ∙ highs.ends x
-      ∙ ap (λ v. cond v (end_of ns a₁ x) (end_of ns b₁ x)) (ps₁.members x o) ∙ ap (λ n. cond (has s set x) n (end_of ns b₁ x)) (pa₁.ends x o) ∙ ap (λ n. cond (has s set x) (end_of ns a x) n) (pb₁.ends x o))
+      split.ends x ∙ ap (λ t. cond t (end_of ns h x) (end_of ns l x)) (is_one x bit o) ∙ highs.ends x
+      ∙ ap (λ v. cond v (end_of ns high.second x) (end_of ns high.third x)) (above.set.members x o) ∙ ap (λ n. cond (has s (id_of call.first) x) n (end_of ns high.third x)) (above.first.ends x o)
+      ∙ ap (λ n. cond (has s (id_of call.first) x) (end_of ns call.second x) n) (above.second.ends x o))
       (bit_cases x bit);
 }
+
+-- a choice that is split, and what both sides come to, one after the other
+module _ {T : Type 0} {ls : List (Node T)} {r s : Store} (k₀ : Keeps r s) (g : IsDiagram ls) {call low high : Call} {bit : ℕ} (asked : IsAsked ls r call) (split : IsSplit ls s call bit low high) where
+  still_asked : IsAsked ls s call
+  still_asked = asked-keeps (grown_store ls k₀) g call asked
+
+  top_at_first : bit + 1 ≤ greatest_depth ls r call
+  top_at_first = subst (λ n. bit + 1 ≤ n) (greatest-keeps (grown_store ls k₀) g call asked) split.top
+
+  pub low_asked : IsAsked ls s low
+  low_asked = side_asked split.low_side
+
+  pub low_smaller : greatest_depth ls s low < greatest_depth ls r call
+  low_smaller = at_most_below (greatest_depth ls s low) bit (greatest_depth ls r call) (side_le split.low_side) top_at_first
+
+  module _ {ms : List (Node T)} {t : Store} (k₁ : Grown ls ms s t) where
+    pub high_asked : IsAsked ms t high
+    high_asked = asked-keeps k₁ g high (side_asked split.high_side)
+
+    pub high_smaller : greatest_depth ms t high < greatest_depth ls r call
+    high_smaller = at_most_below (greatest_depth ms t high) bit (greatest_depth ls r call) (subst (λ n. n ≤ bit) (sym (greatest-keeps k₁ g high (side_asked split.high_side))) (side_le split.high_side)) top_at_first
+
+    module _ {ns : List (Node T)} {u : Store} (k₂ : Grown ms ns t u) where
+      pub low_under : (l : ℕ) → IsChosen ms t low l → (l < length ns) × (depth_of ns l ≤ bit)
+      low_under l is = under k₁ g ns k₂.nodes low call bit 0 l split.low_side is
+
+      pub high_under : (h : ℕ) → IsChosen ns u high h → (h < length ns) × (depth_of ns h ≤ bit)
+      high_under h is = under (grown_trans k₁ k₂) g ns (nodes_stay ns) high call bit 1 h split.high_side is
+
+      pub joined : {os : List (Node T)} → KeepsNodes ns os → IsDiagram ms → IsDiagram ns → (l h r : ℕ) → IsChosen ms t low l → IsChosen ns u high h → IsBranch os r bit l h → IsChosen os u call r
+      joined {os} k₃ g₁ g₂ l h r lows highs branch =
+          let last : Grown ns os u u = grown_table u k₃ in
+          let whole : Grown ls os s u = grown_trans (grown_trans k₁ k₂) last in
+          chosen_joined os u call low high bit l h r (asked-keeps whole g call still_asked) (subst (λ n. bit + 1 ≤ n) (sym (greatest-keeps whole g call still_asked)) split.top)
+          (side-keeps whole g low call bit 0 still_asked split.low_side) (side-keeps whole g high call bit 1 still_asked split.high_side)
+          (chosen-keeps (grown_trans k₂ last) g₁ low l lows) (chosen-keeps last g₂ high h highs) branch
 
 pub no_chosen : {T : Type 0} (ns : List (Node T)) (s : Store) (memo : Memo) → ((k : Call) → recalled memo k ≡ None) → AreChosen ns s memo
 no_chosen ns s memo none call r e = let both : None ≡ Some r = sym (none call) ∙ e in cc

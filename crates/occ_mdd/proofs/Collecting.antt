@@ -108,6 +108,11 @@ module _ {L : Type 0} (ns : List (Node (Option L))) (g : IsDiagram ns) (s : Stor
   pub seen_flat : IsKnown s set → a < length ns → ((l : L) → label ≡ Some l → Contains new l) → IsSeen ns s new set.0 a
   seen_flat hs ha all = record { set_known = hs; known = ha; all = λ l m. all l (sym (flat_value m.0) ∙ m.2) }
 
+  -- a visit that found it, and is remembered
+  pub visits_noted : (x : ℕ) × (has s set x ≡ true) → IsKnown s set → a < length ns → (before after : Memo) → AreSeen ns s old before → ((l : L) → Contains old l → Contains new l) → ((l : L) → Contains new l → Contains old l ⊎ (label ≡ Some l)) → ((l : L) → label ≡ Some l → Contains new l)
+      → Learns before after (record { first = set.0; second = a; third = 0 }) 0 → Visits ns s s old new after set.0 a
+  visits_noted w hs ha before after are kept only all learns = visits_learnt ns s s old new before after set.0 a (visits_flat w before are kept only) (seen_flat hs ha all) learns
+
 -- ---- the two halves
 module _ {L : Type 0} (ns : List (Node (Option L))) (g : IsDiagram ns) where
   -- what is met on a part is met on the whole
@@ -155,6 +160,11 @@ module _ {L : Type 0} (ns : List (Node (Option L))) (g : IsDiagram ns) where
           all = λ l i. ⊎_elim (λ (j : IsMet ns w h.set_low.0 h.low l). below.all l j) (λ (j : IsMet ns w h.set_high.0 h.high l). high.all l j)
               (whole_met w h.set_low h.set_high set h.low h.high a h.bit l (set_part-keeps t w tw h.set_low set h.bit 0 ht are.low_set) (set_part-keeps t w tw h.set_high set h.bit 1 ht are.high_set) are.low_part are.high_part i);
         }
+
+    -- a visit of both, which is remembered
+    pub visits_both : (w : Store) (f₂ : List L) (n after : Memo) → a < length ns → Visits ns u w f₁ f₂ n h.set_high.0 h.high → IsSeen ns u f₁ h.set_low.0 h.low → IsSeen ns w f₂ h.set_high.0 h.high
+        → Learns n after (record { first = set.0; second = a; third = 0 }) 0 → Visits ns s w f₀ f₂ after set.0 a
+    visits_both w f₂ n after ha second low high learns = visits_learnt ns s w f₀ f₂ n after set.0 a (visits_second w f₂ n second) (seen_both w f₂ n ha second low high) learns
 
 -- ---- the labels in order
 pub labels_are : {L : Type 0} {e : _} {h : _} (m : Maps L e h) (a : MapId) (s t : Store) → Keeps s t → (set : SetId) → IsKnown s set → (start found sorted labels : List L) (seen : Memo) → start ≡ []

@@ -12,7 +12,7 @@ use Rattle.occ_diagram.specs.Table.{nodes_of}
 use Rattle.occ_diagram.specs.declared.node.Node.{Node}
 use Rattle.occ_diagram.specs.declared.node.Node.TheVariants.{Leaf}
 use Rattle.occ_mdd.specs.Value.{value_at}
-use Rattle.occ_mdd.specs.Combined.{PassAt, IsCombined}
+use Rattle.occ_mdd.specs.Combined.{IsCombined}
 use Rattle.occ_mdd.specs.Maps.{maps_of, IsKnown, value, Keeps, IsMap, HasLabels, IsRelated, IsCanonical}
 use Rattle.occ_dd.specs.Store.{has}
 use Rattle.occ_dd.specs.Store.{IsKnown as IsSetKnown, Keeps as KeepsSets}
@@ -59,9 +59,6 @@ pub value-keeps : {L : Type 0} (ms ns : List (Node (Option L))) → KeepsNodes m
 unfolding value_at
 value-keeps ms ns k g i x h = ap (λ o. unwrap_or o None) (ap (label_of ns) (end-keeps ms ns k g i x h) ∙ label-keeps ms ns k (end_of ms i x) (end-in ms g i x h))
 
-pub pass-keeps : {L : Type 0} (ms ns : List (Node (Option L))) → KeepsNodes ms ns → IsDiagram ms → (i : ℕ) (P : L → Type 0) → i < length ms → PassAt ms i P → PassAt ns i P
-pass-keeps ms ns k g i P h all x = subst (λ o. IfSome o P) (sym (value-keeps ms ns k g i x h)) (all x)
-
 -- ---- the tables of maps
 module _ {L : Type 0} {e : _} {h : _} (m : Maps L e h) where
   pub value_is : (a : MapId) (x : ℕ) → value m a x ≡ value_at (nodes_of m.table) a.0 x
@@ -83,7 +80,7 @@ module _ {L : Type 0} {e : _} {h : _} (m : Maps L e h) where
         λ i. record { 0 = e i };
   }
 
-  pub pass_at : (a : MapId) (P : L → Type 0) → HasLabels m a P → PassAt (nodes_of m.table) a.0 P
+  pub pass_at : (a : MapId) (P : L → Type 0) → HasLabels m a P → (x : ℕ) → IfSome (value_at (nodes_of m.table) a.0 x) P
   pass_at a P all x = subst (λ o. IfSome o P) (value_is a (x % 2 ^ 64) ∙ value-low (nodes_of m.table) m.table.diagram a.0 x) (all (x % 2 ^ 64) (mod_small x))
     where
       mod_small : (n : ℕ) → n % 2 ^ 64 < 2 ^ 64
@@ -103,7 +100,7 @@ module _ {L : Type 0} {e : _} {h : _} (old new : Maps L e h) (k : KeepsNodes (no
     values = λ x. value_is new (record { 0 = r }) x ∙ value-ends (nodes_of new.table) r a.0 x (turned x bit) (is.ends x) ∙ old_value a (turned x bit) ha;
   }
 
-  pub related_map : (a b : MapId) (r : ℕ) (R : Option L → Option L → Option L → Type 0) → IsKnown old a → IsKnown old b → IsCombined (nodes_of new.table) R a.0 b.0 r → IsRelated old new a b (record { 0 = r }) R
+  pub related_map : (a b : MapId) (r : ℕ) (R : Option L → Option L → Option L → Type 0) → IsKnown old a → IsKnown old b → IsCombined (nodes_of new.table) R (record { first = a.0; second = b.0; third = 0 }) r → IsRelated old new a b (record { 0 = r }) R
   related_map a b r R ha hb is = record {
     known = size_known new (record { 0 = r }) is.known;
     related = λ x. subst (λ v. R v (value old b x) (value new (record { 0 = r }) x)) (old_value a x ha)
@@ -116,7 +113,7 @@ module _ {L : Type 0} {e : _} {h : _} (old new : Maps L e h) (k : KeepsNodes (no
   chosen_value true i j r x e = value-ends (nodes_of new.table) r i x x e
   chosen_value false i j r x e = value-ends (nodes_of new.table) r j x x e
 
-  pub chosen_map : (set : SetId) (a b : MapId) (r : ℕ) → IsSetKnown s set → IsKnown old a → IsKnown old b → IsChosen (nodes_of new.table) t set.0 a.0 b.0 r
+  pub chosen_map : (set : SetId) (a b : MapId) (r : ℕ) → IsSetKnown s set → IsKnown old a → IsKnown old b → IsChosen (nodes_of new.table) t (record { first = set.0; second = a.0; third = b.0 }) r
       → IsMap new (record { 0 = r }) (λ x. cond (has s set x) (value old a x) (value old b x))
   chosen_map set a b r hs ha hb is = record {
     known = size_known new (record { 0 = r }) is.known;

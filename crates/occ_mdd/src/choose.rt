@@ -1,14 +1,20 @@
-ghost use Rattle.std.specs.Prelude.{◌≡◌, ℕ, ◌<◌, ◌≤◌, ◌+◌, IfOk, length};
-ghost use Rattle.occ_diagram.specs.Diagram.{Keeps, depth_of};
+ghost use Rattle.std.specs.Prelude.{◌<◌, ◌≤◌, IfOk, length};
 ghost use Rattle.occ_diagram.specs.Table.{nodes_of};
 ghost use Rattle.std.specs.Bool.{OnTrue, OnFalse};
-ghost use Rattle.occ_dd.specs.Store.{IsKnown, IsFull, Splits, depth};
+ghost use Rattle.occ_dd.specs.Store.{IsKnown, IsFull, Splits};
 ghost use Rattle.occ_dd.specs.Store.{Keeps as KeepsSets};
-ghost use Rattle.occ_mdd.specs.Chosen.{AreChosen, IsChosen, IsSetPart, IsTop};
+ghost use Rattle.occ_mdd.specs.Chosen.{AreChosen, Grown, IsAsked, IsChosen, IsHalved, IsSetPart, IsTop};
 
 use occ_base::Memory;
 use occ_dd::{SetId, Store};
 use occ_diagram::{Call, Label, Memo, Table};
+
+/// What a choice comes to: a function that is there, or a bit with the choices on its two sides.
+#[derive(Clone, Copy)]
+pub enum Choice {
+    Made(usize),
+    Split(u32, Call, Call),
+}
 
 // The greatest bit that matters to a set, whose own is `top`, or to one of two functions.
 pub fn top_bit<L: Label>(table: &Table<Option<L>>, top: u32, a: usize, b: usize) -> u32
@@ -42,46 +48,71 @@ fn is_full(store: &Store, set: SetId) -> bool
     set == store.full()
 }
 
-// The function that is `a` on the set and `b` elsewhere.
+// The choice itself, where its set is empty or full, and else the choices on the two sides of the greatest bit
+// that matters to it.
+fn halve<L: Label>(
+    table: &Table<Option<L>>,
+    store: &mut Store,
+    call: Call,
+) -> Result<Choice, Memory>
+    requires asked { IsAsked (nodes_of table.now) store.old call }
+    ensures keeps { KeepsSets store.old store.new }
+    ensures choice { IfOk result (IsHalved (nodes_of table.now) store.new call) }
+{
+    let set = SetId(call.first);
+    let parts = store.split(set)?;
+    let Some(split) = parts else {
+        return Ok(if is_full(store, set) {
+            Choice::Made(call.second)
+        } else {
+            Choice::Made(call.third)
+        });
+    };
+    let bit = top_bit(table, split.0, call.second, call.third);
+    let (set_low, set_high) = sides(store, set, split, bit);
+    let (a_low, a_high) = table.parts(call.second, bit);
+    let (b_low, b_high) = table.parts(call.third, bit);
+    let low = Call {
+        first: set_low.0,
+        second: a_low,
+        third: b_low,
+    };
+    let high = Call {
+        first: set_high.0,
+        second: a_high,
+        third: b_high,
+    };
+    Ok(Choice::Split(bit, low, high))
+}
+
+// The function that is the call's second on the set that is its first, and its third elsewhere.
 pub fn choose<L: Label>(
     table: &mut Table<Option<L>>,
     store: &mut Store,
-    set: SetId,
-    a: usize,
-    b: usize,
+    call: Call,
     memo: &mut Memo,
 ) -> Result<usize, Memory>
-    requires set { IsKnown store.old set }
-    requires a { a < length (nodes_of table.old) }
-    requires b { b < length (nodes_of table.old) }
+    requires asked { IsAsked (nodes_of table.old) store.old call }
     requires right { AreChosen (nodes_of table.old) store.old memo.old }
-    ensures sets { KeepsSets store.old store.new }
-    ensures keeps { Keeps (nodes_of table.old) (nodes_of table.new) }
+    ensures grown { Grown (nodes_of table.old) (nodes_of table.new) store.old store.new }
     ensures right { AreChosen (nodes_of table.new) store.new memo.new }
-    ensures chosen { IfOk result (λ r. IsChosen (nodes_of table.new) store.new set.0 a b r) }
+    ensures chosen { IfOk result (IsChosen (nodes_of table.new) store.new call) }
 {
-    if a == b {
-        return Ok(a);
+    if call.second == call.third {
+        return Ok(call.second);
     }
-    let call = Call {
-        first: set.0,
-        second: a,
-        third: b,
-    };
     if let Some(chosen) = memo.get(call) {
         return Ok(chosen);
     }
-    let parts = store.split(set)?;
-    let Some(split) = parts else {
-        return Ok(if is_full(store, set) { a } else { b });
-    };
-    let bit = top_bit(table, split.0, a, b);
-    let (set_low, set_high) = sides(store, set, split, bit);
-    let (a_low, a_high) = table.parts(a, bit);
-    let (b_low, b_high) = table.parts(b, bit);
-    let low = choose(table, store, set_low, a_low, b_low, memo)?;
-    let high = choose(table, store, set_high, a_high, b_high, memo)?;
-    let chosen = table.branch(bit, low, high)?;
-    memo.insert(call, chosen)?;
-    Ok(chosen)
+    let choice = halve(table, store, call)?;
+    match choice {
+        Choice::Made(chosen) => Ok(chosen),
+        Choice::Split(bit, low_call, high_call) => {
+            let low = choose(table, store, low_call, memo)?;
+            let high = choose(table, store, high_call, memo)?;
+            let chosen = table.branch(bit, low, high)?;
+            memo.insert(call, chosen)?;
+            Ok(chosen)
+        }
+    }
 }

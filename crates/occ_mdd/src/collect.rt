@@ -10,6 +10,13 @@ use occ_base::Memory;
 use occ_dd::{SetId, Store};
 use occ_diagram::{Call, Label, Memo, Table};
 
+/// The labels that were found, and the pairs of a set and a function that were visited.
+#[derive(Drop)]
+pub struct Found<L> {
+    pub labels: Vec<L>,
+    pub seen: Memo,
+}
+
 // A set and a function where a bit is 0, and where it is 1.
 #[derive(Clone, Copy)]
 struct Halves {
@@ -84,14 +91,13 @@ pub fn collect<L: Label>(
     store: &mut Store,
     set: SetId,
     a: usize,
-    found: &mut Vec<L>,
-    seen: &mut Memo,
+    found: &mut Found<L>,
 ) -> Result<(), Memory>
     requires set { IsKnown store.old set }
     requires a { a < length (nodes_of table.now) }
-    requires right { AreSeen (nodes_of table.now) store.old found.old.items seen.old }
-    ensures after { Visits (nodes_of table.now) store.old store.new found.old.items found.new.items seen.new set.0 a }
-    ensures all { OnOk result (IsSeen (nodes_of table.now) store.new found.new.items set.0 a) }
+    requires right { AreSeen (nodes_of table.now) store.old found.old.labels.items found.old.seen }
+    ensures after { Visits (nodes_of table.now) store.old store.new found.old.labels.items found.new.labels.items found.new.seen set.0 a }
+    ensures all { OnOk result (IsSeen (nodes_of table.now) store.new found.new.labels.items set.0 a) }
 {
     if is_empty(store, set) {
         return Ok(());
@@ -101,17 +107,17 @@ pub fn collect<L: Label>(
         second: a,
         third: 0,
     };
-    if seen.get(call).is_some() {
+    if found.seen.get(call).is_some() {
         return Ok(());
     }
     if table.depth(a) == 0 {
-        note(table.label(a, 0), found)?;
-        seen.insert(call, 0)?;
+        note(table.label(a, 0), &mut found.labels)?;
+        found.seen.insert(call, 0)?;
         return Ok(());
     }
     let halves = halve(table, store, set, a)?;
-    collect(table, store, halves.set_low, halves.low, found, seen)?;
-    collect(table, store, halves.set_high, halves.high, found, seen)?;
-    seen.insert(call, 0)?;
+    collect(table, store, halves.set_low, halves.low, found)?;
+    collect(table, store, halves.set_high, halves.high, found)?;
+    found.seen.insert(call, 0)?;
     Ok(())
 }

@@ -4,12 +4,12 @@ ghost use Rattle.occ_dd.specs.Store.{has};
 ghost use Rattle.occ_dd.specs.Store.{IsKnown as IsSetKnown, Keeps as KeepsSets};
 
 use crate::choose::choose;
-use crate::collect::collect;
+use crate::collect::{Found, collect};
 use crate::combine::combine;
 use crate::{Both, MapId};
 use occ_base::Memory;
 use occ_dd::{SetId, Store};
-use occ_diagram::{Label, Memo, Table};
+use occ_diagram::{Call, Label, Memo, Table};
 use std::alloc::Global;
 use std::hash::Hash;
 
@@ -89,7 +89,12 @@ impl<L: Label> Maps<L> {
             (λ x. if has store.old set x then value self.old a x else value self.old b x)) }
     {
         let mut memo = Memo::new(self.alloc);
-        Ok(MapId(choose(&mut self.table, store, set, a.0, b.0, &mut memo)?))
+        let call = Call {
+            first: set.0,
+            second: a.0,
+            third: b.0,
+        };
+        Ok(MapId(choose(&mut self.table, store, call, &mut memo)?))
     }
 
     /// The function whose value at each assignment is what `f` gives for the values of the two.
@@ -104,7 +109,12 @@ impl<L: Label> Maps<L> {
         ensures map { IfOk result (λ r. IsRelated self.old self.new a b r (F.relates f.new)) }
     {
         let mut memo = Memo::new(self.alloc);
-        Ok(MapId(combine(&mut self.table, a.0, b.0, f, &mut memo)?))
+        let call = Call {
+            first: a.0,
+            second: b.0,
+            third: 0,
+        };
+        Ok(MapId(combine(&mut self.table, call, f, &mut memo)?))
     }
 
     /// The labels that the function has on the set, each once, in increasing order. Where its value is
@@ -115,11 +125,13 @@ impl<L: Label> Maps<L> {
         ensures sets { KeepsSets store.old store.new }
         ensures labels { IfOk result (λ labels. AreLabelsOn self.now a store.old set L.cmp labels.items) }
     {
-        let mut found = Vec::new(self.alloc);
-        let mut seen = Memo::new(self.alloc);
-        collect(&self.table, store, set, a.0, &mut found, &mut seen)?;
-        found.sort_unstable();
-        found.dedup();
-        Ok(found)
+        let labels = Vec::new(self.alloc);
+        let seen = Memo::new(self.alloc);
+        let mut found = Found { labels, seen };
+        collect(&self.table, store, set, a.0, &mut found)?;
+        let mut labels = found.labels;
+        labels.sort_unstable();
+        labels.dedup();
+        Ok(labels)
     }
 }

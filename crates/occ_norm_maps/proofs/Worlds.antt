@@ -34,9 +34,11 @@ use Rattle.occ_choice.proofs.Choosing.{beside_added, beside_sound}
 use Rattle.occ_choice.proofs.Uniting.{sound_row}
 use Rattle.occ_follow.specs.Sequence.{HasNodes}
 use Rattle.occ_scope.specs.Tables.{KeepShifted}
-use Rattle.occ_weave.specs.Weaves.{KeepWoven, closed_of, written_of}
-use Rattle.occ_norm_maps.specs.Lifted.{Finished, IsEither, IsFinished, IsLifted, IsMerged, IsTurned, OnOne, OnTwo, branches_of}
-use Rattle.occ_norm_maps.specs.Lifting.{Accepts, Goes, Relates}
+use Rattle.occ_choice.specs.declared.unions.Unions.{Unions}
+use Rattle.occ_scope.proofs.Keeping.{shifts-lead}
+use Rattle.occ_weave.proofs.Keeping.{remembers-lead}
+use Rattle.occ_norm_maps.specs.Lifted.{Finished, IsEither, IsFinished, IsLifted, IsMerged, IsTurned, IsWovenOf, OnOne, OnTwo, branches_of}
+use Rattle.occ_norm_maps.specs.Lifting.{Accepts, Goes, IsRight, Relates}
 use Rattle.occ_norm_maps.specs.Maps.{Extends, IsSkip, Lifts, MayHaveNodes, are_zero, is_clear}
 use Rattle.occ_norm_maps.specs.declared.lifting.Lifting.{Lifting}
 use Rattle.occ_norm_maps.specs.declared.step.Step.{Step}
@@ -174,19 +176,23 @@ finish_now v w k p q nowhere accepts offers r h l is set nothing added =
     beside_now v w (grows_leads v w k) p q r h l (subst (λ os. IsBeside v w os q r) is (beside_added v w nowhere accepts offers q r set nothing added))
 
 -- ---- steps
-
-pub goes_from : (f g : Lifting) → Leads f.world g.world → g.step ≡ f.step → written_of g.weaves ≡ written_of f.weaves → closed_of g.weaves ≡ closed_of f.weaves
-    → (AreUnions f.world f.unions → AreUnions g.world g.unions) → (KeepShifted f.world f.shifts → KeepShifted g.world g.shifts) → (KeepWoven f.world f.weaves → KeepWoven g.world g.weaves) → Goes f g
-goes_from f g leads step written closed unions shifts weaves = record { leads = leads; step = step; written = written; closed = closed; unions = unions; shifts = shifts; weaves = weaves }
+-- the world has grown, and so have its unions
+pub goes_world : (f : Lifting) (w : World) (unions : Unions) → Leads f.weaver.world w → (AreUnions f.weaver.world f.weaver.unions → AreUnions w unions) → Goes f (record f { weaver = record f.weaver { world = w; unions = unions } })
+goes_world f w unions leads are = record {
+  leads = leads;
+  step = refl;
+  right = λ right. remembers-lead _ _ f.weaver w unions leads (are right.unions) right;
+  shifts = shifts-lead f.weaver.world w f.shifts leads;
+}
 
 -- ---- a world whose maps are taken out and put back
-pub labels : {e : _} {h : _} (v : World) (m : Maps NodeId e h) (f : Lifting) (a : MapId) → ((x : ℕ) → value m a x ≡ value v.maps a x) → nodes_of v ≤ nodes_of f.world → AreUnions f.world f.unions → KeepShifted f.world f.shifts → KeepWoven f.world f.weaves
+pub labels : {e : _} {h : _} (v : World) (m : Maps NodeId e h) (f : Lifting) (a : MapId) → ((x : ℕ) → value m a x ≡ value v.maps a x) → nodes_of v ≤ nodes_of f.weaver.world → IsRight f → KeepShifted f.weaver.world f.shifts
     → MayHaveNodes v a → (x : ℕ) → x < 2 ^ 64 → IfSome (value m a x) (Accepts f)
-labels v m f a same more unions shifts weaves has x h = subst (λ o. IfSome o (Accepts f)) (sym (same x)) (by (value v.maps a x) (has.nodes x h))
+labels v m f a same more right shifts has x h = subst (λ o. IfSome o (Accepts f)) (sym (same x)) (by (value v.maps a x) (has.nodes x h))
   where
     by : (o : Option NodeId) → IfSome o (IsNode v) → IfSome o (Accepts f)
     by None k = tt
-    by (Some n) k = record { node = omega (arith, more, k); unions = unions; shifts = shifts; weaves = weaves }
+    by (Some n) k = record { node = omega (arith, more, k); right = right; shifts = shifts }
 
 pub nodes_rows : (v w : World) → w.rows ≡ v.rows → nodes_of v ≤ nodes_of w
 unfolding nodes_of
@@ -201,18 +207,20 @@ put_back v u w z s r k t q maps = record {
   maps = maps;
 }
 
-pub lifted_back : (f g : Lifting) → Goes f g → (v z : World) → z.store ≡ g.world.store → z.rows ≡ g.world.rows → (step : Step) (written : ℕ) (closed : List Name) → f.step ≡ step → written_of f.weaves ≡ written → closed_of f.weaves ≡ closed
-    → Keeps v.maps z.maps → (a b r : MapId) → IsKnown v.maps a → IsKnown v.maps b → IsRelated v.maps z.maps a b r (Relates g) → Lifts z a b r (IsLifted step written closed z)
-lifted_back f g k v z s q step written closed es ew ec keeps a b r ha hb is = record {
+pub lifted_back : (f g : Lifting) → Goes f g → (v z : World) → z.store ≡ g.weaver.world.store → z.rows ≡ g.weaver.world.rows → Keeps v.maps z.maps
+    → (a b r : MapId) → IsKnown v.maps a → IsKnown v.maps b → IsRelated v.maps z.maps a b r (Relates g) → Lifts z a b r (IsLifted f.step z)
+lifted_back f g k v z s q keeps a b r ha hb is = record {
   known = is.known;
   related = λ x h.
-      subst (λ o. IsLifted step written closed z o (value z.maps b x) (value z.maps r x)) (sym (keeps.same a x ha))
-      (subst (λ o. IsLifted step written closed z (value v.maps a x) o (value z.maps r x)) (sym (keeps.same b x hb))
-      (lifted_grow g.world z (grows_rows g.world z (store_keeps g.world.store z.store s) q) step written closed (value v.maps a x) (value v.maps b x) (value z.maps r x)
-      (subst (λ (t : Step). IsLifted t written closed g.world (value v.maps a x) (value v.maps b x) (value z.maps r x)) (k.step ∙ es)
-      (subst (λ (c : List Name). IsLifted g.step written c g.world (value v.maps a x) (value v.maps b x) (value z.maps r x)) (k.closed ∙ ec)
-      (subst (λ (n : ℕ). IsLifted g.step n (closed_of g.weaves) g.world (value v.maps a x) (value v.maps b x) (value z.maps r x)) (k.written ∙ ew) (is.related x))))));
+      subst (λ o. IsLifted f.step z o (value z.maps b x) (value z.maps r x)) (sym (keeps.same a x ha))
+      (subst (λ o. IsLifted f.step z (value v.maps a x) o (value z.maps r x)) (sym (keeps.same b x hb))
+      (lifted_grow g.weaver.world z (grows_rows g.weaver.world z (store_keeps g.weaver.world.store z.store s) q) f.step (value v.maps a x) (value v.maps b x) (value z.maps r x)
+      (subst (λ (t : Step). IsLifted t g.weaver.world (value v.maps a x) (value v.maps b x) (value z.maps r x)) k.step (is.related x))));
 }
+
+-- nodes side by side, by the bits and the channels of a manner
+pub same_manner : (w : World) (a b r : MapId) (written here : ℕ) (closed there : List Name) → written ≡ here → closed ≡ there → Lifts w a b r (OnTwo (IsWovenOf w written closed)) → Lifts w a b r (OnTwo (IsWovenOf w here there))
+same_manner w a b r written here closed there same also is = subst (λ cs. Lifts w a b r (OnTwo (IsWovenOf w here cs))) also (subst (λ n. Lifts w a b r (OnTwo (IsWovenOf w n closed))) same is)
 
 -- ---- maps that have a node everywhere
 module _ (w : World) where

@@ -1,5 +1,5 @@
 -- What is done to nodes stays so as the world grows.
-use Rattle.std.proofs.Common.{◌≡◌, ◌<◌, ◌≤◌, ◌^◌, ◌||◌, ◌&&◌, ◌++◌, ℕ, zero, suc, Bool, true, false, List, [], ◌∷◌, Option, Some, None, length, get_or, map, nat_lt, refl, sym, ap, ◌∙◌, subst, arith}
+use Rattle.std.proofs.Common.{◌≡◌, ◌<◌, ◌≤◌, ◌||◌, ◌&&◌, ◌++◌, ℕ, zero, suc, Bool, true, List, [], ◌∷◌, Option, Some, None, get_or, nat_lt, refl, sym, ap, ◌∙◌, subst, arith}
 use Rattle.std.proofs.lemmas.Bool.{and_parts, ltb-true}
 use Rattle.std.proofs.lemmas.List.Elements.{All-append}
 use Rattle.std.specs.Prelude.{◌↔◌}
@@ -10,7 +10,7 @@ use Rattle.occ_base.specs.declared.event.Event.{Event}
 use Rattle.occ_base.specs.declared.names.Name.{Name}
 use Rattle.occ_accept.specs.Order.{event_cmp}
 use Rattle.occ_node.specs.Offers.{next_in, are_below}
-use Rattle.occ_node.specs.World.{Grows, IsNode, nodes_of, row_of, fails, ends}
+use Rattle.occ_node.specs.World.{Grows, IsNode, nodes_of, row_of}
 use Rattle.occ_node.specs.declared.node.NodeId.{NodeId}
 use Rattle.occ_node.specs.declared.world.World.{World}
 use Rattle.occ_node.proofs.Behaviours.{is_row, child_node}
@@ -19,7 +19,6 @@ use Rattle.occ_choice.specs.Joined.{maybe_fails, maybe_ends}
 use Rattle.occ_choice.specs.declared.branch.Branch.{Branch}
 use Rattle.occ_choice.specs.declared.branch.Branch.TheVariants.{Skip, Event as Comm}
 use Rattle.occ_choice.proofs.Choosing.{any_among}
-use Rattle.occ_scope.specs.Results.{IsShifted}
 use Rattle.occ_weave.specs.Weave.{BothFail, first_ended, second_ended, neither_ended, HoldsEvents, IsEventSet, IsWoven, WovenEnds, WovenFails}
 use Rattle.occ_weave.proofs.Growth.{trans_iff, iff_of_same, and_iff}
 use Rattle.occ_norm_maps.specs.Lifted.{Finished, IsEither, IsFinished, IsLifted, IsMerged, IsPrefixed, IsTurned, IsWovenOf, OnOne, OnTwo, branches_of}
@@ -222,10 +221,10 @@ module _ (v w : World) (g : Grows v w) where
   finish_grow (Some p) (Some q) None is = is
   finish_grow (Some p) (Some q) (Some r) is = finished_grow p q r is
 
-  pub lifted_grow : (step : Step) (written : ℕ) (closed : List Name) (a b r : Option NodeId) → IsLifted step written closed v a b r → IsLifted step written closed w a b r
-  lifted_grow Unite written closed a b r is = either_grow a b r is
-  lifted_grow (Shift change) written closed a b r is = one_grow (IsTurned v change) (IsTurned w change) (turned_grow change) a r is
-  lifted_grow (Prefix event) written closed a b r is = one_grow (IsPrefixed v event) (IsPrefixed w event) (prefixed_grow event) a r is
-  lifted_grow Merge written closed a b r is = two_grow (IsMerged v) (IsMerged w) merged_grow a b r is
-  lifted_grow Finish written closed a b r is = finish_grow a b r is
-  lifted_grow Weave written closed a b r is = two_grow (IsWovenOf v written closed) (IsWovenOf w written closed) (woven_of_grow written closed) a b r is
+  pub lifted_grow : (step : Step) (a b r : Option NodeId) → IsLifted step v a b r → IsLifted step w a b r
+  lifted_grow Unite a b r is = either_grow a b r is
+  lifted_grow (Shift change) a b r is = one_grow (IsTurned v change) (IsTurned w change) (turned_grow change) a r is
+  lifted_grow (Prefix event) a b r is = one_grow (IsPrefixed v event) (IsPrefixed w event) (prefixed_grow event) a r is
+  lifted_grow Merge a b r is = two_grow (IsMerged v) (IsMerged w) merged_grow a b r is
+  lifted_grow Finish a b r is = finish_grow a b r is
+  lifted_grow (Weave manner) a b r is = two_grow (IsWovenOf v manner.written manner.closed.items) (IsWovenOf w manner.written manner.closed.items) (woven_of_grow manner.written manner.closed.items) a b r is

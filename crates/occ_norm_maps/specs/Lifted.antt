@@ -2,7 +2,7 @@
 use Rattle.std.specs.Prelude.{ℕ, ◌≡◌, ◌||◌, ◌++◌, Bool, List, [], ◌∷◌, map, Option, Some, None, IfSome, is_some}
 use Rattle.occ_base.specs.declared.event.Event.{Event}
 use Rattle.occ_base.specs.declared.names.Name.{Name}
-use Rattle.occ_node.specs.World.{IsNode, row_of, fails, ends}
+use Rattle.occ_node.specs.World.{IsNode, row_of}
 use Rattle.occ_node.specs.declared.node.NodeId.{NodeId}
 use Rattle.occ_node.specs.declared.world.World.{World}
 use Rattle.occ_choice.specs.Branches.{IsAlt, IsBeside}
@@ -76,10 +76,10 @@ Finished w (Some p) (Some q) None = ⊥
 Finished w (Some p) (Some q) (Some r) = IsFinished w p q r
 
 -- what a step makes of two nodes
-abbrev pub IsLifted : Step → ℕ → List Name → World → Option NodeId → Option NodeId → Option NodeId → Type 0
-IsLifted Unite written closed w a b r = IsEither w a b r
-IsLifted (Shift change) written closed w a b r = OnOne (IsTurned w change) a r
-IsLifted (Prefix event) written closed w a b r = OnOne (IsPrefixed w event) a r
-IsLifted Merge written closed w a b r = OnTwo (IsMerged w) a b r
-IsLifted Finish written closed w a b r = Finished w a b r
-IsLifted Weave written closed w a b r = OnTwo (IsWovenOf w written closed) a b r
+abbrev pub IsLifted : Step → World → Option NodeId → Option NodeId → Option NodeId → Type 0
+IsLifted Unite w a b r = IsEither w a b r
+IsLifted (Shift change) w a b r = OnOne (IsTurned w change) a r
+IsLifted (Prefix event) w a b r = OnOne (IsPrefixed w event) a r
+IsLifted Merge w a b r = OnTwo (IsMerged w) a b r
+IsLifted Finish w a b r = Finished w a b r
+IsLifted (Weave manner) w a b r = OnTwo (IsWovenOf w manner.written manner.closed.items) a b r

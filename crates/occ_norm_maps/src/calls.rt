@@ -9,6 +9,7 @@ use crate::step::Step;
 use occ_base::{Event, Memory, Name};
 use occ_mdd::MapId;
 use occ_node::World;
+use occ_weave::Manner;
 use std::alloc::Global;
 
 /// The map that has, at each state, the behaviours of the nodes of both maps, and no node where neither has one.
@@ -20,7 +21,7 @@ pub fn united(alloc: Global, world: &mut World, a: MapId, b: MapId) -> Result<Ma
     ensures may { IfOk result (MayHaveNodes world.new) }
     ensures nodes { HasNodes world.old a → HasNodes world.old b → IfOk result (HasNodes world.new) }
 {
-    lift(alloc, world, Step::Unite, 0, &[], a, b)
+    lift(alloc, world, Step::Unite, a, b)
 }
 
 /// The map whose node at each state is this one's with those bits of all final states turned.
@@ -33,7 +34,7 @@ pub fn shifted(alloc: Global, world: &mut World, map: MapId, change: u64) -> Res
     if change == 0 {
         return Ok(map);
     }
-    lift(alloc, world, Step::Shift(change), 0, &[], map, map)
+    lift(alloc, world, Step::Shift(change), map, map)
 }
 
 /// The map whose node at each state is this one's after an event.
@@ -43,7 +44,7 @@ pub fn prefixed(alloc: Global, world: &mut World, map: MapId, event: Event) -> R
     ensures prefixed { IfOk result (λ r. Lifts world.new map map r (λ a b. OnOne (IsPrefixed world.new event) a)) }
     ensures nodes { IfOk result (HasNodes world.new) }
 {
-    lift(alloc, world, Step::Prefix(event), 0, &[], map, map)
+    lift(alloc, world, Step::Prefix(event), map, map)
 }
 
 /// The map whose node at each state waits for all events that the nodes of the two maps offer there.
@@ -54,7 +55,7 @@ pub fn merged(alloc: Global, world: &mut World, a: MapId, b: MapId) -> Result<Ma
     ensures merged { IfOk result (λ r. Lifts world.new a b r (OnTwo (IsMerged world.new))) }
     ensures nodes { IfOk result (HasNodes world.new) }
 {
-    lift(alloc, world, Step::Merge, 0, &[], a, b)
+    lift(alloc, world, Step::Merge, a, b)
 }
 
 /// The map that has, at each state, what the one node offers beside the other: the first node alone where the second
@@ -71,7 +72,7 @@ pub fn finished(
     ensures finished { IfOk result (λ r. Lifts world.new waiting ready r (Finished world.new)) }
     ensures nodes { IfOk result (HasNodes world.new) }
 {
-    lift(alloc, world, Step::Finish, 0, &[], waiting, ready)
+    lift(alloc, world, Step::Finish, waiting, ready)
 }
 
 /// The map whose node at each state is those of the two maps side by side. Final states take the bits of `written` from
@@ -90,5 +91,6 @@ pub fn woven(
     ensures woven { IfOk result (λ r. Lifts world.new a b r (OnTwo (IsWovenOf world.new written closed.now))) }
     ensures nodes { IfOk result (HasNodes world.new) }
 {
-    lift(alloc, world, Step::Weave, written, closed, a, b)
+    let manner = Manner::new(alloc, written, closed)?;
+    lift(alloc, world, Step::Weave(manner), a, b)
 }

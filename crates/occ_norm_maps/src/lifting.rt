@@ -1,28 +1,24 @@
 ghost use Rattle.std.specs.Prelude.{◌≡◌, ℕ, ◌<◌, ◌^◌, IfOk, IfSome};
-ghost use Rattle.occ_norm_maps.specs.Lifted.{Finished, IsEither, IsLifted, IsMerged, IsPrefixed, IsTurned, IsWovenOf, OnOne, OnTwo};
+ghost use Rattle.occ_norm_maps.specs.Lifted.{Finished, IsEither, IsLifted, IsMerged, IsPrefixed, IsTurned, OnOne, OnTwo};
 ghost use Rattle.occ_norm_maps.specs.Lifting.{Accepts, Goes, Relates};
 ghost use Rattle.occ_norm_maps.specs.Maps.{Extends, Lifts, MayHaveNodes};
-ghost use Rattle.occ_weave.specs.Weaves.{closed_of, written_of};
 
 use crate::nodes::{finish, merge};
 use crate::step::Step;
-use occ_base::{Event, Memory, Name};
-use occ_choice::{Unions, prefix_out, union_with};
+use occ_base::{Event, Memory};
+use occ_choice::{prefix_out, union_with};
 use occ_mdd::{Both, MapId, Maps};
 use occ_node::{NodeId, World};
 use occ_scope::{Shifts, shift_with};
-use occ_weave::{Weaves, weave_with};
+use occ_weave::Weaver;
 use std::alloc::Global;
 use std::mem;
 
 /// A world whose maps were taken out, and the tables of what is done to the nodes of two of them.
 #[derive(Drop)]
 pub struct Lifting {
-    pub alloc: Global,
-    pub world: World,
-    pub unions: Unions,
+    pub weaver: Weaver,
     pub shifts: Shifts,
-    pub weaves: Weaves,
     pub step: Step,
 }
 
@@ -32,11 +28,12 @@ impl Lifting {
         requires a { IfSome a (Accepts self.old) }
         requires b { IfSome b (Accepts self.old) }
         ensures goes { Goes self.old self.new }
-        ensures united { IfOk result (IsEither self.new.world a b) }
+        ensures united { IfOk result (IsEither self.new.weaver.world a b) }
     {
         match (a, b) {
             (Some(p), Some(q)) => {
-                let both = union_with(self.alloc, &mut self.world, &mut self.unions, p, q)?;
+                let weaver = &mut self.weaver;
+                let both = union_with(weaver.alloc, &mut weaver.world, &mut weaver.unions, p, q)?;
                 Ok(Some(both))
             }
             (Some(p), None) => Ok(Some(p)),
@@ -48,12 +45,18 @@ impl Lifting {
     fn shift(&mut self, a: Option<NodeId>, change: u64) -> Result<Option<NodeId>, Memory>
         requires { IfSome a (Accepts self.old) }
         ensures goes { Goes self.old self.new }
-        ensures shifted { IfOk result (OnOne (IsTurned self.new.world change) a) }
+        ensures shifted { IfOk result (OnOne (IsTurned self.new.weaver.world change) a) }
     {
         let Some(p) = a else {
             return Ok(None);
         };
-        let turned = shift_with(self.alloc, &mut self.world, &mut self.shifts, p, change)?;
+        let turned = shift_with(
+            self.weaver.alloc,
+            &mut self.weaver.world,
+            &mut self.shifts,
+            p,
+            change,
+        )?;
         Ok(Some(turned))
     }
 
@@ -61,12 +64,12 @@ impl Lifting {
     fn prefix(&mut self, a: Option<NodeId>, event: Event) -> Result<Option<NodeId>, Memory>
         requires { IfSome a (Accepts self.old) }
         ensures goes { Goes self.old self.new }
-        ensures prefixed { IfOk result (OnOne (IsPrefixed self.new.world event) a) }
+        ensures prefixed { IfOk result (OnOne (IsPrefixed self.new.weaver.world event) a) }
     {
         let Some(p) = a else {
             return Ok(None);
         };
-        let before = prefix_out(self.alloc, &mut self.world, event, p)?;
+        let before = prefix_out(self.weaver.alloc, &mut self.weaver.world, event, p)?;
         Ok(Some(before))
     }
 
@@ -75,11 +78,12 @@ impl Lifting {
         requires a { IfSome a (Accepts self.old) }
         requires b { IfSome b (Accepts self.old) }
         ensures goes { Goes self.old self.new }
-        ensures merged { IfOk result (OnTwo (IsMerged self.new.world) a b) }
+        ensures merged { IfOk result (OnTwo (IsMerged self.new.weaver.world) a b) }
     {
         match (a, b) {
             (Some(p), Some(q)) => {
-                let both = merge(self.alloc, &mut self.world, &mut self.unions, p, q)?;
+                let weaver = &mut self.weaver;
+                let both = merge(weaver.alloc, &mut weaver.world, &mut weaver.unions, p, q)?;
                 Ok(Some(both))
             }
             (Some(_), None) => Ok(None),
@@ -92,32 +96,15 @@ impl Lifting {
         requires a { IfSome a (Accepts self.old) }
         requires b { IfSome b (Accepts self.old) }
         ensures goes { Goes self.old self.new }
-        ensures finished { IfOk result (Finished self.new.world a b) }
+        ensures finished { IfOk result (Finished self.new.weaver.world a b) }
     {
         match (a, b) {
             (Some(p), Some(q)) => {
-                let both = finish(self.alloc, &mut self.world, &mut self.unions, p, q)?;
+                let weaver = &mut self.weaver;
+                let both = finish(weaver.alloc, &mut weaver.world, &mut weaver.unions, p, q)?;
                 Ok(Some(both))
             }
             (Some(p), None) => Ok(Some(p)),
-            (None, _) => Ok(None),
-        }
-    }
-
-    // The two nodes side by side.
-    fn weave(&mut self, a: Option<NodeId>, b: Option<NodeId>) -> Result<Option<NodeId>, Memory>
-        requires a { IfSome a (Accepts self.old) }
-        requires b { IfSome b (Accepts self.old) }
-        ensures goes { Goes self.old self.new }
-        ensures woven { IfOk result (OnTwo (IsWovenOf self.new.world (written_of self.old.weaves) (closed_of self.old.weaves)) a b) }
-    {
-        match (a, b) {
-            (Some(p), Some(q)) => {
-                let world = &mut self.world;
-                let both = weave_with(self.alloc, world, &mut self.unions, &mut self.weaves, p, q)?;
-                Ok(Some(both))
-            }
-            (Some(_), None) => Ok(None),
             (None, _) => Ok(None),
         }
     }
@@ -147,13 +134,26 @@ impl Both<NodeId> for Lifting {
         ensures leads { Goes self.old self.new }
         ensures relates { IfOk result (Relates self.new a b) }
     {
-        match self.step {
+        match &self.step {
             Step::Unite => self.unite(a, b),
-            Step::Shift(change) => self.shift(a, change),
-            Step::Prefix(event) => self.prefix(a, event),
+            Step::Shift(change) => {
+                let change = *change;
+                self.shift(a, change)
+            }
+            Step::Prefix(event) => {
+                let event = *event;
+                self.prefix(a, event)
+            }
             Step::Merge => self.merge(a, b),
             Step::Finish => self.finish(a, b),
-            Step::Weave => self.weave(a, b),
+            Step::Weave(manner) => match (a, b) {
+                (Some(p), Some(q)) => {
+                    let both = self.weaver.weave(manner, p, q)?;
+                    Ok(Some(both))
+                }
+                (Some(_), None) => Ok(None),
+                (None, _) => Ok(None),
+            },
         }
     }
 }
@@ -163,30 +163,24 @@ pub fn lift(
     alloc: Global,
     world: &mut World,
     step: Step,
-    written: u64,
-    closed: &[Name],
     a: MapId,
     b: MapId,
 ) -> Result<MapId, Memory>
     requires a { MayHaveNodes world.old a }
     requires b { MayHaveNodes world.old b }
     ensures extends { Extends world.old world.new }
-    ensures lifted { IfOk result (λ r. Lifts world.new a b r (IsLifted step written closed.now world.new)) }
+    ensures lifted { IfOk result (λ r. Lifts world.new a b r (IsLifted step world.new)) }
 {
-    let weaves = Weaves::new(alloc, written, closed)?;
     let empty = World::new(alloc)?;
     let mut taken = mem::replace(world, empty);
     let mut maps = mem::replace(&mut taken.maps, Maps::new(alloc));
     let mut lifting = Lifting {
-        alloc,
-        world: taken,
-        unions: Unions::new(alloc),
+        weaver: Weaver::new(alloc, taken),
         shifts: Shifts::new(alloc),
-        weaves,
         step,
     };
     let made = maps.apply2(a, b, &mut lifting);
-    let mut grown = lifting.world;
+    let mut grown = lifting.weaver.into_world();
     grown.maps = maps;
     *world = grown;
     made

@@ -1,7 +1,8 @@
 use occ_base::Event;
+use occ_weave::Manner;
 
 /// What is done to the nodes that two maps have at a state.
-#[derive(Clone, Copy, Debug, PartialEq, Eq)]
+#[derive(Debug, Drop)]
 pub enum Step {
     /// Both are there together.
     Unite,
@@ -14,5 +15,5 @@ pub enum Step {
     /// What the first offers is offered beside the second.
     Finish,
     /// The two are side by side.
-    Weave,
+    Weave(Manner),
 }

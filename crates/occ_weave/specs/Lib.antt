@@ -3,7 +3,6 @@ pub mod Ends
 pub mod Joint
 pub mod Steps
 pub mod Memo
-pub mod Weaves
 pub mod Steady
 pub mod Over
 pub mod States

@@ -5,13 +5,14 @@ mod calls;
 mod closed;
 mod ends;
 mod law;
+mod manner;
 mod merge;
 mod resting;
 mod steady;
 mod step;
-mod weaves;
 mod weaving;
 
-pub use calls::{weave, weave_with};
+pub use calls::weave;
 pub use law::joined_ends_are_joined_states;
-pub use weaves::Weaves;
+pub use manner::Manner;
+pub use weaving::Weaver;

@@ -15,8 +15,8 @@ returns-in_err-ends-clause-leads c = leads_store c.args.world.now _ c.or.ensures
 
 pub make-requires : goal.make-requires
 make-requires c = joined_fit c.args.world.now _ (leads_store c.args.world.now _ c.or.ensures.keeps refl refl) c.args.row.now c.row-other.result.now c.args.b
-    (record { ends = c.in_ok-ends.ends; accepts = c.in_ok-accepts.accepts; offers = c.args.offers }) c.args.events.now c.requires.row c.requires.b c.row-other.ensures.row
-    c.requires.offers c.requires.events c.in_ok-accepts.ensures.refuses c.in_ok-ends.ensures.set c.items-events.ensures.strict c.in_ok-accepts.ensures.events
+    (record { ends = c.in_ok-ends.ends; accepts = c.in_ok-accepts.accepts; offers = c.args.offers }) c.requires.offers.events c.requires.row c.requires.b c.row-other.ensures.row
+    c.requires.offers.reached c.requires.offers.all c.in_ok-accepts.ensures.refuses c.in_ok-ends.ensures.set c.requires.offers.increasing c.in_ok-accepts.ensures.events
 
 pub returns-clause-leads : goal.returns-clause-leads
 returns-clause-leads c = leads_trans c.args.world.now _ c.make.new.self (leads_store c.args.world.now _ c.or.ensures.keeps refl refl) c.make.ensures.leads
@@ -24,7 +24,7 @@ returns-clause-leads c = leads_trans c.args.world.now _ c.make.new.self (leads_s
 pub returns-clause-added : goal.returns-clause-added
 returns-clause-added c = IfOk-weaker c.make.result (λ r. IsMade c.make.new.self r (record { ends = c.in_ok-ends.ends; accepts = c.in_ok-accepts.accepts; offers = c.args.offers })) (λ r. IsAdded c.args.world.now c.make.new.self c.args.row.now c.args.b r)
     (λ r is. joined_added c.args.world.now _ (leads_store c.args.world.now _ c.or.ensures.keeps refl refl) c.args.row.now c.row-other.result.now c.args.b
-    (record { ends = c.in_ok-ends.ends; accepts = c.in_ok-accepts.accepts; offers = c.args.offers }) c.args.events.now c.requires.row c.requires.b c.row-other.ensures.row
-    c.requires.offers c.requires.events c.in_ok-accepts.ensures.refuses c.in_ok-ends.ensures.set c.make.new.self c.make.ensures.leads
+    (record { ends = c.in_ok-ends.ends; accepts = c.in_ok-accepts.accepts; offers = c.args.offers }) c.requires.offers.events c.requires.row c.requires.b c.row-other.ensures.row
+    c.requires.offers.reached c.requires.offers.all c.in_ok-accepts.ensures.refuses c.in_ok-ends.ensures.set c.make.new.self c.make.ensures.leads
     (leads_trans c.args.world.now _ c.make.new.self (leads_store c.args.world.now _ c.or.ensures.keeps refl refl) c.make.ensures.leads) r is)
     c.make.ensures.made

@@ -1,5 +1,7 @@
-use Rattle.std.proofs.Common.{ℕ, ◌+◌, ◌*◌, ◌<◌, ◌||◌, ◌∙◌, refl, subst, arith}
+use Rattle.std.proofs.Common.{ℕ, ◌+◌, ◌*◌, ◌<◌, ◌||◌, ◌∙◌, refl, sym, ap, subst, arith}
 use Rattle.std.proofs.lemmas.Result.{IfOk-weaker}
+use Rattle.occ_node.specs.Offers.{is_offered}
+use Rattle.occ_node.specs.declared.row.Row.{Row}
 use Rattle.occ_node.specs.World.{fails, ends, row_fails, row_ends}
 use Rattle.occ_node.proofs.Behaviours.{leads_trans}
 use Rattle.occ_choice.specs.Joined.{weight}
@@ -33,10 +35,17 @@ pub add-join-requires-clause-row : goal.add-join-requires-clause-row
 add-join-requires-clause-row t c = sound-leads c.args.world.now c.loop-event.world c.loop-event.invariant.leads c.args.row.now c.requires.row
 
 pub add-join-requires-clause-offers : goal.add-join-requires-clause-offers
-add-join-requires-clause-offers t c = reached_now c.args.world.now c.loop-event.world c.loop-event.invariant.leads c.args.row.now c.args.b c.requires.row c.requires.b c.loop-event.offers c.in_ok-events.events
-    (reached_whole c.loop-event.world c.loop-event.offers c.items-event-items.result.now c.in_ok-events.events c.loop-event.event-index
-    (λ t X. row_fails c.args.world.now c.args.row.now t X || fails c.args.world.now c.args.b t X) (λ t x. row_ends c.args.world.now c.args.row.now t x || ends c.args.world.now c.args.b t x)
-    c.loop-event-test.false c.items-event-items.ensures.items c.loop-event.invariant.reached)
+add-join-requires-clause-offers t c =
+    let leads = c.loop-event.invariant.leads in
+    record {
+      events = c.in_ok-events.events;
+      increasing = c.items-event-items.ensures.strict;
+      all = λ e. c.in_ok-events.ensures e ∙ ap (λ (r : Row). is_offered c.args.row.now.offers e || is_offered r.offers e) (c.row.ensures.row ∙ sym (leads.kept c.args.b c.requires.b));
+      reached = reached_now c.args.world.now c.loop-event.world c.loop-event.invariant.leads c.args.row.now c.args.b c.requires.row c.requires.b c.loop-event.offers c.in_ok-events.events
+          (reached_whole c.loop-event.world c.loop-event.offers c.items-event-items.result.now c.in_ok-events.events c.loop-event.event-index
+          (λ t X. row_fails c.args.world.now c.args.row.now t X || fails c.args.world.now c.args.b t X) (λ t x. row_ends c.args.world.now c.args.row.now t x || ends c.args.world.now c.args.b t x)
+          c.loop-event-test.false c.items-event-items.ensures.items c.loop-event.invariant.reached);
+    }
 
 pub add-returns-clause-added : goal.add-returns-clause-added
 add-returns-clause-added t c = IfOk-weaker c.join.result (λ r. IsAdded c.loop-event.world c.join.new.world c.args.row.now c.args.b r) (λ r. IsAdded c.args.world.now c.join.new.world c.args.row.now c.args.b r)

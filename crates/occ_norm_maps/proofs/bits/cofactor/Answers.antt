@@ -1,10 +1,10 @@
-use Rattle.std.proofs.Common.{refl, sym, subst, ◌≡◌, Bool}
+use Rattle.std.proofs.Common.{refl, sym, subst, Bool}
 use Rattle.std.proofs.lemmas.Result.{IfOk-weaker}
 use Rattle.occ_diagram.specs.Assignment.{with_bit}
 use Rattle.occ_mdd.specs.Maps.{IsMap, value}
 use Rattle.occ_node.proofs.Table.{rows-keeps}
 use Rattle.occ_norm_maps.specs.Maps.{digit}
-use Rattle.occ_norm_maps.proofs.Worlds.{cofactor_one, cofactor_zero, extends_rows, extends_trans, has_nodes-extends, maps_refl, moved_nodes, with_bit_below}
+use Rattle.occ_norm_maps.proofs.Worlds.{cofactor_one, cofactor_zero, extends_rows, extends_trans, maps_refl, moved_nodes, with_bit_below}
 use Rattle.occ_norm_maps.proofs.bits.cofactor.Goals as goal
 
 pub invariant_of-world : goal.invariant_of-world

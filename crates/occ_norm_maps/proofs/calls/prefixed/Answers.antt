@@ -1,6 +1,6 @@
 use Rattle.std.proofs.lemmas.Result.{IfOk-weaker}
-use Rattle.occ_norm_maps.specs.Lifted.{IsMerged, IsPrefixed, IsTurned, IsWovenOf}
-use Rattle.occ_norm_maps.proofs.Worlds.{either_may, either_nodes, extends_refl, finish_nodes, has_nodes-extends, may_have, one_nodes, same_shifted, two_nodes}
+use Rattle.occ_norm_maps.specs.Lifted.{IsPrefixed}
+use Rattle.occ_norm_maps.proofs.Worlds.{has_nodes-extends, may_have, one_nodes}
 use Rattle.occ_norm_maps.proofs.calls.prefixed.Goals as goal
 
 pub lift-requires-clause-a : goal.lift-requires-clause-a

@@ -1,6 +1,5 @@
 use Rattle.std.proofs.lemmas.Result.{IfOk-weaker}
-use Rattle.occ_norm_maps.specs.Lifted.{IsMerged, IsPrefixed, IsTurned, IsWovenOf}
-use Rattle.occ_norm_maps.proofs.Worlds.{either_may, either_nodes, extends_refl, finish_nodes, has_nodes-extends, may_have, one_nodes, same_shifted, two_nodes}
+use Rattle.occ_norm_maps.proofs.Worlds.{either_may, either_nodes, has_nodes-extends}
 use Rattle.occ_norm_maps.proofs.calls.united.Goals as goal
 
 pub returns-clause-may : goal.returns-clause-may

@@ -1,4 +1,4 @@
-use Rattle.std.proofs.Common.{◌≡◌, List, sym, ap, ◌∙◌, subst, ◌++◌}
+use Rattle.std.proofs.Common.{sym, ◌∙◌, subst, ◌++◌}
 use Rattle.std.proofs.lemmas.Result.{IfOk-weaker}
 use Rattle.occ_choice.specs.Branches.{AreBranches}
 use Rattle.occ_norm_maps.specs.Growth.{both_branches}

@@ -1,7 +1,7 @@
 use Rattle.std.proofs.Common.{refl}
 use Rattle.std.proofs.lemmas.Result.{IfOk-weaker}
 use Rattle.occ_node.proofs.Table.{rows-keeps}
-use Rattle.occ_norm_maps.proofs.Worlds.{everywhere, extends_leads, extends_rows, extends_trans, maps_refl, skip_fit, skip_is}
+use Rattle.occ_norm_maps.proofs.Worlds.{extends_leads, extends_rows, extends_trans, maps_refl, skip_fit, skip_is}
 use Rattle.occ_norm_maps.proofs.simple.skip.Goals as goal
 
 pub invariant_of-world : goal.invariant_of-world

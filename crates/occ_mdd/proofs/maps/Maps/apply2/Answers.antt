@@ -3,17 +3,13 @@ use Rattle.occ_mdd.proofs.Values.{keeps_maps, known_size, pass_at, related_map}
 use Rattle.occ_mdd.proofs.Combining.{no_combined}
 use Rattle.occ_mdd.proofs.maps.Maps.apply2.Goals as goal
 
-pub combine-requires-clause-a : goal.combine-requires-clause-a
-combine-requires-clause-a g c = known_size c.args.self.now c.args.a c.requires.a
-
-pub combine-requires-clause-b : goal.combine-requires-clause-b
-combine-requires-clause-b g c = known_size c.args.self.now c.args.b c.requires.b
-
-pub combine-requires-clause-a_labels : goal.combine-requires-clause-a_labels
-combine-requires-clause-a_labels g c = pass_at c.args.self.now c.args.a (g.F.Both.accepts c.args.f.now) c.requires.a_labels
-
-pub combine-requires-clause-b_labels : goal.combine-requires-clause-b_labels
-combine-requires-clause-b_labels g c = pass_at c.args.self.now c.args.b (g.F.Both.accepts c.args.f.now) c.requires.b_labels
+pub combine-requires-clause-pass : goal.combine-requires-clause-pass
+combine-requires-clause-pass g c = record {
+  first = known_size c.args.self.now c.args.a c.requires.a;
+  second = known_size c.args.self.now c.args.b c.requires.b;
+  first_labels = pass_at c.args.self.now c.args.a (g.F.Both.accepts c.args.f.now) c.requires.a_labels;
+  second_labels = pass_at c.args.self.now c.args.b (g.F.Both.accepts c.args.f.now) c.requires.b_labels;
+}
 
 pub combine-requires-clause-right : goal.combine-requires-clause-right
 combine-requires-clause-right g c = no_combined (nodes_of c.args.self.now.table) (g.F.Both.relates c.args.f.now) c.new-memo.result c.new-memo.ensures

@@ -2,10 +2,10 @@ use Rattle.std.proofs.Common.{◌∷◌, ◌-◌, take, drop, length, get_or, ap
 use Rattle.std.proofs.lemmas.Result.{IfOk-weaker}
 use Rattle.occ_node.specs.World.{IsMade}
 use Rattle.occ_choice.specs.Union.{IsAdded}
-use Rattle.occ_follow.specs.Follows.{IsSequence}
+use Rattle.occ_follow.specs.Sequences.{IsSequence}
 use Rattle.occ_follow.proofs.Uniting.{none_left, nexts_split, first_known, others_known}
 use Rattle.occ_follow.proofs.Assembling.{finish_fit, finish_made, finish_added, sound_later}
-use Rattle.occ_follow.proofs.following.finish.Goals as goal
+use Rattle.occ_follow.proofs.follower.Follower.finish.Goals as goal
 
 pub make-requires : goal.make-requires
 make-requires c = finish_fit c.args.world.now c.nexts_of.new.world c.nexts_of.ensures.leads c.args.node c.args.map c.requires.node c.requires.map (record { ends = c.no_ends.result; accepts = c.in_ok-accepts.accepts; offers = c.args.offers }) c.requires.offers
@@ -32,7 +32,8 @@ united-requires-clause-others c =
     (nexts_split c.args.world.now c.args.node c.args.map items c.in_ok-nexts.nexts.items (record { 0 = 0 }) c.as_slice.ensures.value c.in-len1-up.len_at_least c.in_ok-nexts.ensures.nexts)
 
 pub add-requires-clause-row : goal.add-requires-clause-row
-add-requires-clause-row c = sound_later c.args.world.now c.nexts_of.new.world c.united.new.world c.nexts_of.ensures.leads c.united.ensures.leads c.args.node c.args.map c.requires.node c.requires.map (record { ends = c.no_ends.result; accepts = c.in_ok-accepts.accepts; offers = c.args.offers }) c.requires.offers
+add-requires-clause-row c = sound_later c.args.world.now c.nexts_of.new.world c.united.new.world c.nexts_of.ensures.leads c.united.ensures.leads c.args.node c.args.map c.requires.node c.requires.map
+    (record { ends = c.no_ends.result; accepts = c.in_ok-accepts.accepts; offers = c.args.offers }) c.requires.offers
     (c.in_ok-accepts.ensures ∙ ap (λ r. r.accepts) (c.row.ensures.row ∙ c.nexts_of.ensures.leads.kept c.args.node c.requires.node)) c.no_ends.ensures
 
 pub returns-clause-sequence : goal.returns-clause-sequence

@@ -6,8 +6,9 @@ use Rattle.occ_mdd.specs.declared.map.MapId.{MapId}
 use Rattle.occ_node.specs.World.{IsNode}
 use Rattle.occ_node.specs.declared.node.NodeId.{NodeId}
 use Rattle.occ_node.specs.declared.world.World.{World}
+use Rattle.occ_choice.specs.Union.{AreUnions}
 use Rattle.occ_follow.specs.Sequence.{HasNodes, IsFollowed}
-use Rattle.occ_follow.specs.declared.follows.Follows.{Follows}
+use Rattle.occ_follow.specs.declared.follower.Follower.{Follower}
 
 -- r is p with what follows, in one world
 pub record IsSequence (w : World) (map : MapId) (p r : NodeId) : Type 0 where
@@ -25,6 +26,7 @@ map_id n = record { 0 = n }
 pub record AreSequences (w : World) (memo : Memo) : Type 0 where
   pub each : (k : Call) (r : ℕ) → recalled memo k ≡ Some r → IsSequence w (map_id k.second) (node k.first) (node r)
 
--- what is remembered is so in the world
-unfoldable pub KeepFollowed : World → Follows → Type 0
-KeepFollowed w follows = AreSequences w follows.memo
+-- what the tables of a follower remember is so in the world
+pub record IsRight (w : World) (follower : Follower) : Type 0 where
+  pub unions : AreUnions w follower.unions
+  pub sequences : AreSequences w follower.sequences

@@ -1,9 +1,8 @@
 use Rattle.std.proofs.Common.{◌+◌, ◌*◌, take}
 use Rattle.occ_node.specs.World.{Leads}
-use Rattle.occ_choice.specs.Union.{AreUnions}
 use Rattle.occ_scope.specs.Paired.{Paired}
-use Rattle.occ_follow.specs.Follows.{AreSequences, IsSequence}
-use Rattle.occ_follow.proofs.following.+follow.Given as goal
+use Rattle.occ_follow.specs.Sequences.{IsRight, IsSequence}
+use Rattle.occ_follow.proofs.follower.Follower.+follow.Given as goal
 
 abbrev pub decreases-node_after : goal.decreases-node_after
 decreases-node_after l = 2 * l.node.0 + 1
@@ -15,7 +14,6 @@ decreases-offers_after l = 2 * l.node.0
 abbrev pub invariant-offers_after-loop-offer : goal.invariant-offers_after-loop-offer
 invariant-offers_after-loop-offer l = record {
   leads : Leads l.fn.world l.world;
-  unions : AreUnions l.world l.unions;
-  memo : AreSequences l.world l.memo;
+  right : IsRight l.world l.self;
   paired : Paired (IsSequence l.world l.map) (take l.offer-index l.offer-items) l.offers;
 }
