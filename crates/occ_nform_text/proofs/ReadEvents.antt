@@ -104,7 +104,8 @@ event_inv names ((name, kind) ∷ params) word e apart h = ⊎_elim
 
 -- ---- sets
 
-all_from : {A : Type 0} (test : A → Bool) (xs : List A) → AllByRecursion (λ x. test x ≡ true) xs → list_all test xs ≡ true
+-- a test that holds of each item holds of the list
+pub all_from : {A : Type 0} (test : A → Bool) (xs : List A) → AllByRecursion (λ x. test x ≡ true) xs → list_all test xs ≡ true
 all_from test [] h = refl
 all_from test (x ∷ xs) h = and_from (test x) (list_all test xs) h.0 (all_from test xs h.1)
 

@@ -66,6 +66,7 @@ values_text s = spaced (λ v. decimal v.1) s
 pub record IsStateRead (params : List (Name × Kind)) (text : List ℕ) (s : List (Name × ℕ)) : Type 0 where
   pub written : text ≡ values_text s
   pub state : is_state params s ≡ true
+  pub place : state_place params s < 2 ^ bits_of_scope params
   pub back : state_at_place params (state_place params s) ≡ s
 
 pub state_inv : (params : List (Name × Kind)) (text : List ℕ) (s : List (Name × ℕ)) → state_of params text ≡ Some s → IsStateRead params text s
@@ -77,6 +78,7 @@ state_inv params text s e =
     record {
       written = items.0 ∙ ap (spaced decimal) is.values ∙ spaced_map (λ (v : Name × ℕ). v.1) decimal s;
       state = is.state;
+      place = is.place;
       back = is.back;
     }
 
@@ -126,7 +128,8 @@ state_line_is params k m line mid values numeral whole split are is =
     whole ∙ ap (λ t. codes "STATE [" ++ (t ++ codes "\n")) (split ∙ (λ i. are i ++ 93 ∷ (codes " " ++ is i)))
     ∙ ap (λ t. codes "STATE [" ++ t) (sym (ap (λ t. t ++ decimal m ++ codes "\n") (append_assoc s (codes "]") (codes " ")) ∙ ap (λ t. t ++ codes "\n") (append_assoc s (codes "] ") (decimal m))))
 
-pub state_line_inv : (params : List (Name × Kind)) (n k m : ℕ) (line : List ℕ) → n ≤ 2 ^ 64 → row_of_state params n k line ≡ Some m → (line ≡ state_line params k m) × (m < n)
+pub state_line_inv : (params : List (Name × Kind)) (n k m : ℕ) (line : List ℕ) → n ≤ 2 ^ 64 → row_of_state params n k line ≡ Some m
+    → (line ≡ state_line params k m) × (m < n) × (k < 2 ^ bits_of_scope params)
 unfolding row_of_state
 state_line_inv params n k m line few e =
     let one = then_inv (between (codes "STATE [") (codes "\n") line) _ m e in
@@ -138,13 +141,14 @@ state_line_inv params n k m line few e =
     let six = then_inv (number_of five.0) (below n) m five.2 in
     let last = below_inv n six.0 m six.2 in
     let is : IsStateRead params two.0.0 s = state_inv params two.0.0 s three.1 in
-    let there : state_at_place params k ≡ s = ap (state_at_place params) (sym (eqb-true (state_place params s) k four.0)) ∙ is.back in
+    let at : state_place params s ≡ k = eqb-true (state_place params s) k four.0 in
+    let there : state_at_place params k ≡ s = ap (state_at_place params) (sym at) ∙ is.back in
     let fits : six.0 < 2 ^ 64 = omega (arith, last.0, last.1) in
     let whole : line ≡ codes "STATE [" ++ (one.0 ++ codes "\n") = between_inv (codes "STATE [") (codes "\n") line one.0 one.1 in
     let values : two.0.0 ≡ values_text (state_at_place params k) = subst (λ u. two.0.0 ≡ values_text u) (sym there) is.written in
     let split : one.0 ≡ two.0.0 ++ 93 ∷ (codes " " ++ five.0) = subst (λ t. one.0 ≡ two.0.0 ++ 93 ∷ t) (behind_inv (codes " ") two.0.1 five.0 five.1) (cut_inv 93 one.0 two.0 two.1) in
     let numeral : five.0 ≡ decimal m = subst (λ r. five.0 ≡ decimal r) last.0 (number_inv five.0 six.0 six.1 fits) in
-    (state_line_is params k m line one.0 two.0.0 five.0 whole split values numeral, last.1)
+    (state_line_is params k m line one.0 two.0.0 five.0 whole split values numeral, last.1, subst (λ p. p < 2 ^ bits_of_scope params) at is.place)
   where
     placed : (b : Bool) (o : Option ℕ) → cond b o None ≡ Some m → (b ≡ true) × (o ≡ Some m)
     placed true o e = (refl, e)

@@ -25,7 +25,8 @@ use Rattle.occ_nform_text.proofs.Named.{are_named}
 use Rattle.occ_nform_text.proofs.WrittenStates.{end_line, end_reads, end_is_line}
 use Rattle.occ_nform_text.proofs.WrittenEvents.{IsOwn, is_own, event_reads, event_lacks, event_word}
 
-all_true : {X : Type 0} (p : X → Bool) (xs : List X) → list_all p xs ≡ true → AllByRecursion (λ x. p x ≡ true) xs
+-- a test that holds of a list holds of each item
+pub all_true : {X : Type 0} (p : X → Bool) (xs : List X) → list_all p xs ≡ true → AllByRecursion (λ x. p x ≡ true) xs
 all_true p [] h = tt
 all_true p (x ∷ xs) h = let parts = and_parts (p x) (list_all p xs) h in (parts.0, all_true p xs parts.1)
 

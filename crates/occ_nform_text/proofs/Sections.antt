@@ -4,6 +4,7 @@ use Rattle.std.specs.List.{concat, flat_map, AllByRecursion}
 use Rattle.std.proofs.lemmas.Bool.{cases_Bool, cond-true, cond-false}
 use Rattle.occ_base.specs.declared.event.Event.{Event}
 use Rattle.occ_base.specs.declared.names.Name.{Name}
+use Rattle.occ_syntax.specs.Counts.{bits_of_scope}
 use Rattle.occ_syntax.specs.declared.scope.Kind.{Kind}
 use Rattle.occ_behaviour.specs.States.{is_state}
 use Rattle.occ_nform_table.specs.declared.table.TableRow.{TableRow}
@@ -122,19 +123,21 @@ rows_inv names params (suc most) n (line ∷ lines) apart small = ⊎_elim
 pub record AreStatesRead (params : List (Name × Kind)) (n k : ℕ) (lines : Lines) (found : List ℕ × Lines) : Type 0 where
   pub written : concat lines ≡ states_text params k found.0 ++ concat found.1
   pub each_is : AllByRecursion (λ m. m < n) found.0
+  pub within : k ≤ 2 ^ bits_of_scope params → k + length found.0 ≤ 2 ^ bits_of_scope params
 
 pub states_inv : (params : List (Name × Kind)) (n k : ℕ) (lines : Lines) → n ≤ 2 ^ 64 → AreStatesRead params n k lines (states_in params n k lines)
 unfolding states_in states_text
-states_inv params n k [] few = record { written = refl; each_is = tt }
+states_inv params n k [] few = record { written = refl; each_is = tt; within = λ h. omega (arith, h) }
 states_inv params n k (line ∷ lines) few = at (row_of_state params n k line) refl (states_inv params n (k + 1) lines few)
   where
     at : (o : Option ℕ) → row_of_state params n k line ≡ o → AreStatesRead params n (k + 1) lines (states_in params n (k + 1) lines)
         → AreStatesRead params n k (line ∷ lines) (kept o (states_in params n (k + 1) lines) ([], line ∷ lines))
-    at None e rest = record { written = refl; each_is = tt }
+    at None e rest = record { written = refl; each_is = tt; within = λ h. omega (arith, h) }
     at (Some m) e rest =
         let is = state_line_inv params n k m line few e in
         let found = states_in params n (k + 1) lines in
         record {
           written = (λ i. is.0 i ++ rest.written i) ∙ sym (append_assoc (state_line params k m) (states_text params (k + 1) found.0) (concat found.1));
           each_is = (is.1, rest.each_is);
+          within = λ h. omega (arith, rest.within (omega (arith, is.2)));
         }

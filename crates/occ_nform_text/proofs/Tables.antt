@@ -5,6 +5,7 @@ use Rattle.std.specs.List.{AllByRecursion}
 use Rattle.std.proofs.lemmas.Bool.{and_from, cond-true, eq-eqb}
 use Rattle.occ_base.specs.declared.names.Name.{Name}
 use Rattle.occ_base.specs.Names.{IsDistinct}
+use Rattle.occ_syntax.specs.Counts.{bits_of_scope}
 use Rattle.occ_syntax.specs.declared.scope.Kind.{Kind}
 use Rattle.occ_lex.specs.Rows.{rows}
 use Rattle.occ_nform_table.specs.declared.table.TableRow.{TableRow}
@@ -12,7 +13,7 @@ use Rattle.occ_nform_table.specs.Words.{then_read, behind, between, number_of}
 use Rattle.occ_nform_table.specs.Lines.{is_number, is_row, end_of, accept_of, offer_of, param_of}
 use Rattle.occ_nform_table.specs.Judging.{row_text}
 use Rattle.occ_nform_table.specs.Reading.{Lines, with_row, params_in, row_behind, rows_in, states_in}
-use Rattle.occ_nform_table.specs.Normal.{Parts, judged, finished, behind_params, lines_read, text_read}
+use Rattle.occ_nform_table.specs.Normal.{Parts, judged, finished, behind_params, lines_read, table_fault, text_read}
 use Rattle.occ_nform_table.specs.Tables.{are_params, IsInterface, AreRowsOf, IsNormal}
 use Rattle.occ_nform_table.specs.Texts.{params_text, rows_text, states_text, table_text}
 use Rattle.occ_nform_text.proofs.WrittenWords.{lacks-append, between_parts}
@@ -25,7 +26,7 @@ use Rattle.occ_nform_text.proofs.Places.{state_lines, states_joined, states_are_
 
 -- ---- the lines of rows
 
-abbrev row_line : ℕ → List ℕ
+abbrev pub row_line : ℕ → List ℕ
 row_line n = codes "ROW " ++ decimal n ++ codes "\n"
 
 row_line_reads : (n : ℕ) → n < 10 ^ 64 → is_row n (row_line n) ≡ true
@@ -36,11 +37,11 @@ row_line_reads n h =
 row_line_is_line : (n : ℕ) → n < 10 ^ 64 → IsLine (row_line n)
 row_line_is_line n h = record { body = codes "ROW " ++ decimal n; whole = refl; quiet = lacks-append 10 (codes "ROW ") (decimal n) refl (decimal_lacks 10 refl n h) }
 
-abbrev rows_lines : List (List ℕ) → ℕ → List TableRow → Lines
+abbrev pub rows_lines : List (List ℕ) → ℕ → List TableRow → Lines
 rows_lines names n [] = []
 rows_lines names n (row ∷ rows) = row_line n ∷ (row_lines names row ++ rows_lines names (n + 1) rows)
 
-rows_texts_joined : (names : List (List ℕ)) (n : ℕ) (rows : List TableRow) → rows_text names n rows ≡ joined (rows_lines names n rows)
+pub rows_texts_joined : (names : List (List ℕ)) (n : ℕ) (rows : List TableRow) → rows_text names n rows ≡ joined (rows_lines names n rows)
 unfolding rows_text
 rows_texts_joined names n [] = refl
 rows_texts_joined names n (row ∷ rows) =
@@ -61,7 +62,7 @@ unfolding param_of between behind
 states_no_param params k [] = tt
 states_no_param params k (n ∷ states) = refl
 
-no_param : (names : List (List ℕ)) (params : List (Name × Kind)) (k : ℕ) (states : List ℕ) (n : ℕ) (rows : List TableRow) → Stops param_of (rows_lines names n rows ++ state_lines params k states)
+pub no_param : (names : List (List ℕ)) (params : List (Name × Kind)) (k : ℕ) (states : List ℕ) (n : ℕ) (rows : List TableRow) → Stops param_of (rows_lines names n rows ++ state_lines params k states)
 unfolding param_of between behind
 no_param names params k states n [] = states_no_param params k states
 no_param names params k states n (row ∷ rows) = refl
@@ -99,7 +100,7 @@ module _ (names : List (List ℕ)) (params : List (Name × Kind)) (distinct : Is
       ∙ ap (λ r. with_row r next) (ap (row_behind names params n) parted ∙ row_reads names params distinct interface are n low_too row rest h.0 (rows_end n low_too (n + 1) rows k states))
       ∙ ap (λ (t : List TableRow × Lines). (row ∷ t.0, t.1)) (rows_read most (n + 1) rows k states (omega (arith, enough)) (omega (arith, few)) h.1)
 
-  rows_are_lines : (n : ℕ) (rows : List TableRow) → n + length rows ≤ 10 ^ 64 → AreRowsOf params n rows → AllByRecursion IsLine (rows_lines names n rows)
+  pub rows_are_lines : (n : ℕ) (rows : List TableRow) → n + length rows ≤ 10 ^ 64 → AreRowsOf params n rows → AllByRecursion IsLine (rows_lines names n rows)
   rows_are_lines n [] few h = tt
   rows_are_lines n (row ∷ rows) few h =
       let low : n < 10 ^ 64 = omega (arith, few) in
@@ -108,20 +109,31 @@ module _ (names : List (List ℕ)) (params : List (Name × Kind)) (distinct : Is
 
 -- ---- the whole text
 
-abbrev version : List ℕ
+abbrev pub version : List ℕ
 version = codes "occam-normal 1\n"
 
-module _ (t : Parts) (distinct : IsDistinct t.names) (normal : IsNormal t) (few : length t.rows ≤ 10 ^ 64) where
-  param_part : Lines
+-- a table whose parts have their forms
+pub record IsFormed (t : Parts) : Type 0 where
+  pub interface : IsInterface t.names t.params
+  pub params : are_params t.names [] t.params ≡ true
+  pub rows : AreRowsOf t.params 0 t.rows
+  pub count : length t.states ≡ 2 ^ bits_of_scope t.params
+  pub states : AllByRecursion (λ n. n < length t.rows) t.states
+
+formed : (t : Parts) → IsNormal t → IsFormed t
+formed t normal = record { interface = normal.interface; params = normal.params; rows = normal.rows; count = normal.count; states = normal.states }
+
+module _ (t : Parts) (distinct : IsDistinct t.names) (normal : IsFormed t) (few : length t.rows ≤ 10 ^ 64) where
+  unfoldable pub param_part : Lines
   param_part = map (param_line t.names) t.params
 
-  behind_part : Lines
+  unfoldable pub behind_part : Lines
   behind_part = rows_lines t.names 0 t.rows ++ state_lines t.params 0 t.states
 
   bounded : 0 + length t.rows ≤ 10 ^ 64
   bounded = omega (arith, few)
 
-  whole_text : table_text t.names t.params t.rows t.states ≡ joined (version ∷ (param_part ++ behind_part))
+  pub whole_text : table_text t.names t.params t.rows t.states ≡ joined (version ∷ (param_part ++ behind_part))
   unfolding table_text param_part behind_part
   whole_text =
       append_assoc (version ++ params_text t.names t.params) (rows_text t.names 0 t.rows) (states_text t.params 0 t.states)
@@ -130,7 +142,7 @@ module _ (t : Parts) (distinct : IsDistinct t.names) (normal : IsNormal t) (few 
       ∙ ap (λ s. version ++ (joined param_part ++ s)) (sym (joined-append (rows_lines t.names 0 t.rows) (state_lines t.params 0 t.states)))
       ∙ ap (λ s. version ++ s) (sym (joined-append param_part behind_part))
 
-  all_lines : AllByRecursion IsLine (version ∷ (param_part ++ behind_part))
+  pub all_lines : AllByRecursion IsLine (version ∷ (param_part ++ behind_part))
   unfolding param_part behind_part
   all_lines = (
     record { body = codes "occam-normal 1"; whole = refl; quiet = refl },
@@ -150,19 +162,18 @@ module _ (t : Parts) (distinct : IsDistinct t.names) (normal : IsNormal t) (few 
   states_part : states_in t.params (length t.rows) 0 (state_lines t.params 0 t.states) ≡ (t.states, [])
   states_part = let count = normal.count in states_read t.params normal.interface.wide (length t.rows) few 0 t.states (omega (arith, count)) normal.states
 
-  behind_read : (all : ℕ) → behind_params all (other_header t.names t.params behind_part) ≡ Ok t
+  pub behind_read : (all : ℕ) → behind_params all (other_header t.names t.params behind_part) ≡ judged t (table_fault t)
   behind_read all =
       let h = other_header t.names t.params behind_part in
       ap (λ (r : List TableRow × Lines). finished all h r (states_in t.params (length r.0) 0 r.1)) rows_part
       ∙ ap (λ (s : List ℕ × Lines). finished all h (t.rows, state_lines t.params 0 t.states) s) states_part
       ∙ cond-true _ _ _ (and_from _ true (eq-eqb _ _ normal.count) refl)
-      ∙ ap (judged t) normal.fine
 
-  pub table_reads : text_read t.names (table_text t.names t.params t.rows t.states) ≡ Ok t
+  pub table_reads : text_read t.names (table_text t.names t.params t.rows t.states) ≡ judged t (table_fault t)
   unfolding lines_read
   table_reads =
       ap (λ s. lines_read t.names (rows s)) whole_text ∙ ap (lines_read t.names) (rows_joined (version ∷ (param_part ++ behind_part)) all_lines)
       ∙ ap (behind_params (1 + length (param_part ++ behind_part))) header_read ∙ behind_read (1 + length (param_part ++ behind_part))
 
 pub reads_back : (t : Parts) → IsDistinct t.names → IsNormal t → length t.rows ≤ 10 ^ 64 → text_read t.names (table_text t.names t.params t.rows t.states) ≡ Ok t
-reads_back t distinct normal few = table_reads t distinct normal few
+reads_back t distinct normal few = table_reads t distinct (formed t normal) few ∙ ap (judged t) normal.fine

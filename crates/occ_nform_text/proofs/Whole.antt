@@ -21,15 +21,15 @@ use Rattle.occ_nform_text.proofs.Header.{IsHeader, params_inv}
 -- ---- the lines of a text
 
 -- the lines together are the text, and there are no more than bytes
-record AreLines (text : List ℕ) (lines : Lines) : Type 0 where
-  joined : concat lines ≡ text
-  few : length lines ≤ length text
+pub record AreLines (text : List ℕ) (lines : Lines) : Type 0 where
+  pub joined : concat lines ≡ text
+  pub few : length lines ≤ length text
 
 lines_in_front : (b : ℕ) (text : List ℕ) (lines : Lines) → AreLines text lines → AreLines (b ∷ text) (in_front b lines)
 lines_in_front b text [] all = record { joined = ap (λ t. b ∷ t) all.joined; few = omega arith }
 lines_in_front b text (line ∷ lines) all = record { joined = ap (λ t. b ∷ t) all.joined; few = omega (arith, all.few) }
 
-are_lines : (text : List ℕ) → AreLines text (rows text)
+pub are_lines : (text : List ℕ) → AreLines text (rows text)
 unfolding rows
 are_lines [] = record { joined = refl; few = omega arith }
 are_lines (b ∷ text) = ⊎_elim
@@ -100,11 +100,11 @@ behind_params_inv all h text t interface are front small e =
     let is = finished_inv all h rows states t e in
     subst (λ u. IsTableRead u text) is.2 (table_inv h rows states text interface are middle.form front middle.written last is.0 is.1)
 
-no_params : (names : List (List ℕ)) → are_params names [] [] ≡ true
+pub no_params : (names : List (List ℕ)) → are_params names [] [] ≡ true
 unfolding are_params
 no_params names = refl
 
-no_text : (names : List (List ℕ)) → params_text names [] ≡ []
+pub no_text : (names : List (List ℕ)) → params_text names [] ≡ []
 unfolding params_text
 no_text names = refl
 

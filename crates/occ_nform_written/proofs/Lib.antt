@@ -1,0 +1,12 @@
+pub mod Lists
+pub mod Stops
+pub mod Bare
+pub mod Written
+pub mod Read
+pub mod Claiming
+pub mod Headers
+pub mod Params
+pub mod Local
+pub mod Fronts
+pub mod Tabling
+pub mod Standing

@@ -1,0 +1,3 @@
+pub mod Stops
+pub mod Behaviours
+pub mod Tables
