@@ -1,5 +1,5 @@
 -- The maps of the parts of a PAR, one by one.
-use Rattle.std.proofs.Common.{◌≡◌, ℕ, ◌+◌, ◌<◌, ◌≤◌, true, List, [], ◌∷◌, ◌++◌, length, get_or, ⊎_elim, sym, subst, arith}
+use Rattle.std.proofs.Common.{◌≡◌, ℕ, ◌+◌, ◌<◌, ◌≤◌, true, List, [], ◌∷◌, ◌++◌, length, get_or, ⊎_elim, sym, ap, ◌∙◌, subst, arith}
 use Rattle.std.proofs.lemmas.Bool.{cases_lt}
 use Rattle.std.proofs.lemmas.List.{get_or_append_left, get_or_push, length-append}
 use Rattle.occ_base.specs.declared.names.Name.{Name}
@@ -18,11 +18,13 @@ use Rattle.occ_syntax.specs.declared.proc.Proc.{Proc, Skip}
 use Rattle.occ_syntax.specs.declared.scope.Kind.{Kind}
 use Rattle.occ_norm_ending.specs.Alone.{IsPart, except}
 use Rattle.occ_norm_frame.specs.Placed.{IsAround}
+use Rattle.occ_norm_frame.specs.declared.frame.Frame.{Frame}
 use Rattle.occ_norm_ending.proofs.Alone.{alone_later}
 use Rattle.occ_norm_par.specs.Sides.{AllWritten, AreUsers, bits_in, closed_in}
 use Rattle.occ_norm_par.specs.Joined.{AreOfParts, HaveNodes, IsJoined, no_map}
 use Rattle.occ_norm_par.proofs.Using.{users_spread}
 use Rattle.occ_norm_par.proofs.Writing.{write_all}
+use Rattle.occ_norm_par.specs.declared.parallel.Sides.{Sides}
 use Rattle.occ_norm_par.specs.declared.users.Users.{Users}
 
 -- the map of the part in a place
@@ -69,10 +71,15 @@ all_made w vars layout all users writes n ps maps given same whole made Γ aroun
     (subst (λ (k : ℕ). PartAt w layout all users writes Γ k (get_or ps i Skip) (get_or maps i no_map)) low (made Γ around types i (omega (arith, l, whole))))
 
 -- and so they are joined
-pub parts_after : (w x : World) (vars : List (Name × Kind)) (layout : List (Name × Width × ℕ)) (all : ℕ) (users : List Users) (writes : List ℕ) (n : ℕ) (ps : List Proc) (maps given : List MapId) (closed : List Name) (r : MapId) → given ≡ maps → n ≡ length ps
-    → AreSeparate (trees ps) → AreUsers (trees ps) closed users → AllWritten layout ps writes → AreMade w vars layout all users writes n ps maps → IsJoined vars layout all users writes 0 ps given w x r
-    → (Γ : Environment) → IsAround Γ vars → all_types_kept (trees ps) Γ ≡ true → IsPart x layout all (except all (bits_in writes 0 (length ps))) (closed_in 0 (length ps) users) Γ (par (trees ps)) r
-parts_after w x vars layout all users writes n ps maps given closed r same whole separate are written made joins Γ around types =
+pub parts_after : (w x : World) (frame : Frame) (sides : Sides) (n : ℕ) (ps : List Proc) (maps given : List MapId) (closed : List Name) (r : MapId) → given ≡ maps → length maps ≡ n → n ≡ length ps
+    → AreSeparate (trees ps) → AreUsers (trees ps) closed sides.users.items → AllWritten frame.layout ps sides.writes.items
+    → AreMade w frame.vars frame.layout sides.all sides.users.items sides.writes.items n ps maps → IsJoined sides 0 given w x r
+    → (Γ : Environment) → IsAround Γ frame.vars → all_types_kept (trees ps) Γ ≡ true
+    → IsPart x frame.layout sides.all (except sides.all (bits_in sides.writes.items 0 (length ps))) (closed_in 0 (length ps) sides.users.items) Γ (par (trees ps)) r
+parts_after w x frame sides n ps maps given closed r same count whole separate are written made joins Γ around types =
+    let users = sides.users.items in
+    let writes = sides.writes.items in
     let high : 0 + length ps ≡ length ps = omega arith in
-    subst (λ (k : ℕ). IsPart x layout all (except all (bits_in writes 0 (length ps))) (closed_in 0 k users) Γ (par (trees ps)) r) high
-    (joins.joined Γ around types separate (users_spread (trees ps) users are.each) (write_all layout writes ps written) (all_made w vars layout all users writes n ps maps given same whole made Γ around types))
+    subst (λ (k : ℕ). IsPart x frame.layout sides.all (except sides.all (bits_in writes 0 (length ps))) (closed_in 0 k users) Γ (par (trees ps)) r) high
+    (joins.joined frame Γ ps (ap length same ∙ count ∙ whole) around types separate (users_spread (trees ps) users are.each) (write_all frame.layout writes ps written)
+    (all_made w frame.vars frame.layout sides.all users writes n ps maps given same whole made Γ around types))

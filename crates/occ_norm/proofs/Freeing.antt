@@ -1,20 +1,17 @@
 -- The bits that matter to a map once some have any values.
-use Rattle.std.proofs.Common.{◌≡◌, ◌<◌, ◌≤◌, ◌+◌, ◌^◌, ◌%◌, inl, inr, ℕ, Bool, true, Some, sym, ap, ◌∙◌, arith}
+use Rattle.std.proofs.Common.{◌≡◌, ◌<◌, ◌≤◌, ◌+◌, ◌^◌, ◌%◌, inl, inr, ℕ, Bool, sym, ap, ◌∙◌, arith}
 use Rattle.std.proofs.lemmas.Nat.{pow_pos}
 use Rattle.std.proofs.Math.Nat.{mod-lt}
 use Rattle.std.specs.Int.{bit_at}
-use Rattle.occ_base.specs.declared.event.Event.{Event}
 use Rattle.occ_bits.proofs.Arithmetic.{low_bit, higher_bit}
-use Rattle.occ_mdd.specs.Maps.{value}
 use Rattle.occ_mdd.specs.declared.map.MapId.{MapId}
 use Rattle.occ_node.specs.World.{fails, ends}
 use Rattle.occ_node.specs.declared.node.NodeId.{NodeId}
 use Rattle.occ_node.specs.declared.world.World.{World}
-use Rattle.occ_node.proofs.Recovery.{canonical}
 use Rattle.occ_follow.specs.Sequence.{HasNodes}
 use Rattle.occ_norm_frame.specs.After.{AgreeBelow, IsOver}
 use Rattle.occ_norm_frame.specs.Changes.{AgreeOutside, IsFreed, Somewhere}
-use Rattle.occ_norm_frame.proofs.After.{map_node, same_truth}
+use Rattle.occ_norm_frame.proofs.After.{over_by}
 use Rattle.occ_norm.proofs.Laying.{placed, placed_agrees, placed_lt, placed_value}
 
 module _ (w : World) (first end : ℕ) (map r : MapId) (order : first ≤ end) (few : end ≤ 24) (over : IsOver w end map) (freed : IsFreed w first end map r) (has : HasNodes w r) where
@@ -47,23 +44,8 @@ module _ (w : World) (first end : ℕ) (map r : MapId) (order : first ≤ end) (
         behaved = s.behaved;
       }
 
-  one_node : (x y : ℕ) (a b : NodeId) → AgreeBelow first x y → x < 2 ^ 64 → y < 2 ^ 64 → value w.maps r x ≡ Some a → value w.maps r y ≡ Some b → a ≡ b
-  one_node x y a b agree h l e f =
-      let back : AgreeBelow first y x = λ k m. sym (agree k m) in
-      (canonical w).one a b (map_node w r has x h a e) (map_node w r has y l b f)
-      (λ t X. same_truth (fails w a t X) (fails w b t X)
-      (λ c. (freed.freed_fails y b l f t X).1 (somewhere_else x y agree (λ m. fails w m t X) ((freed.freed_fails x a h e t X).0 c)))
-      (λ c. (freed.freed_fails x a h e t X).1 (somewhere_else y x back (λ m. fails w m t X) ((freed.freed_fails y b l f t X).0 c))))
-      (λ t z below. same_truth (ends w a t z) (ends w b t z)
-      (λ c. (freed.freed_ends y b l f t z below).1 (somewhere_else x y agree (λ m. ends w m t z) ((freed.freed_ends x a h e t z below).0 c)))
-      (λ c. (freed.freed_ends x a h e t z below).1 (somewhere_else y x back (λ m. ends w m t z) ((freed.freed_ends y b l f t z below).0 c))))
-
   -- the bits from the first of these on don't matter
   pub freed_over : IsOver w first r
-  freed_over = record {
-    has = has;
-    same = λ x y h l agree.
-        let a = has.nodes x h in
-        let b = has.nodes y l in
-        a.1 ∙ ap (λ (m : NodeId). Some m) (one_node x y a.0 b.0 agree h l a.1 b.1) ∙ sym b.1;
-  }
+  freed_over = over_by w first r has
+      (λ x y a b agree h l e f t X c. (freed.freed_fails y b l f t X).1 (somewhere_else x y agree (λ m. fails w m t X) ((freed.freed_fails x a h e t X).0 c)))
+      (λ x y a b agree h l e f t z below c. (freed.freed_ends y b l f t z below).1 (somewhere_else x y agree (λ m. ends w m t z) ((freed.freed_ends x a h e t z below).0 c)))

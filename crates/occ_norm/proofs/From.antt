@@ -1,15 +1,13 @@
 -- Maps of a part and of what follows it that are right at some assignments alone.
-use Rattle.std.proofs.Common.{◌≡◌, ◌<◌, ◌^◌, ◌↔◌, ◌⊎◌, inl, inr, ⊎_elim, ℕ, Bool, true, false, List, Some, MatchBool, cond, refl, sym, ap, ◌∙◌, subst, bit_xor}
+use Rattle.std.proofs.Common.{◌≡◌, ◌<◌, ◌^◌, ◌↔◌, inl, inr, ⊎_elim, ℕ, Bool, true, false, List, Some, MatchBool, cond, refl, sym, ap, ◌∙◌, subst, bit_xor}
 use Rattle.occ_base.specs.declared.event.Event.{Event}
 use Rattle.occ_base.specs.declared.names.Name.{Name}
 use Rattle.occ_base.specs.declared.width.Width.{Width}
-use Rattle.occ_syntax.specs.declared.scope.Kind.{Kind}
 use Rattle.occ_bits.specs.Layout.{state_of}
 use Rattle.occ_syntax.specs.Meaning.{Outcome, meaning, refusing}
 use Rattle.occ_syntax.specs.Scopes.{Environment}
 use Rattle.occ_syntax.specs.Eval.{is_true}
 use Rattle.occ_syntax.specs.Tree.{Exp, Tree, Cases, and_case, select}
-use Rattle.occ_syntax.specs.Types.{types_kept}
 use Rattle.occ_mdd.specs.Maps.{value}
 use Rattle.occ_mdd.specs.declared.map.MapId.{MapId}
 use Rattle.occ_node.specs.World.{IsNode, fails, ends}
@@ -18,7 +16,6 @@ use Rattle.occ_node.specs.declared.world.World.{World}
 use Rattle.occ_follow.specs.Sequence.{HasNodes}
 use Rattle.occ_norm_maps.specs.Maps.{Extends}
 use Rattle.occ_norm_frame.specs.After.{IsAfter, QuietlyFails, Resumes, change_of}
-use Rattle.occ_norm_frame.specs.Placed.{IsAround}
 use Rattle.occ_norm_frame.proofs.After.{map_node, value_is, value_was}
 use Rattle.occ_weave.specs.Weave.{off_channels}
 use Rattle.occ_norm.specs.From.{IsAfterFrom}

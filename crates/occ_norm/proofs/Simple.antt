@@ -1,5 +1,5 @@
 -- SKIP and STOP, as maps in front of what follows.
-use Rattle.std.proofs.Common.{◌≡◌, ◌<◌, ◌≤◌, ◌^◌, ◌↔◌, ◌++◌, ◌+◌, ◌%◌, ⊎_elim, inl, inr, ℕ, min, Bool, true, false, List, [], ◌∷◌, Some, MatchBool, cond, refl, sym, ap, ◌∙◌, subst, bit_xor, arith}
+use Rattle.std.proofs.Common.{◌≡◌, ◌<◌, ◌≤◌, ◌^◌, ◌↔◌, ◌++◌, ◌+◌, ◌%◌, ⊎_elim, inl, inr, ℕ, min, Bool, true, false, List, [], ◌∷◌, Some, refl, sym, ap, ◌∙◌, bit_xor, arith}
 use Rattle.std.proofs.lemmas.Bool.{cases_lt}
 use Rattle.std.proofs.lemmas.Nat.Bits.{bit_at-zero, bit_at_above, same_from_bits}
 use Rattle.std.proofs.lemmas.Option.{same_Some}
@@ -9,10 +9,9 @@ use Rattle.occ_base.specs.declared.event.Event.{Event}
 use Rattle.occ_base.specs.declared.names.Name.{Name}
 use Rattle.occ_base.specs.declared.width.Width.{Width}
 use Rattle.occ_bits.specs.Layout.{state_of}
-use Rattle.occ_syntax.specs.Eval.{is_true}
 use Rattle.occ_syntax.specs.Meaning.{Outcome, Stopped, stopped, ended, refusing, meaning, ends as part_ends}
 use Rattle.occ_syntax.specs.Scopes.{Environment, Values}
-use Rattle.occ_syntax.specs.Tree.{Exp, Tree, Cases, and_case, select}
+use Rattle.occ_syntax.specs.Tree.{Tree}
 use Rattle.occ_mdd.specs.Maps.{value}
 use Rattle.occ_mdd.specs.declared.map.MapId.{MapId}
 use Rattle.occ_node.specs.World.{fails, ends}

@@ -14,9 +14,11 @@ use Rattle.occ_mdd.specs.declared.map.MapId.{MapId}
 use Rattle.occ_node.specs.World.{fails, ends}
 use Rattle.occ_node.specs.declared.node.NodeId.{NodeId}
 use Rattle.occ_node.specs.declared.world.World.{World}
-use Rattle.occ_norm_frame.specs.After.{QuietlyFails, Resumes, change_of}
+use Rattle.occ_norm_frame.specs.After.{IsOver, QuietlyFails, Resumes, change_of}
 use Rattle.occ_norm_frame.specs.Placed.{IsAround}
 use Rattle.occ_norm_frame.specs.declared.frame.Frame.{Frame}
+use Rattle.occ_norm_reached.specs.States.{AreStates}
+use Rattle.occ_norm.specs.declared.after.Span.{Span}
 
 -- At the assignments that pass the test the map r is that of the part and then what the map `rest` has. Elsewhere nothing is said
 -- of it.
@@ -35,3 +37,8 @@ IsAfterFromIn w vars layout keep closed from p rest r =
 -- the same in the states of a set, in a frame
 abbrev pub IsFront : World → Frame → SetId → Tree → MapId → MapId → Type 0
 IsFront w frame from p rest r = IsAfterFromIn w frame.vars frame.layout frame.keep frame.closed.items (has w.store from) p rest r
+
+-- the states in which a part begins are a set over the frame's bits, and the map of what follows is one over them
+pub record IsSpan (w : World) (frame : Frame) (span : Span) : Type 0 where
+  pub states : AreStates w.store frame.bits span.from
+  pub rest_over : IsOver w frame.bits span.rest

@@ -7,20 +7,19 @@ ghost use Rattle.occ_follow.specs.Sequence.{HasNodes};
 ghost use Rattle.occ_norm_maps.specs.Maps.{Extends};
 ghost use Rattle.occ_norm_frame.specs.After.{IsOver};
 ghost use Rattle.occ_norm_frame.specs.Placed.{Fits, FitAll, FitBranches, FitCases};
-ghost use Rattle.occ_norm_reached.specs.States.{AreStates};
-ghost use Rattle.occ_norm.specs.From.{IsFront};
+ghost use Rattle.occ_norm.specs.From.{IsFront, IsSpan};
 ghost use Rattle.occ_norm.specs.Parts.{IsAfterIn};
 
 use occ_base::Memory;
 use occ_dd::SetId;
 use occ_mdd::MapId;
 use occ_node::World;
-use occ_norm_alt::{Alternation, input, output};
-use occ_norm_assign::assigned;
+use occ_norm_alt::{Alternation, Alternative, Get, Put, input, output};
+use occ_norm_assign::{Assignment, assigned};
 use occ_norm_ending::ending;
 use occ_norm_frame::{Frame, freed, holds};
 use occ_norm_maps::{choose, stop};
-use occ_norm_par::{Sides, joined, sequel, side_frame};
+use occ_norm_par::{Sides, side_frame};
 use occ_norm_reached::{all_states, both, limited, states_between, states_left};
 use occ_norm_transfer::straight;
 use occ_syntax::{Expr, Guard, Proc};
@@ -65,8 +64,7 @@ fn front(
 ) -> Result<MapId, Memory>
     requires part { Fits frame.now.vars (tree part.now) }
     requires usage { KeepsUsage (tree part.now) }
-    requires from { AreStates world.old.store frame.now.bits span.from }
-    requires rest { IsOver world.old frame.now.bits span.rest }
+    requires span { IsSpan world.old frame.now span }
     ensures extends { Extends world.old world.new }
     ensures over { IfOk result (IsOver world.new frame.now.bits) }
     ensures front { IfOk result (IsFront world.new frame.now span.from (tree part.now) span.rest) }
@@ -93,8 +91,7 @@ fn undeclared(
     requires declared { is_declaration (tree part.now) ≡ false }
     requires part { Fits frame.now.vars (tree part.now) }
     requires usage { KeepsUsage (tree part.now) }
-    requires from { AreStates world.old.store frame.now.bits span.from }
-    requires rest { IsOver world.old frame.now.bits span.rest }
+    requires span { IsSpan world.old frame.now span }
     ensures extends { Extends world.old world.new }
     ensures over { IfOk result (IsOver world.new frame.now.bits) }
     ensures front { IfOk result (IsFront world.new frame.now span.from (tree part.now) span.rest) }
@@ -104,10 +101,14 @@ fn undeclared(
         Proc::Skip => Ok(rest),
         Proc::Stop => stop(alloc, world),
         Proc::Assign { vars, values } => {
-            assigned(alloc, world, frame, vars.items(), values.items(), rest)
+            let vars = vars.items();
+            let values = values.items();
+            assigned(alloc, world, frame, &Assignment { vars, values }, rest)
         }
-        Proc::Input { chan, var } => input(alloc, world, frame, *chan, *var, rest),
-        Proc::Output { chan, value } => output(alloc, world, frame, *chan, value, rest),
+        &Proc::Input { chan, var } => input(alloc, world, frame, Get { chan, var }, rest),
+        Proc::Output { chan, value } => {
+            output(alloc, world, frame, &Put { chan: *chan, value }, rest)
+        }
         Proc::Seq(parts) => in_turn(alloc, world, frame, parts.items(), span),
         Proc::Par(parts) => at_once(alloc, world, frame, parts.items(), rest),
         Proc::If(choices) => first_choice(alloc, world, frame, choices.items(), span),
@@ -128,8 +129,7 @@ fn in_turn(
 ) -> Result<MapId, Memory>
     requires parts { FitAll frame.now.vars (trees parts.now) }
     requires usage { AllKeepUsage (trees parts.now) }
-    requires from { AreStates world.old.store frame.now.bits span.from }
-    requires rest { IsOver world.old frame.now.bits span.rest }
+    requires span { IsSpan world.old frame.now span }
     ensures extends { Extends world.old world.new }
     ensures over { IfOk result (IsOver world.new frame.now.bits) }
     ensures front { IfOk result (IsFront world.new frame.now span.from (seq (trees parts.now)) span.rest) }
@@ -163,8 +163,7 @@ fn first_choice(
 ) -> Result<MapId, Memory>
     requires choices { FitCases frame.now.vars (cases choices.now) }
     requires usage { CasesKeepUsage (cases choices.now) }
-    requires from { AreStates world.old.store frame.now.bits span.from }
-    requires rest { IsOver world.old frame.now.bits span.rest }
+    requires span { IsSpan world.old frame.now span }
     ensures extends { Extends world.old world.new }
     ensures over { IfOk result (IsOver world.new frame.now.bits) }
     ensures front { IfOk result (IsFront world.new frame.now span.from (select (cases choices.now)) span.rest) }
@@ -209,7 +208,13 @@ fn alternated(
         let next = after(alloc, world, frame, &alternative.1, rest)?;
         let guard = &alternative.0;
         let enabled = holds(alloc, world, frame, &guard.condition)?;
-        let more = alternation.and(alloc, world, frame, enabled, &guard.wait, next)?;
+        let wait = &guard.wait;
+        let added = Alternative {
+            enabled,
+            wait,
+            next,
+        };
+        let more = alternation.and(alloc, world, frame, &added)?;
         alternation = more;
     }
     alternation.map(alloc, world)
@@ -246,6 +251,6 @@ fn at_once(
         let map = after(alloc, world, &inner, &parts[place], ended)?;
         maps.push(map)?;
     }
-    let map = joined(alloc, world, frame, &sides, parts, maps.as_slice())?;
-    sequel(alloc, world, frame, sides.needed, sides.written, map, rest)
+    let map = sides.joined(world, maps.as_slice())?;
+    sides.sequel(world, frame, map, rest)
 }

@@ -1,10 +1,7 @@
-ghost use Rattle.std.specs.Prelude.{◌≡◌, ◌≤◌, true, [], IfOk, IfSome};
+ghost use Rattle.std.specs.Prelude.{◌≡◌, ◌≤◌, [], IfOk, IfSome};
 ghost use Rattle.occ_mdd.specs.Maps.{Keeps};
 ghost use Rattle.occ_node.specs.World.{Grows};
 ghost use Rattle.occ_syntax.specs.Counts.{bits_of_scope, most_bits};
-ghost use Rattle.occ_syntax.specs.Scopes.{environment};
-ghost use Rattle.occ_syntax.specs.Types.{scope_kept, types_kept};
-ghost use Rattle.occ_syntax.specs.Usage.{KeepsUsage};
 ghost use Rattle.occ_syntax.specs.View.{tree};
 ghost use Rattle.occ_usage.specs.Accepted.{KeepsRules};
 ghost use Rattle.occ_norm_flatten.specs.Flat.{IsFlat};
@@ -34,9 +31,7 @@ fn unwritten_frame(alloc: Global, whole: &Frame, body: &Proc) -> Result<Frame, M
 
 // The map of a program whose rules and limits are kept.
 fn states_of(alloc: Global, program: &Program, world: &mut World) -> Result<MapId, Memory>
-    requires scope { scope_kept program.now.params ≡ true }
-    requires types { types_kept (tree program.now.body) (environment program.now.params) ≡ true }
-    requires usage { KeepsUsage (tree program.now.body) }
+    requires rules { KeepsRules program.now }
     requires interface { bits_of_scope program.now.params ≤ 16 }
     requires state { most_bits (tree program.now.body) (bits_of_scope program.now.params) ≤ 24 }
     ensures grows { Grows world.old world.new }

@@ -24,10 +24,10 @@ use Rattle.occ_weave.proofs.Growth.{trans_iff, iff_of_same}
 use Rattle.occ_norm_maps.specs.Growth.{maybe_fails-grow, maybe_ends-grow}
 use Rattle.occ_norm_maps.specs.Lifted.{Finished}
 use Rattle.occ_norm_maps.specs.Maps.{Extends, Lifts, MayHaveNodes}
-use Rattle.occ_norm_maps.proofs.Worlds.{has_nodes-extends}
+use Rattle.occ_norm_maps.proofs.Worlds.{has_nodes-extends, may_have-extends}
 use Rattle.occ_norm_frame.specs.After.{IsAfter, IsOver, QuietlyFails, Resumes, change_of}
 use Rattle.occ_norm_frame.specs.Placed.{IsFrame}
-use Rattle.occ_norm_alt.specs.Alternation.{EndsThen, FailsThen, IsAlternation, IsReadyAt, IsWaitingAt, KnowsRest, Settles}
+use Rattle.occ_norm_alt.specs.Alternation.{AreHeld, EndsThen, FailsThen, IsAlternation, IsReadyAt, IsWaitingAt, KnowsRest, Settles}
 use Rattle.occ_norm_alt.specs.Offering.{At, IsGuarded, IsGuardedAt, Leads}
 use Rattle.occ_norm_alt.proofs.Offering.{sum_iff}
 use Rattle.occ_norm_alt.proofs.Making.{offering_grow, offering_same}
@@ -120,11 +120,14 @@ none_grow v w k layout keep closed Γ rest waiting readies hw hr is = record {
       ready_ends = λ t z small. trans_iff (iff_of_same _ _ (maybe_ends-grow v w k.grows o known t z)) (at.ready_ends t z small);
     }
 
-pub alternation_grow : (v w : World) → Extends v w → (layout : List (Name × Width × ℕ)) (keep : ℕ) (closed : List Name) (Γ : Environment) (bs : Branches) (rest waiting readies : MapId) → HasNodes v waiting → MayHaveNodes v readies
+pub held-extends : (v w : World) → Extends v w → (waiting readies : MapId) → AreHeld v waiting readies → AreHeld w waiting readies
+held-extends v w k waiting readies held = record { waiting = has_nodes-extends v w k waiting held.waiting; ready = may_have-extends v w k readies held.ready }
+
+pub alternation_grow : (v w : World) → Extends v w → (layout : List (Name × Width × ℕ)) (keep : ℕ) (closed : List Name) (Γ : Environment) (bs : Branches) (rest waiting readies : MapId) → AreHeld v waiting readies
     → IsAlternation v layout keep closed Γ bs rest waiting readies → IsAlternation w layout keep closed Γ bs rest waiting readies
-alternation_grow v w k layout keep closed Γ no_branch rest waiting readies hw hr is = none_grow v w k layout keep closed Γ rest waiting readies hw hr is
-alternation_grow v w k layout keep closed Γ (and_branch e wait p bs) rest waiting readies hw hr is =
-    some_grow v w k layout keep closed Γ rest is.rest_known (and_branch e wait p bs) (has_nodes-extends v w k rest is.rest_known) waiting readies hw hr is
+alternation_grow v w k layout keep closed Γ no_branch rest waiting readies held is = none_grow v w k layout keep closed Γ rest waiting readies held.waiting held.ready is
+alternation_grow v w k layout keep closed Γ (and_branch e wait p bs) rest waiting readies held is =
+    some_grow v w k layout keep closed Γ rest is.rest_known (and_branch e wait p bs) (has_nodes-extends v w k rest is.rest_known) waiting readies held.waiting held.ready is
 
 -- ---- the map of an ALT
 finished_at : (w : World) (a o b : Option NodeId) (p r : NodeId) → Finished w a o b → a ≡ Some p → b ≡ Some r → Finished w (Some p) o (Some r)
@@ -139,10 +142,10 @@ alternated w layout keep closed Γ bs rest waiting readies r hw is finished = re
       alternated_ends w layout keep closed Γ bs rest x (is.settled x h) a.0 (value w.maps readies x) b (is.waits x a.0 h a.1) (is.readies x h) (finished_at w _ _ _ a.0 b (finished.related x h) a.1 e) t z small;
 }
 
-pub alternated_later : (v w : World) → Extends v w → (layout : List (Name × Width × ℕ)) (keep : ℕ) (closed : List Name) (Γ : Environment) (bs : Branches) (rest waiting readies r : MapId) → HasNodes v waiting → HasNodes w waiting → MayHaveNodes v readies
+pub alternated_later : (v w : World) → Extends v w → (layout : List (Name × Width × ℕ)) (keep : ℕ) (closed : List Name) (Γ : Environment) (bs : Branches) (rest waiting readies r : MapId) → AreHeld v waiting readies
     → Lifts w waiting readies r (Finished w) → IsAlternation v layout keep closed Γ bs rest waiting readies → IsAfter w layout keep closed Γ (alt bs) rest r
-alternated_later v w k layout keep closed Γ bs rest waiting readies r hv hw hr finished is =
-    alternated w layout keep closed Γ bs rest waiting readies r hw (alternation_grow v w k layout keep closed Γ bs rest waiting readies hv hr is) finished
+alternated_later v w k layout keep closed Γ bs rest waiting readies r held finished is =
+    alternated w layout keep closed Γ bs rest waiting readies r (has_nodes-extends v w k waiting held.waiting) (alternation_grow v w k layout keep closed Γ bs rest waiting readies held is) finished
 
 -- ---- a guard alone
 module _ (w : World) (vars : List (Name × Kind)) (layout : List (Name × Width × ℕ)) (n : ℕ) (frame : IsFrame vars layout n) (keep : ℕ) (few : keep < 2 ^ n) (closed : List Name) (next : MapId) (over : IsOver w n next) (Γ : Environment) where

@@ -1,10 +1,10 @@
 -- The inputs of all numbers from one state as one row.
-use Rattle.std.proofs.Common.{◌≡◌, ◌<◌, ◌≤◌, ◌+◌, ◌^◌, ℕ, zero, suc, Bool, true, false, not, ◌||◌, ◌&&◌, List, [], ◌∷◌, ◌++◌, length, Some, None, refl, sym, ap, ◌∙◌, inl, inr, ⊎_elim, arith, get_or, slice_get, length-append}
+use Rattle.std.proofs.Common.{◌≡◌, ◌<◌, ◌≤◌, ◌+◌, ◌^◌, ℕ, zero, suc, Bool, true, false, not, ◌||◌, ◌&&◌, List, [], ◌∷◌, length, Some, refl, sym, ap, ◌∙◌, inl, inr, ⊎_elim, arith, get_or, slice_get}
 use Rattle.std.specs.Prelude.{◌↔◌, bit_xor}
 use Rattle.std.specs.Int.Bits.{xor_zero_r}
 use Rattle.std.specs.List.{All, list_all, list_any}
 use Rattle.std.specs.Ordering.{eq_by_cmp}
-use Rattle.std.proofs.lemmas.Bool.{and_from, and_parts, both_ways, cases_Bool, cases_lt, false≢true, or_cases, or_left, or_right}
+use Rattle.std.proofs.lemmas.Bool.{and_from, and_parts, both_ways, cases_Bool, false≢true, or_cases, or_left, or_right}
 use Rattle.std.proofs.lemmas.Nat.Bits.{bit_at_and, bit_at-zero, same_from_bits}
 use Rattle.std.proofs.lemmas.Option.{same_Some, slice_get-get_or}
 use Rattle.occ_base.specs.declared.event.Event.{Event}
@@ -30,9 +30,6 @@ use Rattle.occ_norm_alt.proofs.Offering.{is_false, is_not, no_behaviour, offered
 use Rattle.occ_norm_alt.proofs.Placed.{placed_small}
 
 -- ---- lists of nodes
-pub never_none : (w : World) (map : MapId) → HasNodes w map → (x : ℕ) → x < 2 ^ 64 → value w.maps map x ≡ None → ⊥
-never_none w map has x h e = let found = has.nodes x h in let f : Some found.0 ≡ None = sym found.1 ∙ e in cc
-
 within_list : {A : Type 0} (xs : List A) (a : A) (i : ℕ) → slice_get xs i ≡ Some a → i < length xs
 within_list [] a i e = absurd (cc)
 within_list (x ∷ xs) a zero e = omega arith

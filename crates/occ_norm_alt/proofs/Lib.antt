@@ -10,7 +10,5 @@ pub mod Alternatives
 pub mod Steps
 pub mod Adding
 pub mod Done
-pub mod Rooms
-pub mod Values
 pub mod AtOnce
 pub mod ByStates

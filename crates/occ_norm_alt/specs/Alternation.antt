@@ -18,8 +18,14 @@ use Rattle.occ_node.specs.declared.node.NodeId.{NodeId}
 use Rattle.occ_node.specs.declared.world.World.{World}
 use Rattle.occ_follow.specs.Sequence.{HasNodes}
 use Rattle.occ_norm_maps.specs.Lifted.{IsEither, IsMerged}
+use Rattle.occ_norm_maps.specs.Maps.{MayHaveNodes}
 use Rattle.occ_norm_frame.specs.After.{QuietlyFails, Resumes, change_of}
 use Rattle.occ_norm_alt.specs.Offering.{IsOffering, Leads, Takes}
+
+-- the world has the two maps of an ALT: one with a node everywhere, and one that may have none
+pub record AreHeld (w : World) (a b : MapId) : Type 0 where
+  pub waiting : HasNodes w a
+  pub ready : MayHaveNodes w b
 
 -- the set has the assignments of the states in which the condition is true
 abbrev pub IsEnabledBy : World → List (Name × Width × ℕ) → Environment → Exp → SetId → Type 0

@@ -17,16 +17,18 @@ ghost use Rattle.occ_syntax.specs.Types.{is_condition, types_kept, waiting_kept}
 ghost use Rattle.occ_syntax.specs.View.{exp, waiting};
 ghost use Rattle.occ_norm_frame.specs.After.{IsAfter, IsOver};
 ghost use Rattle.occ_norm_frame.specs.Placed.{CanWait, IsAround};
-ghost use Rattle.occ_norm_alt.specs.Alternation.{IsAlternation, IsEnabledBy, IsOffered, IsUnited};
+ghost use Rattle.occ_norm_alt.specs.Alternation.{AreHeld, IsAlternation, IsEnabledBy, IsOffered, IsUnited};
 ghost use Rattle.occ_norm_alt.specs.Inputs.{AreInputs, AreOutputs};
 ghost use Rattle.occ_norm_alt.specs.Offering.{IsGuarded};
 
-use crate::listed::{Listed, rows};
+use crate::rows::Rows;
+use crate::values::{Block, Inputs};
 use occ_base::{Dir, Event, Memory, Name};
+use occ_bits::WordBits;
 use occ_dd::SetId;
 use occ_mdd::MapId;
 use occ_node::World;
-use occ_norm_frame::{Frame, bits_from, digits, rebased, within, without};
+use occ_norm_frame::{Frame, bits_from, digits, node_count, rebased, within, without};
 use occ_norm_maps::{
     choose, cofactor, constant, finished, merged, prefixed, shifted, stop, united,
 };
@@ -40,19 +42,33 @@ pub struct Alternation {
     pub ready: MapId,
 }
 
-// The inputs of a variable, whose bits begin at `first`, from a channel.
+/// One more guard of an ALT: the states in which it is enabled, what it waits for, and the map of its process and of what follows the ALT.
 #[derive(Clone, Copy)]
-struct Inputs {
-    chan: Name,
-    first: u32,
-    bits: u32,
-    keep: u64,
+pub struct Alternative<'a> {
+    pub enabled: SetId,
+    pub wait: &'a Wait,
+    pub next: MapId,
 }
 
-// The outputs of a value to a channel, and what comes after them, which may have several nodes.
+/// An input: the channel, and the variable that takes the value.
 #[derive(Clone, Copy)]
+pub struct Get {
+    pub chan: Name,
+    pub var: Name,
+}
+
+/// An output: the channel, and the value that is put out.
+#[derive(Clone, Copy)]
+pub struct Put<'a> {
+    pub chan: Name,
+    pub value: &'a Expr,
+}
+
+// The outputs of a value to a channel by its digits, and what comes after them, which may have several nodes.
+#[derive(Drop)]
 struct Outputs {
     chan: Name,
+    digits: WordBits,
     next: MapId,
     several: bool,
 }
@@ -65,8 +81,7 @@ fn input_of(
     value: u8,
     next: MapId,
 ) -> Result<MapId, Memory>
-    requires first { inputs.first < 64 }
-    requires next { HasNodes world.old next }
+    requires { HasNodes world.old next }
     ensures extends { Extends world.old world.new }
     ensures nodes { IfOk result (HasNodes world.new) }
     ensures inputs { IfOk result (AreInputs world.new inputs.chan inputs.first 0 inputs.keep value next) }
@@ -81,44 +96,31 @@ fn input_of(
     prefixed(alloc, world, there, event)
 }
 
-// The map of the inputs of the values that have some digits above those that are left, and then what the map has.
+// The map of the inputs of the values of a block, and then what the map has.
 fn input_from(
     alloc: Global,
     world: &mut World,
     inputs: Inputs,
-    left: u32,
-    value: u8,
+    block: Block,
     next: MapId,
 ) -> Result<MapId, Memory>
-    requires left { left ≤ 8 }
-    requires first { inputs.first + left ≤ 64 }
-    requires below { inputs.first < 64 }
-    requires room { value + 2 ^ left ≤ 256 }
+    requires left { block.left ≤ inputs.bits }
     requires next { HasNodes world.old next }
     ensures extends { Extends world.old world.new }
     ensures nodes { IfOk result (HasNodes world.new) }
-    ensures inputs { IfOk result (AreInputs world.new inputs.chan inputs.first left inputs.keep value next) }
+    ensures inputs { IfOk result (AreInputs world.new inputs.chan inputs.first block.left inputs.keep block.base next) }
 {
-    if left == 0 {
-        return input_of(alloc, world, inputs, value, next);
+    if block.left == 0 {
+        return input_of(alloc, world, inputs, block.base, next);
     }
-    let digit = left - 1;
-    let bit = inputs.first + digit;
+    let lower = block.low();
+    let upper = block.high();
+    let bit = inputs.first + lower.left;
     let zero = cofactor(world, next, bit, false)?;
     let one = cofactor(world, next, bit, true)?;
-    let low = input_from(alloc, world, inputs, digit, value, zero)?;
-    let high = input_from(alloc, world, inputs, digit, value + (1 << digit), one)?;
+    let low = input_from(alloc, world, inputs, lower, zero)?;
+    let high = input_from(alloc, world, inputs, upper, one)?;
     merged(alloc, world, low, high)
-}
-
-// How many nodes a map has.
-fn node_count(world: &mut World, map: MapId) -> Result<usize, Memory>
-    requires { IsKnown world.old.maps map }
-    ensures { Extends world.old world.new }
-{
-    let full = world.store.full();
-    let nodes = world.maps.leaves_under(&mut world.store, map, full)?;
-    Ok(nodes.len())
 }
 
 // Whether a map differs at two states by a bit: where no other bit is 1, or where all are.
@@ -140,8 +142,7 @@ fn bits_shown(world: &World, frame: &Frame, inputs: Inputs, map: MapId) -> u32
 {
     let mut count: u32 = 0;
     for bit in 0..frame.bits {
-        let inside = inputs.first <= bit && bit - inputs.first < inputs.bits;
-        if !inside && shows_bit(world, map, bit) {
+        if !inputs.has(bit) && shows_bit(world, map, bit) {
             count += 1;
         }
     }
@@ -180,25 +181,17 @@ fn all_inputs(
     inputs: Inputs,
     next: MapId,
 ) -> Result<MapId, Memory>
-    requires bits { inputs.bits ≤ 8 }
-    requires fits { inputs.first + inputs.bits ≤ 64 }
-    requires below { inputs.first < 64 }
-    requires next { IsOver world.old frame.now.bits next }
+    requires { IsOver world.old frame.now.bits next }
     ensures extends { Extends world.old world.new }
     ensures nodes { IfOk result (HasNodes world.new) }
     ensures inputs { IfOk result (AreInputs world.new inputs.chan inputs.first inputs.bits inputs.keep 0 next) }
 {
     let by_states = is_by_states(world, frame, inputs, next)?;
-    if !by_states {
-        return input_from(alloc, world, inputs, inputs.bits, 0, next);
+    if by_states {
+        let rows = Rows { inputs, next };
+        return rows.map(alloc, world, frame.bits, 0);
     }
-    let listed = Listed {
-        chan: inputs.chan,
-        first: inputs.first,
-        bits: inputs.bits,
-        next,
-    };
-    rows(alloc, world, listed, frame.bits, 0)
+    input_from(alloc, world, inputs, Block::of(inputs.bits), next)
 }
 
 /// The map of an input and then what another map has.
@@ -206,27 +199,26 @@ pub fn input(
     alloc: Global,
     world: &mut World,
     frame: &Frame,
-    chan: Name,
-    var: Name,
+    get: Get,
     next: MapId,
 ) -> Result<MapId, Memory>
-    requires var { IsSome (variable_width (environment_in frame.now.layout) var.0) }
+    requires var { IsSome (variable_width (environment_in frame.now.layout) get.var.0) }
     requires next { IsOver world.old frame.now.bits next }
     ensures extends { Extends world.old world.new }
     ensures nodes { IfOk result (HasNodes world.new) }
-    ensures guarded { IfOk result (λ r. (Γ : Environment) → IsAround Γ frame.now.vars → types_kept (receive chan.0 var.0) Γ ≡ true
-        → IsGuarded world.new frame.now.layout frame.now.keep frame.now.closed.items Γ (input chan.0 var.0) next r) }
-    ensures after { IfOk result (λ r. (Γ : Environment) → IsAround Γ frame.now.vars → types_kept (receive chan.0 var.0) Γ ≡ true
-        → IsAfter world.new frame.now.layout frame.now.keep frame.now.closed.items Γ (receive chan.0 var.0) next r) }
+    ensures guarded { IfOk result (λ r. (Γ : Environment) → IsAround Γ frame.now.vars → types_kept (receive get.chan.0 get.var.0) Γ ≡ true
+        → IsGuarded world.new frame.now.layout frame.now.keep frame.now.closed.items Γ (input get.chan.0 get.var.0) next r) }
+    ensures after { IfOk result (λ r. (Γ : Environment) → IsAround Γ frame.now.vars → types_kept (receive get.chan.0 get.var.0) Γ ≡ true
+        → IsAfter world.new frame.now.layout frame.now.keep frame.now.closed.items Γ (receive get.chan.0 get.var.0) next r) }
 {
-    if frame.is_closed(chan) {
+    if frame.is_closed(get.chan) {
         return stop(alloc, world);
     }
-    let (width, first) = frame.slot(var);
+    let (width, first) = frame.slot(get.var);
     let bits = width.bits();
     let keep = frame.keep & bits_from(first, bits);
     let inputs = Inputs {
-        chan,
+        chan: get.chan,
         first,
         bits: u32::from(bits),
         keep,
@@ -235,70 +227,68 @@ pub fn input(
     rebased(alloc, world, keep, map)
 }
 
-// The map of the output of a value on a set of states, and then what the map has. Elsewhere it says nothing.
-fn output_on(
-    alloc: Global,
-    world: &mut World,
-    outputs: Outputs,
-    set: SetId,
-    value: u8,
-) -> Result<MapId, Memory>
-    requires set { IsSetKnown world.old.store set }
-    requires next { HasNodes world.old outputs.next }
-    ensures extends { Extends world.old world.new }
-    ensures nodes { IfOk result (HasNodes world.new) }
-    ensures outputs { IfOk result (AreOutputs world.new outputs.chan (has world.old.store set) (λ x. value) outputs.next) }
-{
-    let event = Event {
-        chan: outputs.chan,
-        dir: Dir::Output,
-        value,
-    };
-    if !outputs.several {
-        return prefixed(alloc, world, outputs.next, event);
+impl Outputs {
+    // The map of the output of a value on a set of states, and then what the map has. Elsewhere it says nothing.
+    fn of_value(
+        &self,
+        alloc: Global,
+        world: &mut World,
+        set: SetId,
+        value: u8,
+    ) -> Result<MapId, Memory>
+        requires set { IsSetKnown world.old.store set }
+        requires next { HasNodes world.old self.now.next }
+        ensures extends { Extends world.old world.new }
+        ensures nodes { IfOk result (HasNodes world.new) }
+        ensures outputs { IfOk result (AreOutputs world.new self.now.chan (has world.old.store set) (λ x. value) self.now.next) }
+    {
+        let event = Event {
+            chan: self.chan,
+            dir: Dir::Output,
+            value,
+        };
+        if !self.several {
+            return prefixed(alloc, world, self.next, event);
+        }
+        let stopped = stop(alloc, world)?;
+        let there = choose(world, set, self.next, stopped)?;
+        let map = prefixed(alloc, world, there, event)?;
+        Ok(map)
     }
-    let stopped = stop(alloc, world)?;
-    let there = choose(world, set, outputs.next, stopped)?;
-    let map = prefixed(alloc, world, there, event)?;
-    Ok(map)
-}
 
-// The map of the outputs of the values that have some digits above those that are left, on the set of states in which
-// these are the digits, and then what the map has. Elsewhere it says nothing.
-fn output_from(
-    alloc: Global,
-    world: &mut World,
-    outputs: Outputs,
-    digits: &[SetId],
-    left: usize,
-    set: SetId,
-    value: u8,
-) -> Result<MapId, Memory>
-    requires few { length digits.now ≤ 8 }
-    requires left { left ≤ length digits.now }
-    requires room { value + 2 ^ left ≤ 256 }
-    requires digits { All (IsSetKnown world.old.store) digits.now }
-    requires set { IsSetKnown world.old.store set }
-    requires next { HasNodes world.old outputs.next }
-    ensures extends { Extends world.old world.new }
-    ensures nodes { IfOk result (HasNodes world.new) }
-    ensures outputs { IfOk result (AreOutputs world.new outputs.chan (has world.old.store set)
-        (λ x. value + number_at world.old.store (take left digits.now) x) outputs.next) }
-{
-    if set == world.store.empty() {
-        return stop(alloc, world);
+    // The map of the outputs of the values of a block, on the set of states in which the value is one of them, and then what the map
+    // has. Elsewhere it says nothing.
+    fn of_block(
+        &self,
+        alloc: Global,
+        world: &mut World,
+        block: Block,
+        set: SetId,
+    ) -> Result<MapId, Memory>
+        requires left { block.left ≤ length self.now.digits }
+        requires digits { All (IsSetKnown world.old.store) self.now.digits }
+        requires set { IsSetKnown world.old.store set }
+        requires next { HasNodes world.old self.now.next }
+        ensures extends { Extends world.old world.new }
+        ensures nodes { IfOk result (HasNodes world.new) }
+        ensures outputs { IfOk result (AreOutputs world.new self.now.chan (has world.old.store set)
+            (λ x. block.base + number_at world.old.store (take block.left self.now.digits) x) self.now.next) }
+    {
+        if set == world.store.empty() {
+            return stop(alloc, world);
+        }
+        if block.left == 0 {
+            return self.of_value(alloc, world, set, block.base);
+        }
+        let lower = block.low();
+        let upper = block.high();
+        let digit = self.digits.bits()[lower.left as usize];
+        let with = within(world, set, digit)?;
+        let outside = without(world, set, digit)?;
+        let high = self.of_block(alloc, world, upper, with)?;
+        let low = self.of_block(alloc, world, lower, outside)?;
+        choose(world, digit, high, low)
     }
-    if left == 0 {
-        return output_on(alloc, world, outputs, set, value);
-    }
-    let place = left - 1;
-    let digit = digits[place];
-    let with = within(world, set, digit)?;
-    let outside = without(world, set, digit)?;
-    let one = value + (1 << place);
-    let high = output_from(alloc, world, outputs, digits, place, with, one)?;
-    let low = output_from(alloc, world, outputs, digits, place, outside, value)?;
-    choose(world, digit, high, low)
 }
 
 /// The map of an output and then what another map has.
@@ -306,41 +296,44 @@ pub fn output(
     alloc: Global,
     world: &mut World,
     frame: &Frame,
-    chan: Name,
-    value: &Expr,
+    put: &Put<'_>,
     next: MapId,
 ) -> Result<MapId, Memory>
-    requires value { IsSome (type_of (environment_in frame.now.layout) (exp value.now)) }
+    requires value { IsSome (type_of (environment_in frame.now.layout) (exp put.now.value.now)) }
     requires next { IsOver world.old frame.now.bits next }
     ensures extends { Extends world.old world.new }
     ensures nodes { IfOk result (HasNodes world.new) }
-    ensures guarded { IfOk result (λ r. (Γ : Environment) → IsAround Γ frame.now.vars → types_kept (send chan.0 (exp value.now)) Γ ≡ true
-        → IsGuarded world.new frame.now.layout frame.now.keep frame.now.closed.items Γ (output chan.0 (exp value.now)) next r) }
-    ensures after { IfOk result (λ r. (Γ : Environment) → IsAround Γ frame.now.vars → types_kept (send chan.0 (exp value.now)) Γ ≡ true
-        → IsAfter world.new frame.now.layout frame.now.keep frame.now.closed.items Γ (send chan.0 (exp value.now)) next r) }
+    ensures guarded { IfOk result (λ r. (Γ : Environment) → IsAround Γ frame.now.vars
+        → types_kept (send put.now.chan.0 (exp put.now.value.now)) Γ ≡ true
+        → IsGuarded world.new frame.now.layout frame.now.keep frame.now.closed.items Γ
+        (output put.now.chan.0 (exp put.now.value.now)) next r) }
+    ensures after { IfOk result (λ r. (Γ : Environment) → IsAround Γ frame.now.vars
+        → types_kept (send put.now.chan.0 (exp put.now.value.now)) Γ ≡ true
+        → IsAfter world.new frame.now.layout frame.now.keep frame.now.closed.items Γ
+        (send put.now.chan.0 (exp put.now.value.now)) next r) }
 {
-    let closed = frame.is_closed(chan);
+    let closed = frame.is_closed(put.chan);
     if closed {
         return stop(alloc, world);
     }
     let several = node_count(world, next)? > 1;
-    let digits = digits(alloc, world, frame, value)?;
+    let digits = digits(alloc, world, frame, put.value)?;
     let full = world.store.full();
+    let count = digits.bits().len() as u32;
     let outputs = Outputs {
-        chan,
+        chan: put.chan,
+        digits,
         next,
         several,
     };
-    let sets = digits.bits();
-    output_from(alloc, world, outputs, sets, sets.len(), full, 0)
+    outputs.of_block(alloc, world, Block::of(count), full)
 }
 
 impl Alternation {
     /// The ALT without guards.
     pub fn none(alloc: Global, world: &mut World) -> Result<Alternation, Memory>
         ensures extends { Extends world.old world.new }
-        ensures waiting { IfOk result (λ r. HasNodes world.new r.waiting) }
-        ensures ready { IfOk result (λ r. MayHaveNodes world.new r.ready) }
+        ensures maps { IfOk result (λ r. AreHeld world.new r.waiting r.ready) }
         ensures none { IfOk result (λ r. (layout : List (Name × Width × ℕ)) (keep : ℕ) (closed : List Name) (Γ : Environment) (rest : MapId)
             → IsAlternation world.new layout keep closed Γ no_branch rest r.waiting r.ready) }
     {
@@ -349,41 +342,38 @@ impl Alternation {
         Ok(Alternation { waiting, ready })
     }
 
-    /// The ALT with one more guard in front, which is enabled on a set of states, and what comes after it: `next` is the map of
-    /// its process and then what `rest` has.
+    /// The ALT with one more guard in front, and what comes after it.
     pub fn and(
         self,
         alloc: Global,
         world: &mut World,
         frame: &Frame,
-        enabled: SetId,
-        wait: &Wait,
-        next: MapId,
+        more: &Alternative<'_>,
     ) -> Result<Alternation, Memory>
-        requires waiting { HasNodes world.old self.waiting }
-        requires ready { MayHaveNodes world.old self.ready }
-        requires enabled { IsSetKnown world.old.store enabled }
-        requires wait { CanWait frame.now.layout (waiting wait.now) }
-        requires next { IsOver world.old frame.now.bits next }
+        requires maps { AreHeld world.old self.waiting self.ready }
+        requires enabled { IsSetKnown world.old.store more.now.enabled }
+        requires wait { CanWait frame.now.layout (waiting more.now.wait.now) }
+        requires next { IsOver world.old frame.now.bits more.now.next }
         ensures extends { Extends world.old world.new }
-        ensures waiting { IfOk result (λ r. HasNodes world.new r.waiting) }
-        ensures ready { IfOk result (λ r. MayHaveNodes world.new r.ready) }
+        ensures maps { IfOk result (λ r. AreHeld world.new r.waiting r.ready) }
         ensures and { IfOk result (λ r. (Γ : Environment) (bs : Branches) (e : Exp) (p : Tree) (rest : MapId)
-            → IsAround Γ frame.now.vars → waiting_kept Γ (waiting wait.now) ≡ true → IsEnabledBy world.old frame.now.layout Γ e enabled
-            → IsOver world.old frame.now.bits rest
+            → IsAround Γ frame.now.vars → waiting_kept Γ (waiting more.now.wait.now) ≡ true
+            → IsEnabledBy world.old frame.now.layout Γ e more.now.enabled → IsOver world.old frame.now.bits rest
             → IsAlternation world.old frame.now.layout frame.now.keep frame.now.closed.items Γ bs rest self.waiting self.ready
-            → IsAfter world.old frame.now.layout frame.now.keep frame.now.closed.items Γ p rest next
-            → IsAlternation world.new frame.now.layout frame.now.keep frame.now.closed.items Γ (and_branch e (waiting wait.now) p bs) rest r.waiting r.ready) }
+            → IsAfter world.old frame.now.layout frame.now.keep frame.now.closed.items Γ p rest more.now.next
+            → IsAlternation world.new frame.now.layout frame.now.keep frame.now.closed.items Γ
+            (and_branch e (waiting more.now.wait.now) p bs) rest r.waiting r.ready) }
     {
-        match wait {
-            Wait::Skip => self.going(alloc, world, enabled, next),
-            Wait::Get { chan, var } => {
-                let offered = input(alloc, world, frame, *chan, *var, next)?;
-                self.offering(alloc, world, enabled, offered)
+        match more.wait {
+            Wait::Skip => self.going(alloc, world, more.enabled, more.next),
+            &Wait::Get { chan, var } => {
+                let offered = input(alloc, world, frame, Get { chan, var }, more.next)?;
+                self.offering(alloc, world, more.enabled, offered)
             }
             Wait::Put { chan, value } => {
-                let offered = output(alloc, world, frame, *chan, value, next)?;
-                self.offering(alloc, world, enabled, offered)
+                let put = Put { chan: *chan, value };
+                let offered = output(alloc, world, frame, &put, more.next)?;
+                self.offering(alloc, world, more.enabled, offered)
             }
         }
     }
@@ -396,13 +386,11 @@ impl Alternation {
         enabled: SetId,
         next: MapId,
     ) -> Result<Alternation, Memory>
-        requires waiting { HasNodes world.old self.waiting }
-        requires ready { MayHaveNodes world.old self.ready }
+        requires maps { AreHeld world.old self.waiting self.ready }
         requires enabled { IsSetKnown world.old.store enabled }
         requires next { HasNodes world.old next }
         ensures extends { Extends world.old world.new }
-        ensures waiting { IfOk result (λ r. HasNodes world.new r.waiting) }
-        ensures ready { IfOk result (λ r. MayHaveNodes world.new r.ready) }
+        ensures maps { IfOk result (λ r. AreHeld world.new r.waiting r.ready) }
         ensures united { IfOk result (λ r. (r.waiting ≡ self.waiting) × IsUnited world.new (has world.old.store enabled) self.ready next r.ready) }
     {
         let nothing = constant(world, None)?;
@@ -422,13 +410,11 @@ impl Alternation {
         enabled: SetId,
         offered: MapId,
     ) -> Result<Alternation, Memory>
-        requires waiting { HasNodes world.old self.waiting }
-        requires ready { MayHaveNodes world.old self.ready }
+        requires maps { AreHeld world.old self.waiting self.ready }
         requires enabled { IsSetKnown world.old.store enabled }
         requires offered { HasNodes world.old offered }
         ensures extends { Extends world.old world.new }
-        ensures waiting { IfOk result (λ r. HasNodes world.new r.waiting) }
-        ensures ready { IfOk result (λ r. MayHaveNodes world.new r.ready) }
+        ensures maps { IfOk result (λ r. AreHeld world.new r.waiting r.ready) }
         ensures offered { IfOk result (λ r. (r.ready ≡ self.ready) × IsOffered world.new (has world.old.store enabled) self.waiting offered r.waiting) }
     {
         let stopped = stop(alloc, world)?;
@@ -442,8 +428,7 @@ impl Alternation {
 
     /// The map of the ALT.
     pub fn map(self, alloc: Global, world: &mut World) -> Result<MapId, Memory>
-        requires waiting { HasNodes world.old self.waiting }
-        requires ready { MayHaveNodes world.old self.ready }
+        requires { AreHeld world.old self.waiting self.ready }
         ensures extends { Extends world.old world.new }
         ensures nodes { IfOk result (HasNodes world.new) }
         ensures after { IfOk result (λ r. (layout : List (Name × Width × ℕ)) (keep : ℕ) (closed : List Name) (Γ : Environment) (bs : Branches) (rest : MapId)

@@ -2,6 +2,7 @@
 #![tactic(auto)]
 
 mod choice;
-mod listed;
+mod rows;
+mod values;
 
-pub use choice::{Alternation, input, output};
+pub use choice::{Alternation, Alternative, Get, Put, input, output};

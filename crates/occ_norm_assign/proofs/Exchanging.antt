@@ -28,7 +28,8 @@ use Rattle.occ_norm_frame.proofs.After.{value_was}
 use Rattle.occ_norm_frame.proofs.Keeping.{set-extends}
 use Rattle.occ_norm_frame.proofs.Changing.{xor_in_turn}
 use Rattle.occ_norm_assign.specs.Writes.{AreWrites, IsWrite}
-use Rattle.occ_norm_assign.specs.Written.{AreDistinct, AreFree, IsExchanged, IsFree, IsOff, change_by, differs, is_changed, onto, step}
+use Rattle.occ_norm_assign.specs.Written.{AreDistinct, AreFree, AreParts, CanExchange, IsExchanged, IsFree, IsOff, change_by, differs, is_changed, no_write, onto, step}
+use Rattle.occ_norm_assign.specs.declared.writes.Parts.{Parts}
 use Rattle.occ_norm_assign.specs.declared.writes.Write.{Write}
 use Rattle.occ_norm_assign.proofs.Written.{onto_append}
 use Rattle.occ_norm_assign.proofs.Apart.{change_more}
@@ -49,10 +50,7 @@ free-kept s t k w known [] is = tt
 free-kept s t k w known (v ∷ vs) is = ((λ x. sym (is_changed-keeps s t k w known (turned x v.bit)) ∙ is.0 x ∙ is_changed-keeps s t k w known x), free-kept s t k w known vs is.1)
 
 pub are_free-keeps : (s t : Store) → Keeps s t → (ws : List Write) → AreWrites s ws → (n : ℕ) → n ≡ length ws → AreFree s ws n → AreFree t ws n
-are_free-keeps s t k ws are n e free i h = free-keeps s t k (get_or ws i none) (are i none (omega (arith, h, e))).known (take i ws) (free i h)
-  where
-    none : Write
-    none = record { bit = 0; set = record { 0 = 0 } }
+are_free-keeps s t k ws are n e free i h = free-keeps s t k (get_or ws i no_write) (are i no_write (omega (arith, h, e))).known (take i ws) (free i h)
 
 change_by-keeps : (s t : Store) → Keeps s t → (keep : ℕ) (ws : List Write) → AreWrites s ws → (x : ℕ) → change_by t keep ws x ≡ change_by s keep ws x
 change_by-keeps s t k keep [] are x = refl
@@ -197,79 +195,90 @@ module _ (w : World) (writes : List Write) (keep place left change more : ℕ) (
         (cases_Bool (is_changed w.store here x));
   }
 
--- the worlds: at first, after the set, after the exchange, after each of the parts, after each part's turn, at the end
-pub exchanged_more : (u0 u1 u2 u3 u4 u5 u6 w : World) → Extends u0 u1 → Extends u1 u2 → Extends u2 u3 → Extends u3 u4 → Extends u4 u5 → Extends u5 u6 → Extends u6 w
-    → (writes : List Write) → AreWrites u0.store writes → AreDistinct writes → (keep place left change more : ℕ) (d : Write) (map other there on off high low made : MapId) (set : SetId)
-    → place < length writes → left ≡ suc place → IsFree u0.store (get_or writes place d) (take place writes)
-    → more ≡ bit_xor change (bit_and keep (2 ^ (get_or writes place d).bit))
-    → HasNodes u0 map → HasNodes u0 other
-    → IsSet u1.store set (is_changed u0.store (get_or writes place d))
-    → IsMap u2.maps there (λ x. value u1.maps map (turned x (get_or writes place d).bit))
-    → IsMap u3.maps on (λ x. cond (has u2.store set x) (value u2.maps there x) (value u2.maps other x)) → HasNodes u3 on
-    → IsMap u4.maps off (λ x. cond (has u3.store set x) (value u3.maps other x) (value u3.maps map x)) → HasNodes u4 off
-    → HasNodes u5 high → IsExchanged u5 writes keep place more on high
-    → HasNodes u6 low → IsExchanged u6 writes keep place change off low
-    → IsMap w.maps made (λ x. cond (has u6.store set x) (value u6.maps high x) (value u6.maps low x))
-    → IsExchanged w writes keep left change map made
-exchanged_more u0 u1 u2 u3 u4 u5 u6 w k0 k1 k2 k3 k4 k5 k6 writes are distinct keep place left change more d map other there on off high low made set h e free more_is hm ho is theres ons hon offs hoff hh highs hl lows mades =
-    exchanged_step w writes keep place left change more d map other on off high low made h e distinct
-    (free-keeps u0.store w.store from0.grows.stored here known (take place writes) free) more_is
-    (λ y. from3.maps.same on y hon.known ∙ ons.values y ∙ picks (has u2.store set y) (is_changed w.store here y) _ _ _ _ (sym (from2.grows.stored.same set y known2) ∙ member y)
-    (sym (from2.maps.same there y theres.known) ∙ there_is y) (sym (from2.maps.same other y (has_nodes-extends u0 u2 (extends_trans u0 u1 u2 k0 k1) other ho).known)))
-    (λ y. from4.maps.same off y hoff.known ∙ offs.values y ∙ picks (has u3.store set y) (is_changed w.store here y) _ _ _ _ (sym (from3.grows.stored.same set y known3) ∙ member y)
-    (sym (from3.maps.same other y (has_nodes-extends u0 u3 to3 other ho).known)) (sym (from3.maps.same map y (has_nodes-extends u0 u3 to3 map hm).known)))
-    (λ x. mades.values x ∙ picks (has u6.store set x) (is_changed w.store here x) _ _ _ _ (sym (k6.grows.stored.same set x known6) ∙ member x)
-    (sym (k6.maps.same high x (has_nodes-extends u5 u6 k5 high hh).known)) (sym (k6.maps.same low x hl.known)))
-    (exchanged-extends u5 w from5 writes (writes-extend u0 u5 to5 writes are) keep place more on high (has_nodes-extends u3 u5 (extends_trans u3 u4 u5 k3 k4) on hon) hh highs)
-    (exchanged-extends u6 w k6 writes (writes-extend u0 u6 (extends_trans u0 u5 u6 to5 k5) writes are) keep place change off low (has_nodes-extends u4 u6 (extends_trans u4 u5 u6 k4 k5) off hoff) hl lows)
+-- ---- what is parted
+picks : (b c : Bool) (p q r s : Option NodeId) → b ≡ c → p ≡ r → q ≡ s → cond b p q ≡ cond c r s
+picks b c p q r s i j l = λ n. cond (i n) (j n) (l n)
+
+-- the worlds: at first, after the set, after the exchange, and after each part
+pub parted_from : (u t f v w : World) → Extends u t → Extends t f → Extends f v → Extends v w → (write : Write) (map other there : MapId) (parts : Parts) → IsWrite u.store write → HasNodes u map → HasNodes u other
+    → IsSet t.store parts.turns (is_changed u.store write) → IsMap f.maps there (λ x. value t.maps map (turned x write.bit))
+    → IsMap v.maps parts.on (λ x. cond (has f.store parts.turns x) (value f.maps there x) (value f.maps other x)) → HasNodes v parts.on
+    → IsMap w.maps parts.off (λ x. cond (has v.store parts.turns x) (value v.maps other x) (value v.maps map x)) → HasNodes w parts.off
+    → AreParts w write map other parts
+parted_from u t f v w ut tf fv vw write map other there parts is hm ho turns theres ons hon offs hoff = record {
+  turns_are = record { known = set-extends t w tw parts.turns turns.known; members = member };
+  on_known = has_nodes-extends v w vw parts.on hon;
+  off_known = hoff;
+  on_is = λ x. vw.maps.same parts.on x hon.known ∙ ons.values x
+      ∙ picks (has f.store parts.turns x) (is_changed w.store write x) _ _ _ _ (sym (fw.grows.stored.same parts.turns x (set-extends t f tf parts.turns turns.known)) ∙ member x)
+      (theres.values x ∙ sym (tw.maps.same map (turned x write.bit) (has_nodes-extends u t ut map hm).known)) (sym (fw.maps.same other x (has_nodes-extends u f uf other ho).known));
+  off_is = λ x. offs.values x
+      ∙ picks (has v.store parts.turns x) (is_changed w.store write x) _ _ _ _ (sym (vw.grows.stored.same parts.turns x (set-extends t v (extends_trans t f v tf fv) parts.turns turns.known)) ∙ member x)
+      (sym (vw.maps.same other x (has_nodes-extends u v uv other ho).known)) (sym (vw.maps.same map x (has_nodes-extends u v uv map hm).known));
+}
+  where
+    fw : Extends f w
+    fw = extends_trans f v w fv vw
+
+    tw : Extends t w
+    tw = extends_trans t f w tf fw
+
+    uf : Extends u f
+    uf = extends_trans u t f ut tf
+
+    uv : Extends u v
+    uv = extends_trans u f v uf fv
+
+    member : (x : ℕ) → has w.store parts.turns x ≡ is_changed w.store write x
+    member x = tw.grows.stored.same parts.turns x turns.known ∙ turns.members x ∙ sym (is_changed-keeps u.store w.store (extends_trans u t w ut tw).grows.stored write is.known x)
+
+parts-extends : (v w : World) → Extends v w → (write : Write) (map other : MapId) (parts : Parts) → IsKnown v.store write.set → HasNodes v map → HasNodes v other → AreParts v write map other parts → AreParts w write map other parts
+parts-extends v w k write map other parts known hm ho is = record {
+  turns_are = record { known = set-extends v w k parts.turns is.turns_are.known; members = λ x. k.grows.stored.same parts.turns x is.turns_are.known ∙ is.turns_are.members x ∙ sym (changed x) };
+  on_known = has_nodes-extends v w k parts.on is.on_known;
+  off_known = has_nodes-extends v w k parts.off is.off_known;
+  on_is = λ x. k.maps.same parts.on x is.on_known.known ∙ is.on_is x ∙ picks _ _ _ _ _ _ (sym (changed x)) (sym (k.maps.same map (turned x write.bit) hm.known)) (sym (k.maps.same other x ho.known));
+  off_is = λ x. k.maps.same parts.off x is.off_known.known ∙ is.off_is x ∙ picks _ _ _ _ _ _ (sym (changed x)) (sym (k.maps.same other x ho.known)) (sym (k.maps.same map x hm.known));
+}
+  where
+    changed : (x : ℕ) → is_changed w.store write x ≡ is_changed v.store write x
+    changed x = is_changed-keeps v.store w.store k.grows.stored write known x
+
+pub can_exchange-extends : (v w : World) → Extends v w → (writes : List Write) (other : MapId) → CanExchange v writes other → CanExchange w writes other
+can_exchange-extends v w k writes other can = record {
+  writes_known = writes-extend v w k writes can.writes_known;
+  distinct = can.distinct;
+  free = are_free-keeps v.store w.store k.grows.stored writes can.writes_known _ refl can.free;
+  other_known = has_nodes-extends v w k other can.other_known;
+}
+
+-- the worlds: at first, after the map is parted, after each part's turn, and at the end
+pub exchanged_more : (u p h l w : World) → Extends u p → Extends p h → Extends h l → Extends l w → (writes : List Write) (other : MapId) → CanExchange u writes other
+    → (keep place left change more : ℕ) (map high low made : MapId) (parts : Parts) → place < length writes → left ≡ suc place → more ≡ bit_xor change (bit_and keep (2 ^ (get_or writes place no_write).bit))
+    → HasNodes u map → AreParts p (get_or writes place no_write) map other parts → HasNodes h high → IsExchanged h writes keep place more parts.on high → HasNodes l low → IsExchanged l writes keep place change parts.off low
+    → IsMap w.maps made (λ x. cond (has l.store parts.turns x) (value l.maps high x) (value l.maps low x)) → IsExchanged w writes keep left change map made
+exchanged_more u p h l w up ph hl lw writes other can keep place left change more map high low made parts lt e more_is hm are high_known highs low_known lows mades =
+    exchanged_step w writes keep place left change more no_write map other parts.on parts.off high low made lt e can.distinct
+    (free-keeps u.store w.store (extends_trans u p w up pw).grows.stored here known (take place writes) (can.free place lt)) more_is now.on_is now.off_is
+    (λ x. mades.values x ∙ picks (has l.store parts.turns x) (is_changed w.store here x) _ _ _ _ (sym (lw.grows.stored.same parts.turns x (set-extends p l pl parts.turns are.turns_are.known)) ∙ now.turns_are.members x)
+    (sym (lw.maps.same high x (has_nodes-extends h l hl high high_known).known)) (sym (lw.maps.same low x low_known.known)))
+    (exchanged-extends h w (extends_trans h l w hl lw) writes (writes-extend u h (extends_trans u p h up ph) writes can.writes_known) keep place more parts.on high (has_nodes-extends p h ph parts.on are.on_known) high_known highs)
+    (exchanged-extends l w lw writes (writes-extend u l (extends_trans u p l up pl) writes can.writes_known) keep place change parts.off low (has_nodes-extends p l pl parts.off are.off_known) low_known lows)
   where
     here : Write
-    here = get_or writes place d
+    here = get_or writes place no_write
 
-    known : IsKnown u0.store here.set
-    known = (are place d h).known
+    known : IsKnown u.store here.set
+    known = (can.writes_known place no_write lt).known
 
-    from5 : Extends u5 w
-    from5 = extends_trans u5 u6 w k5 k6
+    pl : Extends p l
+    pl = extends_trans p h l ph hl
 
-    from4 : Extends u4 w
-    from4 = extends_trans u4 u5 w k4 from5
+    pw : Extends p w
+    pw = extends_trans p l w pl lw
 
-    from3 : Extends u3 w
-    from3 = extends_trans u3 u4 w k3 from4
-
-    from2 : Extends u2 w
-    from2 = extends_trans u2 u3 w k2 from3
-
-    from1 : Extends u1 w
-    from1 = extends_trans u1 u2 w k1 from2
-
-    from0 : Extends u0 w
-    from0 = extends_trans u0 u1 w k0 from1
-
-    to3 : Extends u0 u3
-    to3 = extends_trans u0 u2 u3 (extends_trans u0 u1 u2 k0 k1) k2
-
-    to5 : Extends u0 u5
-    to5 = extends_trans u0 u4 u5 (extends_trans u0 u3 u4 to3 k3) k4
-
-    known2 : IsKnown u2.store set
-    known2 = set-extends u1 u2 k1 set is.known
-
-    known3 : IsKnown u3.store set
-    known3 = set-extends u2 u3 k2 set known2
-
-    known6 : IsKnown u6.store set
-    known6 = set-extends u3 u6 (extends_trans u3 u5 u6 (extends_trans u3 u4 u5 k3 k4) k5) set known3
-
-    member : (x : ℕ) → has w.store set x ≡ is_changed w.store here x
-    member x = from1.grows.stored.same set x is.known ∙ is.members x ∙ sym (is_changed-keeps u0.store w.store from0.grows.stored here known x)
-
-    there_is : (y : ℕ) → value w.maps there y ≡ value w.maps map (turned y here.bit)
-    there_is y = from2.maps.same there y theres.known ∙ theres.values y ∙ sym (from1.maps.same map (turned y here.bit) (has_nodes-extends u0 u1 k0 map hm).known)
-
-    picks : (b c : Bool) (p q r s : Option NodeId) → b ≡ c → p ≡ r → q ≡ s → cond b p q ≡ cond c r s
-    picks b c p q r s i j l = λ n. cond (i n) (j n) (l n)
+    now : AreParts w here map other parts
+    now = parts-extends p w pw here map other parts (set-extends u p up here.set known) (has_nodes-extends u p up map hm) (has_nodes-extends u p up other can.other_known) are
 
 pub exchanged_none : (w : World) (writes : List Write) (keep left change : ℕ) (map r : MapId) → left ≡ 0 → IsChanged w (λ x. change) map r → IsExchanged w writes keep left change map r
 exchanged_none w writes keep left change map r e is = subst (λ n. IsExchanged w writes keep n change map r) (sym e)

@@ -1,12 +1,12 @@
 -- What writes make of an assignment.
-use Rattle.std.specs.Prelude.{ℕ, ◌+◌, ◌<◌, ◌≡◌, ◌==◌, ◌^◌, ◌++◌, Bool, not, List, [], ◌∷◌, Some, get_or, take, bit_xor, if◌then◌else◌}
+use Rattle.std.specs.Prelude.{ℕ, ◌+◌, ◌<◌, ◌≡◌, ◌==◌, ◌^◌, ◌++◌, Bool, length, not, List, [], ◌∷◌, Some, get_or, take, bit_xor, if◌then◌else◌}
 use Rattle.std.specs.Int.{bit_at}
 use Rattle.occ_base.specs.declared.names.Name.{Name}
 use Rattle.occ_base.specs.declared.width.Width.{Width}
 use Rattle.occ_bits.specs.Layout.{entry_of}
 use Rattle.occ_bits.specs.Words.{IsValue, digit}
 use Rattle.occ_diagram.specs.Assignment.{turned, with_bit}
-use Rattle.occ_dd.specs.Store.{has}
+use Rattle.occ_dd.specs.Store.{IsSet, has}
 use Rattle.occ_dd.specs.declared.set.SetId.{SetId}
 use Rattle.occ_dd.specs.declared.store.Store.{Store}
 use Rattle.occ_diagram.specs.Memo.{recalled}
@@ -20,7 +20,9 @@ use Rattle.occ_norm_maps.specs.Lifted.{IsTurned}
 use Rattle.occ_follow.specs.Sequence.{HasNodes}
 use Rattle.occ_syntax.specs.Tree.{Exp}
 use Rattle.occ_norm_frame.specs.Kept.{map_id}
+use Rattle.occ_norm_assign.specs.declared.writes.Parts.{Parts}
 use Rattle.occ_norm_assign.specs.declared.writes.Write.{Write}
+use Rattle.occ_norm_assign.specs.Writes.{AreWrites}
 
 -- the writes of digits from a bit on
 abbrev pub digit_writes : ℕ → List SetId → List Write
@@ -40,12 +42,6 @@ pub record IsWritten (s : Store) (layout : List (Name × Width × ℕ)) (x : ℕ
   pub entry : entry_of layout x ≡ Some (width, first)
   pub value : IsValue s layout e sets
   pub each : writes ≡ digit_writes first sets
-
--- the writes of a variable stand after others
-pub record Adds (s : Store) (layout : List (Name × Width × ℕ)) (x : ℕ) (e : Exp) (old new : List Write) : Type 0 where
-  pub part : List Write
-  pub whole : new ≡ old ++ part
-  pub written : IsWritten s layout x e part
 
 -- the writes begin with those of a variable, and what comes next is as it should be
 pub record Splits (s : Store) (layout : List (Name × Width × ℕ)) (x : ℕ) (e : Exp) (rest : List Write → Type 0) (writes : List Write) : Type 0 where
@@ -84,9 +80,13 @@ abbrev pub IsFree : Store → Write → List Write → Type 0
 IsFree s write [] = Unit {0}
 IsFree s write (other ∷ others) = ((x : ℕ) → is_changed s write (turned x other.bit) ≡ is_changed s write x) × IsFree s write others
 
+-- what stands where a list of writes has ended
+abbrev pub no_write : Write
+no_write = record { bit = 0; set = record { 0 = 0 } }
+
 -- that of each of the first writes, so many, doesn't depend on the bits of those before it
 abbrev pub AreFree : Store → List Write → ℕ → Type 0
-AreFree s writes n = (i : ℕ) → i < n → IsFree s (get_or writes i (record { bit = 0; set = record { 0 = 0 } })) (take i writes)
+AreFree s writes n = (i : ℕ) → i < n → IsFree s (get_or writes i no_write) (take i writes)
 
 -- none of the writes is of the bit
 abbrev pub IsOff : ℕ → List Write → Type 0
@@ -102,6 +102,23 @@ AreDistinct (w ∷ ws) = IsOff w.bit ws × AreDistinct ws
 pub record IsExchanged (w : World) (writes : List Write) (keep left change : ℕ) (map r : MapId) : Type 0 where
   pub exchanged : (x : ℕ) (a b : NodeId) → x < 2 ^ 64 → value w.maps map (onto w.store (take left writes) x x) ≡ Some a → value w.maps r x ≡ Some b
       → IsTurned w (bit_xor change (change_by w.store keep (take left writes) x)) a b
+
+-- the writes can be made at once, and the world has the map that stands outside each part
+pub record CanExchange (w : World) (writes : List Write) (other : MapId) : Type 0 where
+  pub writes_known : AreWrites w.store writes
+  pub distinct : AreDistinct writes
+  pub free : AreFree w.store writes (length writes)
+  pub other_known : HasNodes w other
+
+-- where the write changes its bit, `on` is the map at the state that is made, and elsewhere `off` is the map
+pub record AreParts (w : World) (write : Write) (map other : MapId) (parts : Parts) : Type 0 where
+  pub turns_are : IsSet w.store parts.turns (is_changed w.store write)
+  pub on_known : HasNodes w parts.on
+  pub off_known : HasNodes w parts.off
+  pub on_is : (x : ℕ) → value w.maps parts.on x
+      ≡ (if is_changed w.store write x then value w.maps map (turned x write.bit) else value w.maps other x)
+  pub off_is : (x : ℕ) → value w.maps parts.off x
+      ≡ (if is_changed w.store write x then value w.maps other x else value w.maps map x)
 
 -- a node of a map that goes on as that of `rest` at another state, turned by a change
 pub record Leads (w : World) (rest : MapId) (to change : ℕ) (a : NodeId) : Type 0 where

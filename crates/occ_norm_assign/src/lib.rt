@@ -3,4 +3,4 @@
 
 mod writes;
 
-pub use writes::{Write, applied, assigned, writes_of};
+pub use writes::{Assignment, Write, applied, assigned, writes_of};

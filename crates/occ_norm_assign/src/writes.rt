@@ -5,8 +5,7 @@ ghost use Rattle.occ_dd.specs.Store.{IsKnown as IsSetKnown};
 ghost use Rattle.occ_dd.specs.declared.store.Store.{Store};
 ghost use Rattle.occ_follow.specs.Sequence.{HasNodes};
 ghost use Rattle.occ_norm_maps.specs.Maps.{Extends};
-ghost use Rattle.occ_syntax.specs.Scopes.{variable_width};
-ghost use Rattle.occ_syntax.specs.Types.{agree, pairs_kept, type_of};
+ghost use Rattle.occ_syntax.specs.Types.{pairs_kept};
 ghost use Rattle.occ_syntax.specs.View.{exp, exps, numbers};
 ghost use Rattle.occ_syntax.specs.Scopes.{Environment};
 ghost use Rattle.occ_syntax.specs.Tree.{assign};
@@ -14,7 +13,7 @@ ghost use Rattle.occ_norm_frame.specs.After.{IsAfter, IsOver};
 ghost use Rattle.occ_norm_frame.specs.Changes.{IsChanged};
 ghost use Rattle.occ_norm_frame.specs.Placed.{IsAround};
 ghost use Rattle.occ_norm_assign.specs.Writes.{AreWrites, IsWrite};
-ghost use Rattle.occ_norm_assign.specs.Written.{Adds, AreAssigned, AreDistinct, AreFree, IsApplied, IsExchanged, IsFree, IsSubstituted, KeepSubstituted, digit_writes, step};
+ghost use Rattle.occ_norm_assign.specs.Written.{AreAssigned, AreDistinct, AreFree, AreParts, CanExchange, IsApplied, IsExchanged, IsFree, IsSubstituted, KeepSubstituted, digit_writes, step};
 
 use occ_base::{Memory, Name};
 use occ_dd::SetId;
@@ -33,6 +32,30 @@ pub struct Write {
     pub set: SetId,
 }
 
+/// An assignment of values to variables.
+#[derive(Clone, Copy)]
+pub struct Assignment<'a> {
+    pub vars: &'a [Name],
+    pub values: &'a [Expr],
+}
+
+// A map in two parts: where a write changes its bit, `on` is the map at the state that is made, and elsewhere `off` is the map.
+#[derive(Clone, Copy)]
+struct Parts {
+    turns: SetId,
+    on: MapId,
+    off: MapId,
+}
+
+// Writes that are made all at once, and the map that stands outside each part.
+#[derive(Drop)]
+struct Exchange<'a> {
+    alloc: Global,
+    keep: u64,
+    writes: &'a [Write],
+    other: MapId,
+}
+
 // Adds the writes of some digits, in a row from a bit on.
 fn add_digits(sets: &[SetId], first: u32, writes: &mut Vec<Write>) -> Result<(), Memory>
     requires { first + length sets.now ≤ 64 }
@@ -47,28 +70,6 @@ fn add_digits(sets: &[SetId], first: u32, writes: &mut Vec<Write>) -> Result<(),
             set: sets[place],
         })?;
     }
-    Ok(())
-}
-
-// Adds the writes of an assignment to one variable.
-fn add_writes(
-    alloc: Global,
-    world: &mut World,
-    frame: &Frame,
-    var: Name,
-    value: &Expr,
-    writes: &mut Vec<Write>,
-) -> Result<(), Memory>
-    requires writes { AreWrites world.old.store writes.old.items }
-    requires agree { agree (variable_width (environment_in frame.now.layout) var.0) (type_of (environment_in frame.now.layout) (exp value.now)) ≡ true }
-    ensures extends { Extends world.old world.new }
-    ensures writes { OnOk result (AreWrites world.new.store writes.new.items) }
-    ensures adds { OnOk result (Adds world.new.store frame.now.layout var.0 (exp value.now)
-        writes.old.items writes.new.items) }
-{
-    let (_, first) = frame.slot(var);
-    let word = digits(alloc, world, frame, value)?;
-    add_digits(word.bits(), first, writes)?;
     Ok(())
 }
 
@@ -89,14 +90,9 @@ pub fn writes_of(
 {
     let mut writes = Vec::new(alloc);
     for place in 0..vars.len() {
-        add_writes(
-            alloc,
-            world,
-            frame,
-            vars[place],
-            &values[place],
-            &mut writes,
-        )?;
+        let word = digits(alloc, world, frame, &values[place])?;
+        let (_, first) = frame.slot(vars[place]);
+        add_digits(word.bits(), first, &mut writes)?;
     }
     Ok(writes)
 }
@@ -229,42 +225,44 @@ fn are_joint(world: &mut World, writes: &[Write], map: MapId) -> Result<bool, Me
     are_apart(world, writes)
 }
 
-// The map of the first writes, so many, and then what a map has, where some more bits of final states are turned. What each
-// write changes doesn't depend on the bits of those before it. So the states are parted by what is changed, and in each part
-// those bits of the states are exchanged and all nodes turned once; outside the part stands any other map.
-fn exchanged(
-    alloc: Global,
-    world: &mut World,
-    keep: u64,
-    writes: &[Write],
-    left: usize,
-    change: u64,
-    map: MapId,
-    other: MapId,
-) -> Result<MapId, Memory>
-    requires left { left ≤ length writes.now }
-    requires writes { AreWrites world.old.store writes.now }
-    requires distinct { AreDistinct writes.now }
-    requires free { AreFree world.old.store writes.now (length writes.now) }
+// The parts of a map by what a write changes, each with the other map elsewhere.
+fn parted(world: &mut World, write: Write, map: MapId, other: MapId) -> Result<Parts, Memory>
+    requires write { IsWrite world.old.store write }
     requires map { HasNodes world.old map }
     requires other { HasNodes world.old other }
     ensures extends { Extends world.old world.new }
-    ensures nodes { IfOk result (HasNodes world.new) }
-    ensures exchanged { IfOk result (IsExchanged world.new writes.now keep left change map) }
+    ensures parts { IfOk result (AreParts world.new write map other) }
 {
-    if left == 0 {
-        return shifted(alloc, world, map, change);
-    }
-    let place = left - 1;
-    let Write { bit, set } = writes[place];
-    let turns = changed(world, set, bit)?;
-    let there = flip(world, map, bit)?;
+    let turns = changed(world, write.set, write.bit)?;
+    let there = flip(world, map, write.bit)?;
     let on = choose(world, turns, there, other)?;
     let off = choose(world, turns, other, map)?;
-    let more = change ^ (keep & (1 << bit));
-    let high = exchanged(alloc, world, keep, writes, place, more, on, other)?;
-    let low = exchanged(alloc, world, keep, writes, place, change, off, other)?;
-    choose(world, turns, high, low)
+    Ok(Parts { turns, on, off })
+}
+
+impl Exchange<'_> {
+    // The map of the first writes, so many, and then what a map has, where some more bits of final states are turned. What each
+    // write changes doesn't depend on the bits of those before it. So the states are parted by what is changed, and in each part
+    // those bits of the states are exchanged and all nodes turned once.
+    fn map(&self, world: &mut World, left: usize, change: u64, map: MapId) -> Result<MapId, Memory>
+        requires left { left ≤ length self.now.writes.now }
+        requires exchange { CanExchange world.old self.now.writes.now self.now.other }
+        requires map { HasNodes world.old map }
+        ensures extends { Extends world.old world.new }
+        ensures nodes { IfOk result (HasNodes world.new) }
+        ensures exchanged { IfOk result (IsExchanged world.new self.now.writes.now self.now.keep left change map) }
+    {
+        if left == 0 {
+            return shifted(self.alloc, world, map, change);
+        }
+        let place = left - 1;
+        let write = self.writes[place];
+        let parts = parted(world, write, map, self.other)?;
+        let more = change ^ (self.keep & (1 << write.bit));
+        let high = self.map(world, place, more, parts.on)?;
+        let low = self.map(world, place, change, parts.off)?;
+        choose(world, parts.turns, high, low)
+    }
 }
 
 /// The map where some writes are made, and then what another map has.
@@ -285,7 +283,13 @@ pub fn applied(
     let joint = are_joint(world, writes, rest)?;
     if joint {
         let other = stop(alloc, world)?;
-        return exchanged(alloc, world, keep, writes, writes.len(), 0, rest, other);
+        let exchange = Exchange {
+            alloc,
+            keep,
+            writes,
+            other,
+        };
+        return exchange.map(world, writes.len(), 0, rest);
     }
     let mut memo = Memo::new(alloc);
     let mut map = substituted(world, writes, writes.len(), rest, &mut memo)?;
@@ -301,17 +305,18 @@ pub fn assigned(
     alloc: Global,
     world: &mut World,
     frame: &Frame,
-    vars: &[Name],
-    values: &[Expr],
+    assignment: &Assignment<'_>,
     rest: MapId,
 ) -> Result<MapId, Memory>
-    requires pairs { pairs_kept (environment_in frame.now.layout) (numbers vars.now) (exps values.now) ≡ true }
+    requires pairs { pairs_kept (environment_in frame.now.layout)
+        (numbers assignment.now.vars.now) (exps assignment.now.values.now) ≡ true }
     requires rest { IsOver world.old frame.now.bits rest }
     ensures extends { Extends world.old world.new }
     ensures nodes { IfOk result (HasNodes world.new) }
     ensures after { IfOk result (λ r. (Γ : Environment) → IsAround Γ frame.now.vars
-        → IsAfter world.new frame.now.layout frame.now.keep frame.now.closed.items Γ (assign (numbers vars.now) (exps values.now)) rest r) }
+        → IsAfter world.new frame.now.layout frame.now.keep frame.now.closed.items Γ
+        (assign (numbers assignment.now.vars.now) (exps assignment.now.values.now)) rest r) }
 {
-    let writes = writes_of(alloc, world, frame, vars, values)?;
+    let writes = writes_of(alloc, world, frame, assignment.vars, assignment.values)?;
     applied(alloc, world, frame.keep, &writes, rest)
 }

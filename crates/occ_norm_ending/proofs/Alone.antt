@@ -6,7 +6,6 @@ use Rattle.std.specs.Int.Bits.{bit_and, bit_xor}
 use Rattle.std.proofs.lemmas.Bool.{and_from, and_parts, cases_eq, cases_lt, eqb-true, eq-eqb, false≢true}
 use Rattle.std.proofs.lemmas.Nat.{and_le_l, xor_lt}
 use Rattle.std.proofs.lemmas.Nat.Bits.{bit_at-lt, bit_at_above, bit_at_and, bit_at_xor}
-use Rattle.std.proofs.lemmas.Option.{same_Some}
 use Rattle.occ_base.specs.declared.event.Event.{Event}
 use Rattle.occ_base.specs.declared.names.Name.{Name}
 use Rattle.occ_base.specs.declared.width.Width.{Width}
@@ -17,7 +16,6 @@ use Rattle.occ_mdd.specs.declared.map.MapId.{MapId}
 use Rattle.occ_node.specs.World.{IsNode, ends, fails}
 use Rattle.occ_node.specs.declared.node.NodeId.{NodeId}
 use Rattle.occ_node.specs.declared.world.World.{World}
-use Rattle.occ_node.proofs.Recovery.{canonical}
 use Rattle.occ_follow.specs.Sequence.{HasNodes}
 use Rattle.occ_norm_maps.specs.Maps.{Extends, IsSkip, are_zero, is_clear}
 use Rattle.occ_norm_maps.specs.Growth.{node_grow}
@@ -31,7 +29,7 @@ use Rattle.occ_norm_frame.specs.After.{AgreeBelow, IsAfter, IsOver, QuietlyFails
 use Rattle.occ_norm_ending.specs.Alone.{AreChanged, IsEnding, IsPart, Stops, except}
 use Rattle.occ_norm_frame.specs.Changes.{IsChanged}
 use Rattle.occ_norm_frame.specs.Placed.{IsFrame}
-use Rattle.occ_norm_frame.proofs.After.{map_node, same_truth, state_below, value_was}
+use Rattle.occ_norm_frame.proofs.After.{map_node, over_by, state_below, value_was}
 
 -- ---- bits that are 0
 pub all_clear : (n bits v : ℕ) → are_zero n bits v ≡ true → (k : ℕ) → k < n → bit_at bits k ≡ 1 → bit_at v k ≡ 0
@@ -214,21 +212,8 @@ module _ (w : World) (n all keep : ℕ) (r : MapId) (has : HasNodes w r) (is : I
       (cases_lt k n))
   ends_into x y a b agree h l e f (d ∷ t) z hz c = absurd (false≢true (sym (is.ends_once x a h e d t z hz) ∙ c))
 
-  one_node : (x y : ℕ) (a b : NodeId) → AgreeBelow n x y → x < 2 ^ 64 → y < 2 ^ 64 → value w.maps r x ≡ Some a → value w.maps r y ≡ Some b → a ≡ b
-  one_node x y a b agree h l e f =
-      let back : AgreeBelow n y x = λ k m. sym (agree k m) in
-      (canonical w).one a b (map_node w r has x h a e) (map_node w r has y l b f)
-      (λ t X. is.never_fails x a h e t X ∙ sym (is.never_fails y b l f t X))
-      (λ t z below. same_truth (ends w a t z) (ends w b t z) (ends_into x y a b agree h l e f t z below) (ends_into y x b a back l h f e t z below))
-
   pub ending_over : IsOver w n r
-  ending_over = record {
-    has = has;
-    same = λ x y h l agree.
-        let a = has.nodes x h in
-        let b = has.nodes y l in
-        a.1 ∙ ap (λ (m : NodeId). Some m) (one_node x y a.0 b.0 agree h l a.1 b.1) ∙ sym b.1;
-  }
+  ending_over = over_by w n r has (λ x y a b agree h l e f t X c. absurd (false≢true (sym (is.never_fails x a h e t X) ∙ c))) ends_into
 
 -- ---- the bits that matter to a part alone
 module _ (w : World) (vars : List (Name × Kind)) (layout : List (Name × Width × ℕ)) (n : ℕ) (frame : IsFrame vars layout n) (all keep : ℕ) (inside : all < 2 ^ n) (closed : List Name) (Γ : Environment) (p : Tree) (r : MapId)
@@ -252,21 +237,8 @@ module _ (w : World) (vars : List (Name × Kind)) (layout : List (Name × Width 
             (cases_lt k n));
       })
 
-  part_node : (x y : ℕ) (a b : NodeId) → AgreeBelow n x y → x < 2 ^ 64 → y < 2 ^ 64 → value w.maps r x ≡ Some a → value w.maps r y ≡ Some b → a ≡ b
-  part_node x y a b agree h l e f =
-      let back : AgreeBelow n y x = λ k m. sym (agree k m) in
-      (canonical w).one a b (map_node w r has x h a e) (map_node w r has y l b f)
-      (λ t X. same_truth (fails w a t X) (fails w b t X) (part_fails_into x y a b agree h l e f t X) (part_fails_into y x b a back l h f e t X))
-      (λ t z below. same_truth (ends w a t z) (ends w b t z) (part_ends_into x y a b agree h l e f t z below) (part_ends_into y x b a back l h f e t z below))
-
   pub part_over : IsOver w n r
-  part_over = record {
-    has = has;
-    same = λ x y h l agree.
-        let a = has.nodes x h in
-        let b = has.nodes y l in
-        a.1 ∙ ap (λ (m : NodeId). Some m) (part_node x y a.0 b.0 agree h l a.1 b.1) ∙ sym b.1;
-  }
+  part_over = over_by w n r has part_fails_into part_ends_into
 
 -- ---- made of SKIP, whose bits that have values are turned
 module _ (w : World) (all keep : ℕ) (ended r : MapId) (skip : IsSkip w all ended) (turned : IsChanged w (λ x. bit_and x (except all keep)) ended r) where

@@ -24,6 +24,7 @@ use Rattle.occ_bits.specs.Layout.{assignment_of, entry_of, environment_in, laid_
 use Rattle.occ_bits.proofs.Arithmetic.{low_bit, higher_bit}
 use Rattle.occ_bits.proofs.Laid.{found_width, laid_bits, missing}
 use Rattle.occ_bits.proofs.States.{are_states, state_fits}
+use Rattle.occ_diagram.specs.Assignment.{turned}
 use Rattle.occ_mdd.specs.Maps.{value}
 use Rattle.occ_mdd.specs.declared.map.MapId.{MapId}
 use Rattle.occ_node.specs.World.{IsNode, fails, ends}
@@ -36,7 +37,7 @@ use Rattle.occ_norm_maps.specs.Growth.{turned_grow}
 use Rattle.occ_norm_maps.specs.Maps.{Extends}
 use Rattle.occ_norm_maps.proofs.Worlds.{has_nodes-extends}
 use Rattle.occ_norm_frame.specs.After.{AgreeBelow, IsAfter, IsOver, QuietlyFails, Resumes, change_of}
-use Rattle.occ_norm_frame.specs.Changes.{IsChanged, IsFreed, Somewhere}
+use Rattle.occ_norm_frame.specs.Changes.{IsChanged, IsFreed, IsSupport, Somewhere}
 use Rattle.occ_norm_frame.specs.Placed.{IsAround, IsFrame}
 use Rattle.occ_norm_frame.proofs.Placing.{frame_layout, width_here}
 
@@ -62,6 +63,12 @@ module _ (v w : World) (k : Extends v w) where
   pub changed-extends : (change : ℕ → ℕ) (m r : MapId) → HasNodes v m → HasNodes v r → IsChanged v change m r → IsChanged w change m r
   changed-extends change m r hm hr is = record {
     changed = λ x a b h e f. turned_grow v w k.grows (change x) a b (is.changed x a b h (value_was m hm x (Some a) e) (value_was r hr x (Some b) f));
+  }
+
+  pub support-extends : (n : ℕ) (m : MapId) (needed : ℕ) → HasNodes v m → IsSupport v n m needed → IsSupport w n m needed
+  support-extends n m needed has is = record {
+    within = is.within;
+    others = λ i h e x. k.maps.same m (turned x i) has.known ∙ is.others i h e x ∙ sym (k.maps.same m x has.known);
   }
 
   somewhere_later : (m : MapId) → HasNodes v m → (first end x : ℕ) (F G : NodeId → Bool) → ((n : NodeId) → IsNode v n → G n ≡ F n) → Somewhere v m first end x F → Somewhere w m first end x G
@@ -152,14 +159,15 @@ module _ (v w : World) (k : Extends v w) where
   }
 
 -- ---- the states of a layout
-mod_agree : (x y f b n : ℕ) → f + b ≤ n → AgreeBelow n x y → x / 2 ^ f % 2 ^ b ≡ y / 2 ^ f % 2 ^ b
-mod_agree x y f b n h agree = same_from_bits_below b (x / 2 ^ f % 2 ^ b) (y / 2 ^ f % 2 ^ b) (mod-lt (x / 2 ^ f) (pow_pos b)) (mod-lt (y / 2 ^ f) (pow_pos b))
-    (λ i l. low_bit (x / 2 ^ f) b i l ∙ higher_bit x f i ∙ agree (f + i) (omega arith) ∙ sym (higher_bit y f i) ∙ sym (low_bit (y / 2 ^ f) b i l))
+-- numbers in the same bits of two assignments are the same
+pub digits_same : (x y f b : ℕ) → ((k : ℕ) → f ≤ k → k < f + b → bit_at x k ≡ bit_at y k) → x / 2 ^ f % 2 ^ b ≡ y / 2 ^ f % 2 ^ b
+digits_same x y f b same = same_from_bits_below b (x / 2 ^ f % 2 ^ b) (y / 2 ^ f % 2 ^ b) (mod-lt (x / 2 ^ f) (pow_pos b)) (mod-lt (y / 2 ^ f) (pow_pos b))
+    (λ i l. low_bit (x / 2 ^ f) b i l ∙ higher_bit x f i ∙ same (f + i) (omega arith) (omega arith) ∙ sym (higher_bit y f i) ∙ sym (low_bit (y / 2 ^ f) b i l))
 
 laid_below : (a : ℕ) (vars : List (Name × Kind)) (n x y : ℕ) → a + bits_of_scope vars ≤ n → AgreeBelow n x y → state_of (laid_out a vars) x ≡ state_of (laid_out a vars) y
 laid_below a [] n x y h agree = refl
 laid_below a ((name, Var w) ∷ vars) n x y h agree =
-    let here : x / 2 ^ a % 2 ^ bits_of w ≡ y / 2 ^ a % 2 ^ bits_of w = mod_agree x y a (bits_of w) n (omega arith) agree in
+    let here : x / 2 ^ a % 2 ^ bits_of w ≡ y / 2 ^ a % 2 ^ bits_of w = digits_same x y a (bits_of w) (λ k l m. agree k (omega arith)) in
     let there : state_of (laid_out (a + bits_of w) vars) x ≡ state_of (laid_out (a + bits_of w) vars) y = laid_below (a + bits_of w) vars n x y (omega arith) agree in
     λ i z. cond (z == name.0) (here i) (there i z)
 laid_below a ((name, Chan w d) ∷ vars) n x y h agree = laid_below a vars n x y (omega arith) agree
@@ -198,6 +206,10 @@ module _ (vars : List (Name × Kind)) (layout : List (Name × Width × ℕ)) (n 
       let same_low : x % 2 ^ n ≡ y % 2 ^ n = sym (again x) ∙ ap (assignment_of layout) states ∙ again y in
       λ k h. low_part x k h ∙ ap (λ m. bit_at m k) same_low ∙ sym (low_part y k h)
 
+  -- an assignment stands for a state of the environment
+  pub layout_state : (Γ : Environment) → IsAround Γ vars → (x : ℕ) → IsState Γ (state_of layout x)
+  layout_state Γ around x = state_fits layout Γ (λ y w e. width_here Γ vars layout n f around y ∙ e) x
+
   -- ---- the states that a part reaches
   module _ (Γ : Environment) (around : IsAround Γ vars) (p : Tree) (types : types_kept p Γ ≡ true) where
     widths : (y : ℕ) → variable_width Γ y ≡ variable_width (environment_in layout) y
@@ -212,8 +224,7 @@ module _ (vars : List (Name × Kind)) (layout : List (Name × Width × ℕ)) (n 
     -- where a part has ended from the state of an assignment, the values are the state of an assignment of n bits
     pub states_reached : (x : ℕ) (t : List Event) (s' : Values) → part_ends Γ p (state_of layout x) t s' → (y : ℕ) × (y < 2 ^ n) × (s' ≡ state_of layout y)
     states_reached x t s' d =
-        let start : IsState Γ (state_of layout x) = state_fits layout Γ (λ y w e. widths y ∙ e) x in
-        let reached : IsState Γ s' = (part_states p Γ types).state (state_of layout x) t s' start d in
+        let reached : IsState Γ s' = (part_states p Γ types).state (state_of layout x) t s' (layout_state Γ around x) d in
         let state : IsState (environment_in layout) s' = λ y w e. reached y w (widths y ∙ e) in
         let all = are_states layout (frame_layout vars layout n f) in
         let a = assignment_of layout s' in
@@ -236,6 +247,27 @@ pub same_truth : (a b : Bool) → (a ≡ true → b ≡ true) → (b ≡ true �
 same_truth true b f g = sym (f refl)
 same_truth false true f g = g refl
 same_truth false false f g = refl
+
+-- ---- a map whose nodes do the same at assignments with the same bits below n
+module _ (w : World) (n : ℕ) (r : MapId) (has : HasNodes w r)
+    (fail : (x y : ℕ) (a b : NodeId) → AgreeBelow n x y → x < 2 ^ 64 → y < 2 ^ 64 → value w.maps r x ≡ Some a → value w.maps r y ≡ Some b → (t : List Event) (X : Event → Bool) → fails w a t X ≡ true → fails w b t X ≡ true)
+    (end : (x y : ℕ) (a b : NodeId) → AgreeBelow n x y → x < 2 ^ 64 → y < 2 ^ 64 → value w.maps r x ≡ Some a → value w.maps r y ≡ Some b → (t : List Event) (z : ℕ) → z < 2 ^ 64 → ends w a t z ≡ true → ends w b t z ≡ true) where
+  one_node : (x y : ℕ) (a b : NodeId) → AgreeBelow n x y → x < 2 ^ 64 → y < 2 ^ 64 → value w.maps r x ≡ Some a → value w.maps r y ≡ Some b → a ≡ b
+  one_node x y a b agree h l e f =
+      let back : AgreeBelow n y x = λ k m. sym (agree k m) in
+      (canonical w).one a b (map_node w r has x h a e) (map_node w r has y l b f)
+      (λ t X. same_truth (fails w a t X) (fails w b t X) (fail x y a b agree h l e f t X) (fail y x b a back l h f e t X))
+      (λ t z below. same_truth (ends w a t z) (ends w b t z) (end x y a b agree h l e f t z below) (end y x b a back l h f e t z below))
+
+  -- the other bits don't matter to it
+  pub over_by : IsOver w n r
+  over_by = record {
+    has = has;
+    same = λ x y h l agree.
+        let a = has.nodes x h in
+        let b = has.nodes y l in
+        a.1 ∙ ap (λ (m : NodeId). Some m) (one_node x y a.0 b.0 agree h l a.1 b.1) ∙ sym b.1;
+  }
 
 module _ (w : World) (vars : List (Name × Kind)) (layout : List (Name × Width × ℕ)) (n : ℕ) (frame : IsFrame vars layout n) (keep : ℕ) (few : keep < 2 ^ n) (closed : List Name) (Γ : Environment) (p : Tree) (rest : MapId) where
   quietly_alike : (x y : ℕ) → AgreeBelow n x y → (t : List Event) (X : Event → Bool) → QuietlyFails layout closed Γ p x t X → QuietlyFails layout closed Γ p y t X
@@ -267,19 +299,6 @@ module _ (w : World) (vars : List (Name × Kind)) (layout : List (Name × Width 
         (resumes_alike x y agree (λ u m v. ends w m v (bit_xor z (change_of keep x u))) (λ u m v. ends w m v (bit_xor z (change_of keep y u)))
         (λ u m v. ap (λ change. ends w m v (bit_xor z change)) (change_below keep n x y u few agree)) t ((is.after_ends x a h e t z below).0 c))
 
-    one_node : HasNodes w r → (x y : ℕ) (a b : NodeId) → AgreeBelow n x y → x < 2 ^ 64 → y < 2 ^ 64 → value w.maps r x ≡ Some a → value w.maps r y ≡ Some b → a ≡ b
-    one_node has x y a b agree h l e f =
-        let back : AgreeBelow n y x = λ k m. sym (agree k m) in
-        (canonical w).one a b (map_node w r has x h a e) (map_node w r has y l b f)
-        (λ t X. same_truth (fails w a t X) (fails w b t X) (fails_into x y a b agree h l e f t X) (fails_into y x b a back l h f e t X))
-        (λ t z below. same_truth (ends w a t z) (ends w b t z) (ends_into x y a b agree h l e f t z below) (ends_into y x b a back l h f e t z below))
-
     -- the bits from n on don't matter to the map of a part and what follows it
     pub after-over : HasNodes w r → IsOver w n r
-    after-over has = record {
-      has = has;
-      same = λ x y h l agree.
-          let a = has.nodes x h in
-          let b = has.nodes y l in
-          a.1 ∙ ap (λ (m : NodeId). Some m) (one_node has x y a.0 b.0 agree h l a.1 b.1) ∙ sym b.1;
-    }
+    after-over has = over_by w n r has fails_into ends_into

@@ -1,6 +1,5 @@
 -- What is kept while maps are made.
-use Rattle.std.proofs.Common.{◌≡◌, List, Option, Some, None, get_or, sym, ◌∙◌, subst, lit<}
-use Rattle.std.proofs.lemmas.Option.{same_Some}
+use Rattle.std.proofs.Common.{◌≡◌, ◌<◌, ◌^◌, ℕ, List, Some, None, get_or, sym, ◌∙◌, subst}
 use Rattle.std.specs.List.{All}
 use Rattle.occ_dd.specs.Store.{IsKnown}
 use Rattle.occ_dd.specs.declared.set.SetId.{SetId}
@@ -11,7 +10,6 @@ use Rattle.occ_follow.specs.Sequence.{HasNodes}
 use Rattle.std.specs.Option.{IfSome}
 use Rattle.occ_mdd.specs.Maps.{IsMap, value}
 use Rattle.occ_node.specs.World.{IsNode}
-use Rattle.occ_node.specs.declared.node.NodeId.{NodeId}
 use Rattle.occ_norm_maps.specs.Maps.{Extends, MayHaveNodes}
 
 pub set-extends : (v w : World) → Extends v w → (s : SetId) → IsKnown v.store s → IsKnown w.store s
@@ -23,9 +21,6 @@ sets-extend v w k sets all i d h = set-extends v w k (get_or sets i d) (all i d 
 pub none_may : (w : World) (r : MapId) → IsMap w.maps r (λ x. None) → MayHaveNodes w r
 none_may w r is = record { known = is.known; nodes = λ x h. subst (λ o. IfSome o (IsNode w)) (sym (is.values x)) tt }
 
--- the node at the first state
-pub node_at : (w : World) (m : MapId) → HasNodes w m → (o : Option NodeId) → o ≡ value w.maps m 0 → (n : NodeId) → o ≡ Some n → IsNode w n
-node_at w m has o is n e = let found = has.nodes 0 (lit< tt) in subst (IsNode w) (same_Some found.0 n (sym found.1 ∙ sym is ∙ e)) found.2
-
-pub none_at : (w : World) (m : MapId) → HasNodes w m → (o : Option NodeId) → o ≡ value w.maps m 0 → o ≡ None → ⊥
-none_at w m has o is e = let found = has.nodes 0 (lit< tt) in let f : None ≡ Some found.0 = sym e ∙ is ∙ found.1 in cc
+-- a map with a node at each state has one at this state
+pub never_none : (w : World) (m : MapId) → HasNodes w m → (x : ℕ) → x < 2 ^ 64 → value w.maps m x ≡ None → ⊥
+never_none w m has x h e = let found = has.nodes x h in let f : Some found.0 ≡ None = sym found.1 ∙ e in cc

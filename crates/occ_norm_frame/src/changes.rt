@@ -6,6 +6,7 @@ ghost use Rattle.occ_norm_maps.specs.Maps.{Extends};
 ghost use Rattle.occ_norm_frame.specs.Changes.{IsChanged, IsFreed, IsSupport};
 
 use crate::frame::has_bit;
+use crate::nodes::node_count;
 use crate::sets::bit_set;
 use occ_base::Memory;
 use occ_dd::SetId;
@@ -77,16 +78,6 @@ pub fn depth(world: &mut World, map: MapId) -> Result<u32, Memory>
     Ok(0)
 }
 
-// How many nodes a map has.
-fn node_count(world: &mut World, map: MapId) -> Result<usize, Memory>
-    requires { IsKnown world.old.maps map }
-    ensures { Extends world.old world.new }
-{
-    let full = world.store.full();
-    let nodes = world.maps.leaves_under(&mut world.store, map, full)?;
-    Ok(nodes.len())
-}
-
 /// Whether a map has a node of its own for each fourth assignment of its bits, or of so many bits.
 pub fn is_full(world: &mut World, bits: u32, map: MapId) -> Result<bool, Memory>
     requires { IsKnown world.old.maps map }
@@ -130,35 +121,44 @@ fn is_quicker_at_once(
     Ok(nodes >> many > 0)
 }
 
-// The map where some bits of all final states are turned, and those of `bits` below `left` that are 1 in the state: each
-// state's node is turned once, by all of them together.
-fn turned_by(
+// Turns in the final states of each state those of some bits that are 1 in the state.
+#[derive(Clone, Copy)]
+struct Turning {
     alloc: Global,
-    world: &mut World,
     bits: u64,
-    left: u32,
-    change: u64,
-    map: MapId,
-) -> Result<MapId, Memory>
-    requires left { left ≤ 64 }
-    requires map { HasNodes world.old map }
-    ensures extends { Extends world.old world.new }
-    ensures nodes { IfOk result (HasNodes world.new) }
-    ensures changed { IfOk result (IsChanged world.new (λ x. bit_xor change (bit_and x (bit_and bits (2 ^ left - 1)))) map) }
-{
-    if left == 0 {
-        return shifted(alloc, world, map, change);
+}
+
+impl Turning {
+    // The map where some bits of all final states are turned, and those of the bits below `left` that are 1 in the state:
+    // each state's node is turned once, by all of them together.
+    fn turned_by(
+        &self,
+        world: &mut World,
+        left: u32,
+        change: u64,
+        map: MapId,
+    ) -> Result<MapId, Memory>
+        requires left { left ≤ 64 }
+        requires map { HasNodes world.old map }
+        ensures extends { Extends world.old world.new }
+        ensures nodes { IfOk result (HasNodes world.new) }
+        ensures changed { IfOk result (IsChanged world.new
+            (λ x. bit_xor change (bit_and x (bit_and self.now.bits (2 ^ left - 1)))) map) }
+    {
+        if left == 0 {
+            return shifted(self.alloc, world, map, change);
+        }
+        let bit = left - 1;
+        if !has_bit(self.bits, bit) {
+            return self.turned_by(world, bit, change, map);
+        }
+        let zero = cofactor(world, map, bit, false)?;
+        let one = cofactor(world, map, bit, true)?;
+        let low = self.turned_by(world, bit, change, zero)?;
+        let high = self.turned_by(world, bit, change ^ (1 << bit), one)?;
+        let set = bit_set(world, bit)?;
+        choose(world, set, high, low)
     }
-    let bit = left - 1;
-    if !has_bit(bits, bit) {
-        return turned_by(alloc, world, bits, bit, change, map);
-    }
-    let zero = cofactor(world, map, bit, false)?;
-    let one = cofactor(world, map, bit, true)?;
-    let low = turned_by(alloc, world, bits, bit, change, zero)?;
-    let high = turned_by(alloc, world, bits, bit, change ^ (1 << bit), one)?;
-    let set = bit_set(world, bit)?;
-    choose(world, set, high, low)
 }
 
 /// The map where each of some bits is turned in all final states of the states in which it is 1: what was a change of these
@@ -176,7 +176,8 @@ pub fn rebased(alloc: Global, world: &mut World, bits: u64, map: MapId) -> Resul
         let rest = not_below(bits, bit);
         let together = is_quicker_at_once(world, rest, bit, &mut before, rebased)?;
         if together {
-            return turned_by(alloc, world, rest, 64, 0, rebased);
+            let turning = Turning { alloc, bits: rest };
+            return turning.turned_by(world, 64, 0, rebased);
         }
         let next = rebased_at(alloc, world, bits, bit, rebased)?;
         rebased = next;

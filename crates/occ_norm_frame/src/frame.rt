@@ -3,6 +3,7 @@ ghost use Rattle.std.specs.Int.{bit_at};
 ghost use Rattle.std.specs.List.{list_all};
 ghost use Rattle.occ_base.specs.Width.{bits_of};
 ghost use Rattle.occ_bits.specs.Layout.{entry_of, environment_in};
+ghost use Rattle.occ_diagram.specs.Assignment.{with_bit};
 ghost use Rattle.occ_syntax.specs.Scopes.{variable_width};
 ghost use Rattle.occ_syntax.specs.Counts.{bits_of_scope};
 ghost use Rattle.occ_syntax.specs.Types.{scope_kept};
@@ -57,6 +58,17 @@ pub fn has_bit(bits: u64, bit: u32) -> bool
     ensures { result ≡ (bit_at bits bit == 1) }
 {
     (bits >> bit) & 1 == 1
+}
+
+/// Some bits with one of them made 1 or 0.
+pub fn with_bit(bits: u64, bit: u32, one: bool) -> u64
+    requires { bit < 64 }
+    ensures { result ≡ with_bit bits bit (if one then 1 else 0) }
+{
+    if has_bit(bits, bit) == one {
+        return bits;
+    }
+    bits ^ (1 << bit)
 }
 
 impl Frame {

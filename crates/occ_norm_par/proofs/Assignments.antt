@@ -1,46 +1,26 @@
 -- Assignments, and the states that they stand for.
 use Rattle.std.proofs.Common.{◌≡◌, ℕ, ◌+◌, ◌-◌, ◌/◌, ◌%◌, ◌^◌, ◌<◌, ◌≤◌, ◌==◌, true, false, cond, List, [], ◌∷◌, Option, Some, None, ⊎_elim, refl, sym, ap, ◌∙◌, subst, arith}
 use Rattle.std.specs.Int.{bit_at}
-use Rattle.std.proofs.Math.Nat.{mod-lt, pow-le-pow_right}
-use Rattle.std.proofs.lemmas.Bool.{and_parts, cases_Bool, cases_lt, eqb-true, false_from_ne_true}
-use Rattle.std.proofs.lemmas.Nat.{pow_pos}
-use Rattle.std.proofs.lemmas.Nat.Bits.{same_from_bits_below}
-use mathlib.Core.Path.{fun_ext}
+use Rattle.std.proofs.lemmas.Bool.{and_parts, cases_lt, eqb-true, false_from_ne_true}
 use Rattle.occ_base.specs.declared.names.Name.{Name}
 use Rattle.occ_base.specs.declared.width.Width.{Width}
 use Rattle.occ_base.specs.Width.{bits_of}
-use Rattle.occ_bits.specs.Layout.{assignment_of, entry_of, environment_in, laid_out, scope_in, state_of}
+use Rattle.occ_bits.specs.Layout.{entry_of, laid_out, state_of}
 use Rattle.occ_bits.proofs.Arithmetic.{higher_bit, low_bit}
 use Rattle.occ_bits.proofs.Laid.{found_state, found_width, fresh_first, laid_width}
-use Rattle.occ_bits.proofs.States.{are_states, state_fits}
 use Rattle.occ_meaning.proofs.Facts.{at_itself, none_not_some}
-use Rattle.occ_meaning.proofs.Frame.{part_value, written_in_scope}
-use Rattle.occ_meaning.proofs.States.{part_states}
+use Rattle.occ_meaning.proofs.Frame.{part_value}
 use Rattle.occ_syntax.specs.declared.scope.Kind.{Kind}
 use Rattle.occ_syntax.specs.declared.scope.Kind.TheVariants.{Var, Chan}
 use Rattle.occ_syntax.specs.Counts.{bits_of_scope}
 use Rattle.occ_syntax.specs.Meaning.{ends as part_ends}
 use Rattle.occ_syntax.specs.Names.{written}
-use Rattle.occ_syntax.specs.Scopes.{Environment, IsState, Trace, Values, environment, variable_kind, variable_width}
+use Rattle.occ_syntax.specs.Scopes.{Environment, Trace, Values, environment, variable_kind, variable_width}
 use Rattle.occ_syntax.specs.Tree.{Tree}
 use Rattle.occ_syntax.specs.Types.{scope_kept, types_kept}
-use Rattle.occ_norm_frame.proofs.Placing.{frame_layout, width_here}
+use Rattle.occ_norm_frame.proofs.After.{digits_same, states_reached, zero_off}
+use Rattle.occ_norm_frame.proofs.Bits.{pow_more}
 use Rattle.occ_norm_frame.specs.Placed.{IsAround, IsFrame}
-
--- a name that isn't laid out has the value 0
-nothing_there : (entries : List (Name × Width × ℕ)) (x y : ℕ) → entry_of entries y ≡ None → state_of entries x y ≡ 0
-nothing_there [] x y e = refl
-nothing_there ((n, v, g) ∷ entries) x y e = ⊎_elim
-    (λ (t : (y == n.0) ≡ true). absurd (clash (v, g) (sym (ap (λ b. cond b (Some (v, g)) (entry_of entries y)) t) ∙ e)))
-    (λ (t : (y == n.0) ≡ false). ap (λ b. cond b (x / 2 ^ g % 2 ^ bits_of v) (state_of entries x y)) t ∙ nothing_there entries x y (sym (ap (λ b. cond b (Some (v, g)) (entry_of entries y)) t) ∙ e))
-    (cases_Bool (y == n.0))
-  where
-    clash : (p : Width × ℕ) → Some p ≡ None → ⊥
-    clash p q = cc
-
-digits_same : (x y f n : ℕ) → ((k : ℕ) → f ≤ k → k < f + n → bit_at x k ≡ bit_at y k) → x / 2 ^ f % 2 ^ n ≡ y / 2 ^ f % 2 ^ n
-digits_same x y f n h = same_from_bits_below n (x / 2 ^ f % 2 ^ n) (y / 2 ^ f % 2 ^ n) (mod-lt (x / 2 ^ f) (pow_pos n)) (mod-lt (y / 2 ^ f) (pow_pos n))
-    (λ i l. low_bit (x / 2 ^ f) n i l ∙ higher_bit x f i ∙ h (f + i) (omega arith) (omega arith) ∙ sym (low_bit (y / 2 ^ f) n i l ∙ higher_bit y f i))
 
 same_digits : (x y f n : ℕ) → x / 2 ^ f % 2 ^ n ≡ y / 2 ^ f % 2 ^ n → (i : ℕ) → i < n → bit_at x (f + i) ≡ bit_at y (f + i)
 same_digits x y f n e i l =
@@ -52,7 +32,7 @@ pub value_by_bits : (layout : List (Name × Width × ℕ)) (x y v : ℕ)
 value_by_bits layout x y v h = each (entry_of layout v) refl
   where
     each : (o : Option (Width × ℕ)) → entry_of layout v ≡ o → state_of layout x v ≡ state_of layout y v
-    each None e = nothing_there layout x v e ∙ sym (nothing_there layout y v e)
+    each None e = zero_off layout x v e ∙ sym (zero_off layout y v e)
     each (Some (w, f)) e = found_state layout v w f x e ∙ digits_same x y f (bits_of w) (h w f e) ∙ sym (found_state layout v w f y e)
 
 pub bits_by_value : (layout : List (Name × Width × ℕ)) (x y v : ℕ) (w : Width) (f : ℕ) → entry_of layout v ≡ Some (w, f) → state_of layout x v ≡ state_of layout y v
@@ -99,39 +79,6 @@ module _ (vars : List (Name × Kind)) (layout : List (Name × Width × ℕ)) (bi
       subst (λ l. IsCovered l k) (sym frame.layout_is) (covered_in 0 vars k frame.scope (omega arith) (omega arith))
 
   module _ (Γ : Environment) (around : IsAround Γ vars) where
-    pub layout_state : (x : ℕ) → IsState Γ (state_of layout x)
-    layout_state x = state_fits layout Γ (λ y w e. width_here Γ vars layout bits frame around y ∙ e) x
-
-    off_layout : (x y : ℕ) → variable_width Γ y ≡ None → state_of layout x y ≡ 0
-    off_layout x y e = each (entry_of layout y) refl
-      where
-        each : (o : Option (Width × ℕ)) → entry_of layout y ≡ o → state_of layout x y ≡ 0
-        each None k = nothing_there layout x y k
-        each (Some (w, f)) k = none_not_some (sym e ∙ width_here Γ vars layout bits frame around y ∙ found_width layout y w f k)
-
-    -- a state that is 0 off the layout is one of an assignment
-    state_again : (s : Values) → IsState Γ s → ((y : ℕ) → variable_width Γ y ≡ None → s y ≡ 0) → state_of layout (assignment_of layout s) ≡ s
-    state_again s state off = fun_ext (λ y. each y (variable_width Γ y) refl)
-      where
-        inside : IsState (environment_in layout) s
-        inside y w e = state y w (width_here Γ vars layout bits frame around y ∙ e)
-
-        each : (y : ℕ) (o : Option Width) → variable_width Γ y ≡ o → state_of layout (assignment_of layout s) y ≡ s y
-        each y None e = off_layout (assignment_of layout s) y e ∙ sym (off y e)
-        each y (Some w) e = (are_states layout (frame_layout vars layout bits frame)).back s inside y w (sym (width_here Γ vars layout bits frame around y) ∙ e)
-
-    again_small : (s : Values) → IsState Γ s → assignment_of layout s < 2 ^ 64
-    again_small s state =
-        let is = frame_layout vars layout bits frame in
-        let few : bits_of_scope (scope_in layout) ≤ 64 = is.few in
-        let two : 0 < 2 = omega arith in
-        let small : assignment_of layout s < 2 ^ bits_of_scope (scope_in layout) = (are_states layout is).small s (λ y w e. state y w (width_here Γ vars layout bits frame around y ∙ e)) in
-        let more : 2 ^ bits_of_scope (scope_in layout) ≤ 2 ^ 64 = pow-le-pow_right two few in
-        less_so _ _ _ small more
-      where
-        less_so : (a b c : ℕ) → a < b → b ≤ c → a < c
-        less_so a b c h k = omega arith
-
     module _ (p : Tree) (types : types_kept p Γ ≡ true) where
       -- a variable that isn't written is kept
       pub value_kept : (v : ℕ) → written p v ≡ false → (s : Values) (t : Trace) (s' : Values) → part_ends Γ p s t s' → s' v ≡ s v
@@ -140,9 +87,7 @@ module _ (vars : List (Name × Kind)) (layout : List (Name × Width × ℕ)) (bi
       -- each final state is that of an assignment
       pub end_state : (x : ℕ) (t : Trace) (s : Values) → part_ends Γ p (state_of layout x) t s → HasEnd layout s
       end_state x t s d =
-          let state : IsState Γ s = (part_states p Γ types).state (state_of layout x) t s (layout_state x) d in
-          record {
-            y = assignment_of layout s;
-            below = again_small s state;
-            is = sym (state_again s state (λ v e. value_kept v (written_in_scope p Γ types v e) (state_of layout x) t s d ∙ off_layout x v e));
-          }
+          let found = states_reached vars layout bits frame Γ around p types x t s d in
+          let few : bits_of_scope vars ≤ 24 = frame.few in
+          let count : bits ≡ bits_of_scope vars = frame.bits_are in
+          record { y = found.0; below = pow_more bits 64 found.0 (omega (arith, few, count)) found.1; is = found.2 }

@@ -39,12 +39,13 @@ use Rattle.occ_syntax.specs.Usage.{IsSeparate}
 use Rattle.occ_syntax.specs.declared.scope.Kind.{Kind}
 use Rattle.occ_weave.specs.Weave.{BothFail, IsEventSet, IsJoined, WovenEnds, WovenFails, first_ended as first_has_ended, second_ended as second_has_ended, neither_ended as neither_has_ended, is_open, is_silent_on, off_channels}
 use Rattle.occ_weave.proofs.Freeing.{joining, joining_is, joining_lt}
+use Rattle.occ_norm_frame.proofs.After.{layout_state}
 use Rattle.occ_norm_frame.proofs.Placing.{frame_layout}
 use Rattle.occ_norm_ending.specs.Alone.{AreChanged, IsPart}
 use Rattle.occ_norm_frame.specs.Placed.{IsAround, IsFrame}
 use Rattle.occ_norm_ending.proofs.Alone.{and_below}
 use Rattle.occ_norm_par.specs.Sides.{AreWritten}
-use Rattle.occ_norm_par.proofs.Assignments.{end_state, layout_state, value_by_bits, value_kept}
+use Rattle.occ_norm_par.proofs.Assignments.{end_state, value_by_bits, value_kept}
 use Rattle.occ_norm_par.proofs.Silent.{silent_all, silent_each, silent_first, silent_second, silent_unused, silent_woven}
 
 all_within : (E : EventSet) (t : Trace) → AreWithin E t → list_all E t ≡ true
@@ -323,7 +324,9 @@ module _ (vars : List (Name × Kind)) (layout : List (Name × Width × ℕ)) (bi
           let d1 = (is1.alone_fails x a below at1 t1 (refused_with Γ (off_channels shared X) Y)).0 f in
           let d2 = (is2.alone_fails x b below at2 t2 (refused_with Γ (off_channels shared X) (answered Y))).0 e in (
             quiet_both s0 t1 t2 t (refusing (off_channels sole (refused_with Γ (off_channels shared X) Y))) (refusing (off_channels behind (refused_with Γ (off_channels shared X) (answered Y)))) weave d1.1 d2.1 d1.0 d2.0 l,
-            together t1 t2 (refusing (refused_with Γ (off_channels all X) (split Y))) (refusing (refused_with Γ (off_channels all X) (answered (split Y)))) weave (neither_ended (off_channels all X) (split Y)) (more_first s0 t1 (off_channels sole (refused_with Γ (off_channels shared X) Y)) (refused_with Γ (off_channels all X) (split Y)) (first_split X Y) d1.1) (more_second s0 t2 (off_channels behind (refused_with Γ (off_channels shared X) (answered Y))) (refused_with Γ (off_channels all X) (answered (split Y))) (second_split X Y) d2.1),
+            together t1 t2 (refusing (refused_with Γ (off_channels all X) (split Y))) (refusing (refused_with Γ (off_channels all X) (answered (split Y)))) weave (neither_ended (off_channels all X) (split Y))
+                (more_first s0 t1 (off_channels sole (refused_with Γ (off_channels shared X) Y)) (refused_with Γ (off_channels all X) (split Y)) (first_split X Y) d1.1)
+                (more_second s0 t2 (off_channels behind (refused_with Γ (off_channels shared X) (answered Y))) (refused_with Γ (off_channels all X) (answered (split Y))) (second_split X Y) d2.1),
           )
 
       -- a change that an end has
@@ -361,8 +364,10 @@ module _ (vars : List (Name × Kind)) (layout : List (Name × Width × ℕ)) (bi
         fail_none : (X Y : EventSet) → part_fails Γ p s0 t1 (refused_with Γ (off_channels all X) Y) → part_fails Γ q s0 t2 (refused_with Γ (off_channels all X) (answered Y))
             → BothFail w (in_scope Γ) a b t1 t2 (off_channels shared X)
         fail_none X Y d1 d2 = neither_has_ended Y
-            ((is1.alone_fails x a below at1 t1 (refused_with Γ (off_channels shared X) Y)).1 (silent1 (refusing (refused_with Γ (off_channels all X) (answered Y))) d2, more_first s0 t1 (refused_with Γ (off_channels all X) Y) (off_channels sole (refused_with Γ (off_channels shared X) Y)) (first_joined X Y) d1))
-            ((is2.alone_fails x b below at2 t2 (refused_with Γ (off_channels shared X) (answered Y))).1 (silent2 (refusing (refused_with Γ (off_channels all X) Y)) d1, more_second s0 t2 (refused_with Γ (off_channels all X) (answered Y)) (off_channels behind (refused_with Γ (off_channels shared X) (answered Y))) (second_joined X (answered Y)) d2))
+            ((is1.alone_fails x a below at1 t1 (refused_with Γ (off_channels shared X) Y)).1
+            (silent1 (refusing (refused_with Γ (off_channels all X) (answered Y))) d2, more_first s0 t1 (refused_with Γ (off_channels all X) Y) (off_channels sole (refused_with Γ (off_channels shared X) Y)) (first_joined X Y) d1))
+            ((is2.alone_fails x b below at2 t2 (refused_with Γ (off_channels shared X) (answered Y))).1
+            (silent2 (refusing (refused_with Γ (off_channels all X) Y)) d1, more_second s0 t2 (refused_with Γ (off_channels all X) (answered Y)) (off_channels behind (refused_with Γ (off_channels shared X) (answered Y))) (second_joined X (answered Y)) d2))
 
       fail_by : (X Z : EventSet) → Z ≡ off_channels all X → (t1 t2 t : Trace) (o1 o2 : Outcome) → Weave t1 t2 t → is_silent_on all t ≡ true → Combines Γ s0 o1 o2 (refusing Z)
           → (meaning p).does Γ s0 t1 o1 → (meaning q).does Γ s0 t2 o2 → BothFail w (in_scope Γ) a b t1 t2 (off_channels shared X)

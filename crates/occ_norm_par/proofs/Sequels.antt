@@ -1,5 +1,5 @@
 -- The map of processes alone, and the map of these and what follows.
-use Rattle.std.proofs.Common.{◌≡◌, ◌≢◌, ◌⊎◌, ◌<◌, ◌≤◌, ◌^◌, ◌==◌, ◌+◌, ◌-◌, ◌%◌, ◌++◌, ℕ, zero, suc, min, max, Bool, true, false, cond, List, Some, ⊎_elim, inl, inr, refl, sym, ap, ◌∙◌, subst, arith}
+use Rattle.std.proofs.Common.{◌≡◌, ◌≢◌, ◌<◌, ◌≤◌, ◌^◌, ◌==◌, ◌+◌, ◌%◌, ℕ, zero, suc, min, max, Bool, true, false, cond, List, Some, ⊎_elim, refl, sym, ap, ◌∙◌, subst, arith}
 use Rattle.std.specs.Prelude.{◌↔◌}
 use Rattle.std.proofs.lemmas.Bool.{cases_lt}
 use Rattle.std.proofs.lemmas.Nat.{xor_lt}
@@ -25,12 +25,12 @@ use Rattle.occ_weave.proofs.Growth.{trans_iff, iff_of_same}
 use Rattle.occ_norm_maps.specs.Lifted.{IsTurned}
 use Rattle.occ_norm_maps.specs.Maps.{Extends}
 use Rattle.occ_norm_maps.proofs.Worlds.{extends_trans, has_nodes-extends}
-use Rattle.occ_norm_frame.specs.After.{IsAfter, IsOver, QuietlyFails, Resumes, WritesWithin, change_of}
+use Rattle.occ_norm_frame.specs.After.{IsAfter, IsOver, Resumes, WritesWithin, change_of}
 use Rattle.occ_norm_ending.specs.Alone.{AreChanged, IsPart, except}
 use Rattle.occ_norm_frame.specs.Changes.{IsChanged, IsSupport}
-use Rattle.occ_norm_frame.proofs.After.{changed-extends, over-extends}
+use Rattle.occ_norm_frame.proofs.After.{changed-extends, over-extends, support-extends}
 use Rattle.occ_norm_ending.proofs.Alone.{alone_later, alone_to, and_below, change_lt, except_bit}
-use Rattle.occ_norm_par.specs.Joints.{image, IsEnded, IsJoint, Joins}
+use Rattle.occ_norm_par.specs.Joints.{IsEnded, IsJoint, Joins, anywhere, image}
 use Rattle.occ_norm_par.specs.declared.joint.Joint.{Joint}
 use Rattle.occ_norm_par.proofs.Steps.{joint_grow, or_iff}
 use Rattle.occ_norm_par.proofs.Words.{below_or_last, image_free, image_lt, image_same, image_written}
@@ -229,7 +229,7 @@ module _ (w : World) (layout : List (Name × Width × ℕ)) (closed : List Name)
         let first = joint.first.nodes x h in
         let mid = joint.known.nodes x h in
         trans_iff (iff_of_same _ _ ((turned_back.changed x mid.0 b h mid.1 e).turned.same_fail t X))
-        (trans_iff (joint.joint_fails x first.0 mid.0 h first.1 mid.1 t X)
+        (trans_iff ((joint.each x h tt).joint_fails first.0 mid.0 first.1 mid.1 t X)
         (or_iff (alone.alone_fails x first.0 h first.1 t X)
         (resumed x first.0 h first.1 (λ m u. fails w m u X) (λ y m u. fails w m u X) (λ y z m k u v hy hz d is turn. turn.turned.same_fail u X) t)));
     after_ends = λ x b h e t y l.
@@ -237,20 +237,13 @@ module _ (w : World) (layout : List (Name × Width × ℕ)) (closed : List Name)
         let mid = joint.known.nodes x h in
         let low : bit_xor y (part x) < 2 ^ 64 = xor_lt 64 y (part x) l (and_below x (bit_and keep j.written) h) in
         trans_iff (iff_of_same _ _ ((turned_back.changed x mid.0 b h mid.1 e).turned.turned_end t y l))
-        (trans_iff (joint.joint_ends x first.0 mid.0 h first.1 mid.1 t (bit_xor y (part x)) low)
+        (trans_iff ((joint.each x h tt).joint_ends first.0 mid.0 first.1 mid.1 t (bit_xor y (part x)) low)
         (resumed x first.0 h first.1 (λ m u. ends w m u (bit_xor y (part x))) (λ v m u. ends w m u (bit_xor y (change_of keep x v)))
         (λ v z m k u s hv hz d is turn.
         turn.turned.turned_end u (bit_xor y (part x)) low
         ∙ ap (ends w m u) (xor_assoc y (part x) (part (image j n x z)) ∙ ap (bit_xor y) (turned_all x v z s d is h hv hz)))
         t));
   }
-
--- ---- growth
-pub support_grow : (v w : World) → Extends v w → (n : ℕ) (map : MapId) (needed : ℕ) → HasNodes v map → IsSupport v n map needed → IsSupport w n map needed
-support_grow v w k n map needed has is = record {
-  within = is.within;
-  others = λ i h e x. k.maps.same map (turned x i) has.known ∙ is.others i h e x ∙ sym (k.maps.same map x has.known);
-}
 
 -- ---- what `sequel` makes
 module _ (v w : World) (k : Extends v w) (layout : List (Name × Width × ℕ)) (closed : List Name) (Γ : Environment) (p : Tree) where
@@ -267,9 +260,9 @@ module _ (v w : World) (k : Extends v w) (layout : List (Name × Width × ℕ)) 
       → IsPart v layout (bit_or keep j.needed) (except (bit_or keep j.needed) j.written) closed Γ p together → IsAfter w layout keep closed Γ p rest r
   made_after j n keep together rest next made r u m k1 k2 k3 few inside support over_together over has_next changed joint last within part =
       sequel_after w layout closed Γ p j n keep together rest next made r few inside
-      (support_grow v w k n rest j.needed over.has support)
+      (support-extends v w k n rest j.needed over.has support)
       (over-extends v w k n rest over)
       (changed-extends u w (extends_trans u m w k2 k3) (λ z. bit_and z (bit_and keep j.written)) rest next (has_nodes-extends v u k1 rest over.has) has_next changed)
       last within
       (alone_later v w k together over_together.has layout (bit_or keep j.needed) (except (bit_or keep j.needed) j.written) closed Γ p part)
-      (joint_grow m w k3 j n together next made joint)
+      (joint_grow m w k3 j n anywhere together next made joint)

@@ -23,9 +23,9 @@ use Rattle.occ_norm_maps.proofs.Worlds.{has_nodes-extends}
 use Rattle.occ_norm_frame.specs.After.{AgreeBelow, IsOver}
 use Rattle.occ_norm_frame.specs.Kept.{map_id}
 use Rattle.occ_norm_frame.proofs.After.{map_node, value_is, value_was}
-use Rattle.occ_norm_par.specs.Joints.{image, IsJoint, IsStepped, Joins, KeepJoints, stepped}
+use Rattle.occ_norm_par.specs.Joints.{IsHalf, IsJoint, IsJointAt, IsJointWhere, IsStepped, Joins, KeepJoints, anywhere, image, stepped}
 use Rattle.occ_norm_par.specs.declared.joint.Joint.{Joint}
-use Rattle.occ_norm_par.proofs.Words.{image_lt, stepped_free, stepped_lt, stepped_same, stepped_written}
+use Rattle.occ_norm_par.proofs.Words.{image_lt, stepped_free, stepped_same, stepped_written}
 
 pub or_iff : {P Q A B : Type 0} → P ↔ Q → A ↔ B → (P ⊎ A) ↔ (Q ⊎ B)
 or_iff f g = (λ s. ⊎_elim (λ p. inl (f.0 p)) (λ a. inr (g.0 a)) s, λ s. ⊎_elim (λ q. inl (f.1 q)) (λ b. inr (g.1 b)) s)
@@ -77,33 +77,35 @@ module _ (v w : World) (k : Extends v w) (j : Joint) where
     },
   )
 
-  pub joint_grow : (left : ℕ) (map next r : MapId) → IsJoint v j left map next r → IsJoint w j left map next r
-  joint_grow left map next r is = record {
+  pub joint_grow : (left : ℕ) (here : ℕ → Type 0) (map next r : MapId) → IsJointWhere v j left here map next r → IsJointWhere w j left here map next r
+  joint_grow left here map next r is = record {
     few = is.few;
     first = has_nodes-extends v w k map is.first;
     second = has_nodes-extends v w k next is.second;
     known = has_nodes-extends v w k r is.known;
-    joint_fails = λ x a b h e f t X.
-        let ea : value v.maps map x ≡ Some a = value_was v w k map is.first x _ e in
-        let eb : value v.maps r x ≡ Some b = value_was v w k r is.known x _ f in
-        let na : IsNode v a = map_node v map is.first x h a ea in
-        let nb : IsNode v b = map_node v r is.known x h b eb in
-        trans_iff (iff_of_same _ _ (k.grows.same_fails b t X nb))
-        (trans_iff (is.joint_fails x a b h ea eb t X)
-        (or_iff (iff_of_same _ _ (sym (k.grows.same_fails a t X na)))
-        (joins_grow left x a next (λ m u. fails v m u X) (λ m u. fails w m u X) is.few is.second na (λ m u n. k.grows.same_fails m u X n) t)));
-    joint_ends = λ x a b h e f t y l.
-        let ea : value v.maps map x ≡ Some a = value_was v w k map is.first x _ e in
-        let eb : value v.maps r x ≡ Some b = value_was v w k r is.known x _ f in
-        let na : IsNode v a = map_node v map is.first x h a ea in
-        let nb : IsNode v b = map_node v r is.known x h b eb in
-        trans_iff (iff_of_same _ _ (k.grows.same_ends b t y nb))
-        (trans_iff (is.joint_ends x a b h ea eb t y l)
-        (joins_grow left x a next (λ m u. ends v m u y) (λ m u. ends w m u y) is.few is.second na (λ m u n. k.grows.same_ends m u y n) t));
+    each = λ x h at. record {
+      joint_fails = λ a b e f t X.
+          let ea : value v.maps map x ≡ Some a = value_was v w k map is.first x _ e in
+          let eb : value v.maps r x ≡ Some b = value_was v w k r is.known x _ f in
+          let na : IsNode v a = map_node v map is.first x h a ea in
+          let nb : IsNode v b = map_node v r is.known x h b eb in
+          trans_iff (iff_of_same _ _ (k.grows.same_fails b t X nb))
+          (trans_iff ((is.each x h at).joint_fails a b ea eb t X)
+          (or_iff (iff_of_same _ _ (sym (k.grows.same_fails a t X na)))
+          (joins_grow left x a next (λ m u. fails v m u X) (λ m u. fails w m u X) is.few is.second na (λ m u n. k.grows.same_fails m u X n) t)));
+      joint_ends = λ a b e f t y l.
+          let ea : value v.maps map x ≡ Some a = value_was v w k map is.first x _ e in
+          let eb : value v.maps r x ≡ Some b = value_was v w k r is.known x _ f in
+          let na : IsNode v a = map_node v map is.first x h a ea in
+          let nb : IsNode v b = map_node v r is.known x h b eb in
+          trans_iff (iff_of_same _ _ (k.grows.same_ends b t y nb))
+          (trans_iff ((is.each x h at).joint_ends a b ea eb t y l)
+          (joins_grow left x a next (λ m u. ends v m u y) (λ m u. ends w m u y) is.few is.second na (λ m u n. k.grows.same_ends m u y n) t));
+    };
   }
 
   pub joints_grow : (memo : Memo) → KeepJoints v j memo → KeepJoints w j memo
-  joints_grow memo keep = record { each = λ call r e. joint_grow call.first (map_id call.second) (map_id call.third) (map_id r) (keep.each call r e) }
+  joints_grow memo keep = record { each = λ call r e. joint_grow call.first anywhere (map_id call.second) (map_id call.third) (map_id r) (keep.each call r e) }
 
 pub joints_learnt : (w : World) (j : Joint) (old new : Memo) (call : Call) (map : MapId) → KeepJoints w j old
     → IsJoint w j call.first (map_id call.second) (map_id call.third) map → Learns old new call map.0 → KeepJoints w j new
@@ -127,17 +129,19 @@ joint_ended v w k j map next r node has also all is known = record {
   first = has_nodes-extends v w k map has;
   second = has_nodes-extends v w k next also;
   known = known;
-  joint_fails = λ x a b h e f t X.
-      let na : IsNode v a = map_node v map has x h a (value_was v w k map has x _ e) in
-      trans_iff (iff_of_same _ _ (ap (λ n. fails w n t X) (sym (next_is x b f))))
-      (trans_iff (is.followed.follow_fails t X)
-      (or_iff (iff_of_same _ _ (ap (λ n. fails v n t X) (node_is x a h e) ∙ sym (k.grows.same_fails a t X na)))
-      (continued x a na (node_is x a h e) (λ m u. fails v m u X) (λ m u. fails w m u X) (λ m u n. k.grows.same_fails m u X n) t)));
-  joint_ends = λ x a b h e f t y l.
-      let na : IsNode v a = map_node v map has x h a (value_was v w k map has x _ e) in
-      trans_iff (iff_of_same _ _ (ap (λ n. ends w n t y) (sym (next_is x b f))))
-      (trans_iff (is.followed.follow_ends t y l)
-      (continued x a na (node_is x a h e) (λ m u. ends v m u y) (λ m u. ends w m u y) (λ m u n. k.grows.same_ends m u y n) t));
+  each = λ x h at. record {
+    joint_fails = λ a b e f t X.
+        let na : IsNode v a = map_node v map has x h a (value_was v w k map has x _ e) in
+        trans_iff (iff_of_same _ _ (ap (λ n. fails w n t X) (sym (next_is x b f))))
+        (trans_iff (is.followed.follow_fails t X)
+        (or_iff (iff_of_same _ _ (ap (λ n. fails v n t X) (node_is x a h e) ∙ sym (k.grows.same_fails a t X na)))
+        (continued x a na (node_is x a h e) (λ m u. fails v m u X) (λ m u. fails w m u X) (λ m u n. k.grows.same_fails m u X n) t)));
+    joint_ends = λ a b e f t y l.
+        let na : IsNode v a = map_node v map has x h a (value_was v w k map has x _ e) in
+        trans_iff (iff_of_same _ _ (ap (λ n. ends w n t y) (sym (next_is x b f))))
+        (trans_iff (is.followed.follow_ends t y l)
+        (continued x a na (node_is x a h e) (λ m u. ends v m u y) (λ m u. ends w m u y) (λ m u n. k.grows.same_ends m u y n) t));
+  };
 }
   where
     next_is : (x : ℕ) (b : NodeId) → value w.maps r x ≡ Some b → is.next ≡ b
@@ -208,53 +212,46 @@ module _ (w : World) (j : Joint) (bit : ℕ) (few : bit < 64) where
     },
   )
 
-  -- one side of the bit
-  module _ (d x : ℕ) (h : x < 2 ^ 64) (is_d : bit_at x bit ≡ d) (map next part next_part side : MapId) (a b : NodeId)
-      (is : IsStepped w j bit d next next_part) (joint : IsJoint w j bit part next_part side)
-      (ea : value w.maps part x ≡ Some a) (eb : value w.maps side x ≡ Some b) where
-    side_fails : (t : List Event) (X : Event → Bool) → (fails w b t X ≡ true) ↔ ((fails w a t X ≡ true) ⊎ Joins w j (suc bit) x a next (λ m u. fails w m u X) t)
-    side_fails t X = trans_iff (joint.joint_fails x a b h ea eb t X)
-        (or_iff (iff_of_same _ _ refl) (joins_more x d is_d a next next_part is (λ m u. fails w m u X) t))
+  -- one value of the bit
+  pub joint_half : (d : ℕ) (map next part next_part r : MapId) → HasNodes w map → ((x : ℕ) → value w.maps part x ≡ value w.maps map (with_bit x bit d))
+      → IsStepped w j bit d next next_part → IsJoint w j bit part next_part r → IsHalf w j bit d map next r
+  joint_half d map next part next_part r has part_is is joint = record {
+    few = omega (arith, few);
+    first = has;
+    second = is.before;
+    known = joint.known;
+    each = λ x h e.
+        let same : value w.maps part x ≡ value w.maps map x = part_is x ∙ ap (value w.maps map) (with_bit_same x bit d e) in
+        let at = joint.each x h tt in
+        record {
+          joint_fails = λ a b ea eb t X. trans_iff (at.joint_fails a b (same ∙ ea) eb t X) (or_iff (iff_of_same _ _ refl) (joins_more x d e a next next_part is (λ m u. fails w m u X) t));
+          joint_ends = λ a b ea eb t y l. trans_iff (at.joint_ends a b (same ∙ ea) eb t y l) (joins_more x d e a next next_part is (λ m u. ends w m u y) t);
+        };
+  }
 
-    side_ends : (t : List Event) (y : ℕ) → y < 2 ^ 64 → (ends w b t y ≡ true) ↔ Joins w j (suc bit) x a next (λ m u. ends w m u y) t
-    side_ends t y l = trans_iff (joint.joint_ends x a b h ea eb t y l) (joins_more x d is_d a next next_part is (λ m u. ends w m u y) t)
-
-  -- both sides
-  module _ (map next zero_part one_part zero_next one_next low high made : MapId)
-      (zero_is : (x : ℕ) → value w.maps zero_part x ≡ value w.maps map (with_bit x bit 0)) (one_is : (x : ℕ) → value w.maps one_part x ≡ value w.maps map (with_bit x bit 1))
-      (to_zero : IsStepped w j bit 0 next zero_next) (to_one : IsStepped w j bit 1 next one_next)
-      (is_low : IsJoint w j bit zero_part zero_next low) (is_high : IsJoint w j bit one_part one_next high)
-      (has : HasNodes w map) (known : HasNodes w made)
-      (made_is : (x : ℕ) → value w.maps made x ≡ cond (bit_at x bit == 1) (value w.maps high x) (value w.maps low x)) where
-    low_at : (x : ℕ) (a b : NodeId) → bit_at x bit ≡ 0 → value w.maps map x ≡ Some a → value w.maps made x ≡ Some b → (value w.maps zero_part x ≡ Some a) × (value w.maps low x ≡ Some b)
-    low_at x a b e ea eb = (
-      zero_is x ∙ ap (value w.maps map) (with_bit_same x bit 0 e) ∙ ea,
-      sym (cond-false (bit_at x bit == 1) (value w.maps high x) (value w.maps low x) (is_zero x bit e)) ∙ sym (made_is x) ∙ eb,
-    )
-
-    high_at : (x : ℕ) (a b : NodeId) → bit_at x bit ≡ 1 → value w.maps map x ≡ Some a → value w.maps made x ≡ Some b → (value w.maps one_part x ≡ Some a) × (value w.maps high x ≡ Some b)
-    high_at x a b e ea eb = (
-      one_is x ∙ ap (value w.maps map) (with_bit_same x bit 1 e) ∙ ea,
-      sym (cond-true (bit_at x bit == 1) (value w.maps high x) (value w.maps low x) (is_one x bit e)) ∙ sym (made_is x) ∙ eb,
-    )
-
-    pub joint_more : IsJoint w j (suc bit) map next made
-    joint_more = record {
-      few = omega (arith, few);
-      first = has;
-      second = to_zero.before;
-      known = known;
-      joint_fails = λ x a b h ea eb t X. ⊎_elim
-          (λ (e : bit_at x bit ≡ 0). let at = low_at x a b e ea eb in side_fails 0 x h e map next zero_part zero_next low a b to_zero is_low at.0 at.1 t X)
-          (λ (e : bit_at x bit ≡ 1). let at = high_at x a b e ea eb in side_fails 1 x h e map next one_part one_next high a b to_one is_high at.0 at.1 t X)
-          (bit_cases x bit);
-      joint_ends = λ x a b h ea eb t y l. ⊎_elim
-          (λ (e : bit_at x bit ≡ 0). let at = low_at x a b e ea eb in side_ends 0 x h e map next zero_part zero_next low a b to_zero is_low at.0 at.1 t y l)
-          (λ (e : bit_at x bit ≡ 1). let at = high_at x a b e ea eb in side_ends 1 x h e map next one_part one_next high a b to_one is_high at.0 at.1 t y l)
-          (bit_cases x bit);
-    }
+  -- both values
+  pub joint_more : (map next low high made : MapId) → IsHalf w j bit 0 map next low → IsHalf w j bit 1 map next high → HasNodes w made
+      → ((x : ℕ) → value w.maps made x ≡ cond (bit_at x bit == 1) (value w.maps high x) (value w.maps low x)) → IsJoint w j (suc bit) map next made
+  joint_more map next low high made is_low is_high known made_is = record {
+    few = is_low.few;
+    first = is_low.first;
+    second = is_low.second;
+    known = known;
+    each = λ x h at. ⊎_elim
+        (λ (e : bit_at x bit ≡ 0).
+        let same = made_is x ∙ cond-false (bit_at x bit == 1) (value w.maps high x) (value w.maps low x) (is_zero x bit e) in
+        subst (IsJointAt w j (suc bit) x (value w.maps map x) next) (sym same) (is_low.each x h e))
+        (λ (e : bit_at x bit ≡ 1).
+        let same = made_is x ∙ cond-true (bit_at x bit == 1) (value w.maps high x) (value w.maps low x) (is_one x bit e) in
+        subst (IsJointAt w j (suc bit) x (value w.maps map x) next) (sym same) (is_high.each x h e))
+        (bit_cases x bit);
+  }
 
 -- ---- the bits of a map that is split on one
+pub digit_lt : (b : Bool) → digit b < 2
+digit_lt true = omega arith
+digit_lt false = omega arith
+
 pub over_part : (v w : World) → Extends v w → (n bit d : ℕ) (map r : MapId) → n ≡ suc bit → bit < 64 → d < 2 → IsOver v n map → IsMap w.maps r (λ x. value v.maps map (with_bit x bit d)) → HasNodes w r → IsOver w bit r
 over_part v w k n bit d map r e few small over is has = record {
   has = has;

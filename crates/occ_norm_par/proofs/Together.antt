@@ -1,5 +1,5 @@
 -- Parts of a PAR side by side, half by half.
-use Rattle.std.proofs.Common.{◌≡◌, ℕ, zero, suc, ◌+◌, ◌-◌, ◌<◌, ◌≤◌, ◌||◌, ◌==◌, ◌%◌, ◌^◌, ◌⊎◌, max, min, cond, Bool, true, false, List, [], ◌∷◌, length, get_or, take, drop, ⊎_elim, refl, sym, ap, ◌∙◌, subst, arith}
+use Rattle.std.proofs.Common.{◌≡◌, ℕ, zero, suc, ◌+◌, ◌-◌, ◌<◌, ◌≤◌, ◌||◌, ◌==◌, ◌%◌, max, min, cond, Bool, true, false, List, [], ◌∷◌, length, get_or, take, drop, ⊎_elim, refl, sym, ap, ◌∙◌, subst, arith}
 use Rattle.std.specs.List.{All}
 use Rattle.std.specs.Int.{bit_at}
 use Rattle.std.specs.Int.Bits.{bit_or}
@@ -25,14 +25,15 @@ use Rattle.occ_syntax.specs.Types.{all_types_kept, types_kept}
 use Rattle.occ_syntax.specs.Usage.{AreSeparate, IsSeparate}
 use Rattle.occ_syntax.specs.View.{tree, trees}
 use Rattle.occ_syntax.specs.declared.proc.Proc.{Proc, Skip}
-use Rattle.occ_syntax.specs.declared.scope.Kind.{Kind}
 use Rattle.occ_weave.specs.Weave.{IsJoined as IsOfBoth, is_open}
 use Rattle.occ_norm_ending.specs.Alone.{IsPart, except}
-use Rattle.occ_norm_frame.specs.Placed.{IsAround, IsFrame}
+use Rattle.occ_norm_frame.specs.Placed.{IsAround}
+use Rattle.occ_norm_frame.specs.declared.frame.Frame.{Frame}
 use Rattle.occ_meaning.proofs.Parts.{all_of_beside, beside_all_of}
 use Rattle.occ_meaning.specs.Parallel.{all_of}
 use Rattle.occ_norm_par.specs.Sides.{AreWritten, bits_in, closed_in, crossing}
 use Rattle.occ_norm_par.specs.Joined.{AreBoth, AreOfParts, HaveNodes, IsJoined, IsSpread, WriteEach, no_map}
+use Rattle.occ_norm_par.specs.declared.parallel.Sides.{Sides}
 use Rattle.occ_norm_par.specs.declared.users.Users.{Users}
 use Rattle.occ_norm_ending.proofs.Alone.{alone_later, except_bit}
 use Rattle.occ_norm_par.proofs.Writing.{bits_both, written_in}
@@ -196,12 +197,16 @@ bits_one writes place =
     alone a b e = omega (arith, e)
 
 -- one part alone
-pub joined_one : (vars : List (Name × Kind)) (layout : List (Name × Width × ℕ)) (all : ℕ) (users : List Users) (writes : List ℕ) (place : ℕ) (ps : List Proc) (maps : List MapId) (w : World)
-    → length ps ≡ 1 → IsJoined vars layout all users writes place ps maps w w (get_or maps 0 no_map)
-joined_one vars layout all users writes place ps maps w one = record {
-  joined = λ Γ around types separate spread each parts.
+pub joined_one : (sides : Sides) (place : ℕ) (maps : List MapId) (w : World) → length maps ≡ 1 → IsJoined sides place maps w w (get_or maps 0 no_map)
+joined_one sides place maps w single = record {
+  joined = λ frame Γ ps even around types separate spread each parts.
+      let layout = frame.layout in
+      let all = sides.all in
+      let users = sides.users.items in
+      let writes = sides.writes.items in
       let m = get_or maps 0 no_map in
       let p = get_or ps 0 Skip in
+      let one : length ps ≡ 1 = sym even ∙ single in
       let here : PartAt layout all users writes Γ w (place + 0) p m = parts 0 (omega (arith, one)) in
       let low : place + 0 ≡ place = omega arith in
       let count : 1 ≡ length ps = sym one in
@@ -214,18 +219,20 @@ joined_one vars layout all users writes place ps maps w one = record {
 }
 
 -- ---- other worlds
-module _ (vars : List (Name × Kind)) (layout : List (Name × Width × ℕ)) (all : ℕ) (users : List Users) (writes : List ℕ) (place : ℕ) (ps : List Proc) (maps : List MapId) where
+module _ (sides : Sides) (place : ℕ) (maps : List MapId) where
   -- the map in a later world
-  pub joined_later : (u v w : World) → Extends v w → (r : MapId) → HasNodes v r → IsJoined vars layout all users writes place ps maps u v r → IsJoined vars layout all users writes place ps maps u w r
+  joined_later : (u v w : World) → Extends v w → (r : MapId) → HasNodes v r → IsJoined sides place maps u v r → IsJoined sides place maps u w r
   joined_later u v w grow r has is = record {
-    joined = λ Γ around types separate spread each parts.
-        alone_later v w grow r has layout all (except all (bits_in writes place (length ps))) (closed_in place (place + length ps) users) Γ (par (trees ps)) (is.joined Γ around types separate spread each parts);
+    joined = λ frame Γ ps even around types separate spread each parts.
+        alone_later v w grow r has frame.layout sides.all (except sides.all (bits_in sides.writes.items place (length ps))) (closed_in place (place + length ps) sides.users.items) Γ (par (trees ps))
+        (is.joined frame Γ ps even around types separate spread each parts);
   }
 
   -- the maps of the parts in an earlier world
-  pub joined_from : (u v w : World) → Extends u v → (r : MapId) → length maps ≡ length ps → HaveNodes u maps → IsJoined vars layout all users writes place ps maps v w r → IsJoined vars layout all users writes place ps maps u w r
-  joined_from u v w grow r even have is = record {
-    joined = λ Γ around types separate spread each parts. is.joined Γ around types separate spread each (parts_later layout all users writes Γ u v grow place ps maps even have parts);
+  joined_from : (u v w : World) → Extends u v → (r : MapId) → HaveNodes u maps → IsJoined sides place maps v w r → IsJoined sides place maps u w r
+  joined_from u v w grow r have is = record {
+    joined = λ frame Γ ps even around types separate spread each parts. is.joined frame Γ ps even around types separate spread each
+        (parts_later frame.layout sides.all sides.users.items sides.writes.items Γ u v grow place ps maps even have parts);
   }
 
 -- the bits that two halves don't write, by halves
@@ -244,33 +251,47 @@ kept_halves all a b both are i l =
     first c a b e h = ap (λ n. (c + min c n) % 2) (omega (arith, e, h))
 
 -- two neighbours side by side
-module _ (vars : List (Name × Kind)) (layout : List (Name × Width × ℕ)) (bits : ℕ) (frame : IsFrame vars layout bits) (all : ℕ) (users : List Users) (writes : List ℕ) (place k : ℕ) (ps : List Proc) (maps : List MapId)
-    (low : k ≤ length ps) (u v w : World) (grow1 : Extends u v) (grow2 : Extends v w) (r1 r2 r : MapId) (has1 : HasNodes v r1) (has2 : HasNodes v r2)
-    (join1 : IsJoined vars layout all users writes place (take k ps) (take k maps) u v r1) (join2 : IsJoined vars layout all users writes (place + k) (drop k ps) (drop k maps) u v r2)
-    (are : AreBoth users writes place k (place + length ps) r1 r2 w r) where
-  abbrev first : Trees
-  first = trees (take k ps)
+module _ (sides : Sides) (place k : ℕ) (maps : List MapId) (low : k ≤ length maps) (u v w : World) (grow1 : Extends u v) (grow2 : Extends v w) (r1 r2 r : MapId) (has1 : HasNodes v r1) (has2 : HasNodes v r2)
+    (join1 : IsJoined sides place (take k maps) u v r1) (join2 : IsJoined sides (place + k) (drop k maps) u v r2)
+    (are : AreBoth sides (record { low = place; count = k; high = place + length maps }) r1 r2 w r) where
+  abbrev all : ℕ
+  all = sides.all
 
-  abbrev second : Trees
-  second = trees (drop k ps)
+  abbrev users : List Users
+  users = sides.users.items
 
-  abbrev closed : List Name
-  closed = closed_in place (place + length ps) users
+  abbrev writes : List ℕ
+  writes = sides.writes.items
 
-  abbrev sole : List Name
-  sole = closed_in place (place + k) users
+  module _ (frame : Frame) (Γ : Environment) (ps : List Proc) (even : length maps ≡ length ps) (around : IsAround Γ frame.vars) (types : all_types_kept (trees ps) Γ ≡ true) (separate : AreSeparate (trees ps))
+      (spread : All (IsSpread place (trees ps)) users) (each : WriteEach frame.layout writes place ps) (parts : AreOfParts u frame.layout all users writes Γ place ps maps) where
+    abbrev layout : List (Name × Width × ℕ)
+    layout = frame.layout
 
-  abbrev behind : List Name
-  behind = closed_in (place + k) (place + length ps) users
+    abbrev first : Trees
+    first = trees (take k ps)
 
-  first_length : length (take k ps) ≡ k
-  first_length = length-take-le k ps low
+    abbrev second : Trees
+    second = trees (drop k ps)
 
-  second_length : length (drop k ps) ≡ length ps - k
-  second_length = length-drop k ps
+    abbrev closed : List Name
+    closed = closed_in place (place + length ps) users
 
-  module _ (Γ : Environment) (around : IsAround Γ vars) (types : all_types_kept (trees ps) Γ ≡ true) (separate : AreSeparate (trees ps)) (spread : All (IsSpread place (trees ps)) users) (each : WriteEach layout writes place ps)
-      (parts : AreOfParts u layout all users writes Γ place ps maps) where
+    abbrev sole : List Name
+    sole = closed_in place (place + k) users
+
+    abbrev behind : List Name
+    behind = closed_in (place + k) (place + length ps) users
+
+    fewer : k ≤ length ps
+    fewer = omega (arith, low, even)
+
+    first_length : length (take k ps) ≡ k
+    first_length = length-take-le k ps fewer
+
+    second_length : length (drop k ps) ≡ length ps - k
+    second_length = length-drop k ps
+
     apart : AreSeparate (all_of first second)
     apart = subst AreSeparate (trees_halves k ps) separate
 
@@ -288,20 +309,21 @@ module _ (vars : List (Name × Kind)) (layout : List (Name × Width × ℕ)) (bi
 
     part1 : IsPart v layout all (except all mine) sole Γ (par first) r1
     part1 = subst (λ (n : ℕ). IsPart v layout all (except all (bits_in writes place n)) (closed_in place (place + n) users) Γ (par first) r1) first_length
-        (join1.joined Γ around (types_taken Γ ps k types) (separate_first first second apart) spread1 (each_taken layout writes place k ps low each) (parts_taken layout all users writes Γ u place k ps maps low parts))
+        (join1.joined frame Γ (take k ps) (length-take-le k maps low ∙ sym first_length) around (types_taken Γ ps k types) (separate_first first second apart) spread1 (each_taken layout writes place k ps fewer each) (parts_taken layout all users writes Γ u place k ps maps fewer parts))
 
     part2 : IsPart v layout all (except all theirs) behind Γ (par second) r2
     part2 =
-        let high : place + k + length (drop k ps) ≡ place + length ps = omega (arith, second_length, low) in
+        let high : place + k + length (drop k ps) ≡ place + length ps = omega (arith, second_length, fewer) in
         subst (λ (n : ℕ). IsPart v layout all (except all (bits_in writes (place + k) n)) behind Γ (par second) r2) second_length
         (subst (λ (n : ℕ). IsPart v layout all (except all (bits_in writes (place + k) (length (drop k ps)))) (closed_in (place + k) n users) Γ (par second) r2) high
-        (join2.joined Γ around (types_dropped Γ ps k types) (separate_second first second apart) spread2 (each_dropped layout writes place k ps low each) (parts_dropped layout all users writes Γ u place k ps maps low parts)))
+        (join2.joined frame Γ (drop k ps) (length-drop k maps ∙ ap (λ n. n - k) even ∙ sym second_length) around (types_dropped Γ ps k types) (separate_second first second apart) spread2
+        (each_dropped layout writes place k ps fewer each) (parts_dropped layout all users writes Γ u place k ps maps fewer parts)))
 
     written_first : AreWritten layout (par first) mine
-    written_first = subst (λ (n : ℕ). AreWritten layout (par first) (bits_in writes place n)) first_length (written_in layout writes place (take k ps) (each_taken layout writes place k ps low each))
+    written_first = subst (λ (n : ℕ). AreWritten layout (par first) (bits_in writes place n)) first_length (written_in layout writes place (take k ps) (each_taken layout writes place k ps fewer each))
 
     whole_bits : (i : ℕ) → bit_at (bits_in writes place (length ps)) i ≡ max (bit_at mine i) (bit_at theirs i)
-    whole_bits i = let e : length ps ≡ k + (length ps - k) = omega (arith, low) in ap (λ n. bit_at (bits_in writes place n) i) e ∙ bits_both writes place k (length ps - k) i
+    whole_bits i = let e : length ps ≡ k + (length ps - k) = omega (arith, fewer) in ap (λ n. bit_at (bits_in writes place n) i) e ∙ bits_both writes place k (length ps - k) i
 
     sole_off : (e : Event) → is_open sole e ≡ false → (d : Dir) → end_in_some second e.chan.0 d ≡ false
     sole_off e h d = some_end second e.chan.0 (first_off second users place (place + k) e spread2 h) d
@@ -315,58 +337,51 @@ module _ (vars : List (Name × Kind)) (layout : List (Name × Width × ℕ)) (bi
     out : (s : Values) (t : Trace) (o : Outcome) → (meaning (par (trees ps))).does Γ s t o → Together (meaning (par first)) (meaning (par second)) Γ s t o
     out s t o d = (all_of_beside Γ first second).gives s t o (subst (λ (qs : Trees). (meaning (par qs)).does Γ s t o) (trees_halves k ps) d)
 
+    beside : AreBoth sides (record { low = place; count = k; high = place + length ps }) r1 r2 w r
+    beside = subst (λ (n : ℕ). AreBoth sides (record { low = place; count = k; high = place + n }) r1 r2 w r) even are
+
     both : IsPart w layout all (except all (bits_in writes place (length ps))) closed Γ (par (trees ps)) r
-    both = beside_alone vars layout bits frame Γ around (par first) (par second) (types_taken Γ ps k types) (types_dropped Γ ps k types)
-        closed sole (crossing place (place + k) (place + length ps) users) behind (open_halves place (place + k) (place + length ps) (omega arith) (omega (arith, low)) users) sole_off behind_off
-        w all (except all mine) (except all theirs) (except all (bits_in writes place (length ps))) mine are.small (kept_halves all mine theirs (bits_in writes place (length ps)) whole_bits)
+    both = beside_alone frame.vars layout frame.bits frame.kept Γ around (par first) (par second) (types_taken Γ ps k types) (types_dropped Γ ps k types)
+        closed sole (crossing place (place + k) (place + length ps) users) behind (open_halves place (place + k) (place + length ps) (omega arith) (omega (arith, fewer)) users) sole_off behind_off
+        w all (except all mine) (except all theirs) (except all (bits_in writes place (length ps))) mine beside.small (kept_halves all mine theirs (bits_in writes place (length ps)) whole_bits)
         written_first (separate_halves first second apart) r1 r2
         (alone_later v w grow2 r1 has1 layout all (except all mine) sole Γ (par first) part1)
         (alone_later v w grow2 r2 has2 layout all (except all theirs) behind Γ (par second) part2)
         (par (trees ps)) into out
-        r (has_nodes-extends v w grow2 r1 has1) (has_nodes-extends v w grow2 r2 has2) are.lifts
+        r (has_nodes-extends v w grow2 r1 has1) (has_nodes-extends v w grow2 r2 has2) beside.lifts
 
-  pub joined_halves : IsJoined vars layout all users writes place ps maps u w r
+  joined_halves : IsJoined sides place maps u w r
   joined_halves = record { joined = both }
 
-module _ (vars : List (Name × Kind)) (layout : List (Name × Width × ℕ)) (bits : ℕ) (frame : IsFrame vars layout bits) (all : ℕ) (users : List Users) (writes : List ℕ) where
-  -- the two halves, of which the first was made before the other
-  pub halves_joined : (place k : ℕ) (ps : List Proc) (maps : List MapId) → k ≤ length ps → length maps ≡ length ps → (u v1 v2 w : World) → Extends u v1 → Extends v1 v2 → Extends v2 w → HaveNodes u maps
-      → (r1 r2 r : MapId) → HasNodes v1 r1 → HasNodes v2 r2 → IsJoined vars layout all users writes place (take k ps) (take k maps) u v1 r1 → IsJoined vars layout all users writes (place + k) (drop k ps) (drop k maps) v1 v2 r2
-      → AreBoth users writes place k (place + length ps) r1 r2 w r → IsJoined vars layout all users writes place ps maps u w r
-  halves_joined place k ps maps low even u v1 v2 w g1 g2 g3 have r1 r2 r has1 has2 join1 join2 are =
-      let dropped : length (drop k maps) ≡ length (drop k ps) = length-drop k maps ∙ ap (λ n. n - k) even ∙ sym (length-drop k ps) in
-      joined_halves vars layout bits frame all users writes place k ps maps low u v2 w (extends_trans u v1 v2 g1 g2) g3 r1 r2 r (has_nodes-extends v1 v2 g2 r1 has1) has2
-      (joined_later vars layout all users writes place (take k ps) (take k maps) u v1 v2 g2 r1 has1 join1)
-      (joined_from vars layout all users writes (place + k) (drop k ps) (drop k maps) u v1 v2 g1 r2 dropped (nodes_dropped u k maps have) join2)
-      are
+-- the two halves, of which the first was made before the other
+pub halves_joined : (sides : Sides) (place k : ℕ) (maps : List MapId) → k ≤ length maps → (u v1 v2 w : World) → Extends u v1 → Extends v1 v2 → Extends v2 w → HaveNodes u maps
+    → (r1 r2 r : MapId) → HasNodes v1 r1 → HasNodes v2 r2 → IsJoined sides place (take k maps) u v1 r1 → IsJoined sides (place + k) (drop k maps) v1 v2 r2
+    → AreBoth sides (record { low = place; count = k; high = place + length maps }) r1 r2 w r → IsJoined sides place maps u w r
+halves_joined sides place k maps low u v1 v2 w g1 g2 g3 have r1 r2 r has1 has2 join1 join2 are =
+    joined_halves sides place k maps low u v2 w (extends_trans u v1 v2 g1 g2) g3 r1 r2 r (has_nodes-extends v1 v2 g2 r1 has1) has2
+    (joined_later sides place (take k maps) u v1 v2 g2 r1 has1 join1)
+    (joined_from sides (place + k) (drop k maps) u v1 v2 g1 r2 (nodes_dropped u k maps have) join2)
+    are
 
-  -- a row in front of what is joined already
-  pub row_joined : (s e : ℕ) (parts : List Proc) (maps : List MapId) → s < e → e ≤ length parts → length maps ≡ length parts → (u v w x : World) → Extends u v → Extends v w → Extends w x → HaveNodes u maps
-      → (r1 others r : MapId) → HasNodes w r1 → HasNodes v others → IsJoined vars layout all users writes s (take (e - s) (drop s parts)) (take (e - s) (drop s maps)) v w r1 → IsJoined vars layout all users writes e (drop e parts) (drop e maps) u v others
-      → AreBoth users writes s (e - s) (length parts) r1 others x r → IsJoined vars layout all users writes s (drop s parts) (drop s maps) u x r
-  row_joined s e parts maps se ep even u v w x g0 g1 g2 have r1 others r has1 has2 join1 join2 are =
-      let k = e - s in
-      let ps = drop s parts in
-      let ms = drop s maps in
-      let left : length ps ≡ length parts - s = length-drop s parts in
-      let left_maps : length ms ≡ length maps - s = length-drop s maps in
-      let low : k ≤ length ps = omega (arith, left, se, ep) in
-      let low_maps : k ≤ length ms = omega (arith, left_maps, even, se, ep) in
-      let back : s + k ≡ e = omega (arith, se) in
-      let high : length parts ≡ s + length ps = omega (arith, left, se, ep) in
-      let taken : length (take k ms) ≡ length (take k ps) = length-take-le k ms low_maps ∙ sym (length-take-le k ps low) in
-      let behind : drop k ps ≡ drop e parts = drop_twice s k parts ∙ ap (λ n. drop n parts) back in
-      let behind_maps : drop k ms ≡ drop e maps = drop_twice s k maps ∙ ap (λ n. drop n maps) back in
-      let second : IsJoined vars layout all users writes (s + k) (drop k ps) (drop k ms) u v others =
-      subst (λ (n : ℕ). IsJoined vars layout all users writes n (drop k ps) (drop k ms) u v others) (sym back)
-      (subst (λ (qs : List Proc). IsJoined vars layout all users writes e qs (drop k ms) u v others) (sym behind)
-      (subst (λ (qs : List MapId). IsJoined vars layout all users writes e (drop e parts) qs u v others) (sym behind_maps) join2)) in
-      joined_halves vars layout bits frame all users writes s k ps ms low u w x (extends_trans u v w g0 g1) g2 r1 others r has1 (has_nodes-extends v w g1 others has2)
-      (joined_from vars layout all users writes s (take k ps) (take k ms) u v w g0 r1 taken (nodes_taken u k ms (nodes_dropped u s maps have)) join1)
-      (joined_later vars layout all users writes (s + k) (drop k ps) (drop k ms) u v w g1 others has2 second)
-      (subst (λ (n : ℕ). AreBoth users writes s k n r1 others x r) high are)
+-- a row in front of what is joined already
+pub row_joined : (sides : Sides) (s e : ℕ) (maps : List MapId) → s < e → e ≤ length maps → (u v w x : World) → Extends u v → Extends v w → Extends w x → HaveNodes u maps
+    → (r1 others r : MapId) → HasNodes w r1 → HasNodes v others → IsJoined sides s (take (e - s) (drop s maps)) v w r1 → IsJoined sides e (drop e maps) u v others
+    → AreBoth sides (record { low = s; count = e - s; high = length maps }) r1 others x r → IsJoined sides s (drop s maps) u x r
+row_joined sides s e maps se em u v w x g0 g1 g2 have r1 others r has1 has2 join1 join2 are =
+    let k = e - s in
+    let ms = drop s maps in
+    let left : length ms ≡ length maps - s = length-drop s maps in
+    let low : k ≤ length ms = omega (arith, left, se, em) in
+    let back : s + k ≡ e = omega (arith, se) in
+    let high : length maps ≡ s + length ms = omega (arith, left, se, em) in
+    let behind : drop k ms ≡ drop e maps = drop_twice s k maps ∙ ap (λ n. drop n maps) back in
+    let second : IsJoined sides (s + k) (drop k ms) u v others =
+    subst (λ (n : ℕ). IsJoined sides n (drop k ms) u v others) (sym back) (subst (λ (qs : List MapId). IsJoined sides e qs u v others) (sym behind) join2) in
+    joined_halves sides s k ms low u w x (extends_trans u v w g0 g1) g2 r1 others r has1 (has_nodes-extends v w g1 others has2)
+    (joined_from sides s (take k ms) u v w g0 r1 (nodes_taken u k ms (nodes_dropped u s maps have)) join1)
+    (joined_later sides (s + k) (drop k ms) u v w g1 others has2 second)
+    (subst (λ (n : ℕ). AreBoth sides (record { low = s; count = k; high = n }) r1 others x r) high are)
 
 -- all parts
-pub all_joined : (vars : List (Name × Kind)) (layout : List (Name × Width × ℕ)) (all : ℕ) (users : List Users) (writes : List ℕ) (s : ℕ) (parts : List Proc) (maps : List MapId) (u w : World) (r : MapId) → s ≡ 0
-    → IsJoined vars layout all users writes s (drop s parts) (drop s maps) u w r → IsJoined vars layout all users writes 0 parts maps u w r
-all_joined vars layout all users writes s parts maps u w r none is = subst (λ (n : ℕ). IsJoined vars layout all users writes n (drop n parts) (drop n maps) u w r) none is
+pub all_joined : (sides : Sides) (s : ℕ) (maps : List MapId) (u w : World) (r : MapId) → s ≡ 0 → IsJoined sides s (drop s maps) u w r → IsJoined sides 0 maps u w r
+all_joined sides s maps u w r none is = subst (λ (n : ℕ). IsJoined sides n (drop n maps) u w r) none is

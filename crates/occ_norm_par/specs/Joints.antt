@@ -1,6 +1,6 @@
 -- Maps of processes that say the values of what they write, with what follows them, where the states have been split on all
 -- bits from some bit on.
-use Rattle.std.specs.Prelude.{ℕ, zero, suc, ◌<◌, ◌≤◌, ◌≡◌, ◌^◌, ◌==◌, ◌↔◌, ◌⊎◌, ◌++◌, Bool, true, List, Some, bit_or, if◌then◌else◌}
+use Rattle.std.specs.Prelude.{ℕ, zero, suc, ◌<◌, ◌≤◌, ◌≡◌, ◌^◌, ◌==◌, ◌↔◌, ◌⊎◌, ◌++◌, Bool, true, List, Option, Some, bit_or, if◌then◌else◌}
 use Rattle.std.specs.Int.{bit_at}
 use Rattle.occ_base.specs.declared.event.Event.{Event}
 use Rattle.occ_diagram.specs.Assignment.{with_bit}
@@ -44,16 +44,31 @@ pub record Joins (w : World) (joint : Joint) (left x : ℕ) (a : NodeId) (next :
   pub leads : value w.maps next (image joint left x z) ≡ Some m
   pub behaved : behaves m t2 ≡ true
 
--- at each state the node of r is that of the map, and then what follows
-pub record IsJoint (w : World) (joint : Joint) (left : ℕ) (map next r : MapId) : Type 0 where
+-- from a state x the node `to` is the node `from`, and then what follows
+pub record IsJointAt (w : World) (joint : Joint) (left x : ℕ) (from : Option NodeId) (next : MapId) (to : Option NodeId) : Type 0 where
+  pub joint_fails : (a b : NodeId) → from ≡ Some a → to ≡ Some b → (t : List Event) (X : Event → Bool)
+      → (fails w b t X ≡ true) ↔ ((fails w a t X ≡ true) ⊎ Joins w joint left x a next (λ m u. fails w m u X) t)
+  pub joint_ends : (a b : NodeId) → from ≡ Some a → to ≡ Some b → (t : List Event) (y : ℕ) → y < 2 ^ 64
+      → (ends w b t y ≡ true) ↔ Joins w joint left x a next (λ m u. ends w m u y) t
+
+-- at each of some states the node of r is that of the map, and then what follows
+pub record IsJointWhere (w : World) (joint : Joint) (left : ℕ) (here : ℕ → Type 0) (map next r : MapId) : Type 0 where
   pub few : left ≤ 64
   pub first : HasNodes w map
   pub second : HasNodes w next
   pub known : HasNodes w r
-  pub joint_fails : (x : ℕ) (a b : NodeId) → x < 2 ^ 64 → value w.maps map x ≡ Some a → value w.maps r x ≡ Some b → (t : List Event) (X : Event → Bool)
-      → (fails w b t X ≡ true) ↔ ((fails w a t X ≡ true) ⊎ Joins w joint left x a next (λ m u. fails w m u X) t)
-  pub joint_ends : (x : ℕ) (a b : NodeId) → x < 2 ^ 64 → value w.maps map x ≡ Some a → value w.maps r x ≡ Some b → (t : List Event) (y : ℕ) → y < 2 ^ 64
-      → (ends w b t y ≡ true) ↔ Joins w joint left x a next (λ m u. ends w m u y) t
+  pub each : (x : ℕ) → x < 2 ^ 64 → here x → IsJointAt w joint left x (value w.maps map x) next (value w.maps r x)
+
+abbrev pub anywhere : ℕ → Type 0
+anywhere x = Unit {0}
+
+-- at each state
+abbrev pub IsJoint : World → Joint → ℕ → MapId → MapId → MapId → Type 0
+IsJoint w joint left map next r = IsJointWhere w joint left anywhere map next r
+
+-- at the states in which a bit has a value
+abbrev pub IsHalf : World → Joint → ℕ → ℕ → MapId → MapId → MapId → Type 0
+IsHalf w joint bit d map next r = IsJointWhere w joint (suc bit) (λ x. bit_at x bit ≡ d) map next r
 
 -- that, once no bit is left, whatever bits are written and needed
 abbrev pub AreJoint : World → MapId → MapId → MapId → Type 0

@@ -6,6 +6,5 @@ mod joint;
 mod parallel;
 mod users;
 
-pub use joint::sequel;
-pub use parallel::{Sides, joined, side_frame, written_bits};
+pub use parallel::{Sides, side_frame, written_bits};
 pub use users::Users;

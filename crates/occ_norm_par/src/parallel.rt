@@ -1,22 +1,16 @@
-ghost use Rattle.std.specs.Prelude.{◌≡◌, ℕ, ◌+◌, ◌^◌, ◌≤◌, ◌<◌, true, Some, drop, get_or, length, slice_get, bit_or, if◌then◌else◌, IfOk};
+ghost use Rattle.std.specs.Prelude.{◌≡◌, ℕ, ◌+◌, ◌^◌, ◌≤◌, ◌<◌, get_or, length, bit_or, if◌then◌else◌, IfOk};
 ghost use Rattle.std.specs.Int.{bit_at};
 ghost use Rattle.occ_bits.specs.Layout.{IsLayout};
 ghost use Rattle.occ_follow.specs.Sequence.{HasNodes};
 ghost use Rattle.occ_norm_maps.specs.Maps.{Extends};
-ghost use Rattle.occ_syntax.specs.Scopes.{Environment};
-ghost use Rattle.occ_syntax.specs.Tree.{par};
-ghost use Rattle.occ_syntax.specs.Types.{all_types_kept};
-ghost use Rattle.occ_syntax.specs.Usage.{AllKeepUsage, AreSeparate};
 ghost use Rattle.occ_syntax.specs.View.{numbers, tree, trees};
-ghost use Rattle.occ_norm_frame.specs.After.{IsOver, WritesWithin};
+ghost use Rattle.occ_norm_frame.specs.After.{IsOver};
 ghost use Rattle.occ_norm_ending.specs.Alone.{except};
 ghost use Rattle.occ_norm_frame.specs.Changes.{IsSupport};
-ghost use Rattle.occ_norm_frame.specs.Placed.{IsAround};
 ghost use Rattle.occ_norm_par.specs.Sides.{AllWritten, AreUsers, AreWritten, bits_in, closed_in};
 ghost use Rattle.occ_norm_par.specs.Joined.{AreBoth, HaveNodes, IsJoined};
 ghost use Rattle.occ_norm_par.specs.Spans.{covers, is_of};
 ghost use Rattle.occ_base.specs.Width.{bits_of};
-ghost use Rattle.occ_syntax.specs.Names.{is_in};
 
 use crate::users::{Users, crossing, row_start, users_of, within};
 use occ_base::{Memory, Name, Width};
@@ -29,10 +23,19 @@ use occ_norm_maps::woven;
 use occ_syntax::Proc;
 use std::alloc::Global;
 
+// Places of parts in a row: so many from `low` on, and those behind them in front of `high`.
+#[derive(Clone, Copy)]
+struct Split {
+    low: usize,
+    count: usize,
+    high: usize,
+}
+
 /// What the parts of a PAR have in common: the bits that matter to what follows, the bits that matter to that or outside, the
 /// bits that each part writes, those that some part writes, and who uses the closed channels.
 #[derive(Drop)]
 pub struct Sides {
+    pub alloc: Global,
     pub needed: u64,
     pub all: u64,
     pub writes: Vec<u64>,
@@ -63,12 +66,86 @@ impl Sides {
         let written = bits_in(writes.as_slice(), 0, parts.len());
         let users = users_of(alloc, parts, frame.closed.as_slice())?;
         Ok(Sides {
+            alloc,
             needed,
             all,
             writes,
             written,
             users,
         })
+    }
+
+    // Two neighbours side by side: the map of the parts of the first places, and that of the others.
+    fn both(
+        &self,
+        world: &mut World,
+        split: Split,
+        first: MapId,
+        others: MapId,
+    ) -> Result<MapId, Memory>
+        requires first { HasNodes world.old first }
+        requires others { HasNodes world.old others }
+        requires places { split.low + split.count ≤ length self.now.writes.items }
+        ensures extends { Extends world.old world.new }
+        ensures nodes { IfOk result (HasNodes world.new) }
+        ensures both { IfOk result (AreBoth self.now split first others world.new) }
+    {
+        let Split { low, count, high } = split;
+        let bits = bits_in(self.writes.as_slice(), low, count);
+        let closed = crossing(self.alloc, self.users.as_slice(), low, low + count, high)?;
+        woven(self.alloc, world, bits, closed.as_slice(), first, others)
+    }
+
+    // Parts side by side, by the map of each, where the first of them stands in that place. The two halves are put side by side,
+    // and so are theirs.
+    fn halves(&self, world: &mut World, place: usize, maps: &[MapId]) -> Result<MapId, Memory>
+        requires some { 1 ≤ length maps.now }
+        requires places { place + length maps.now ≤ length self.now.writes.items }
+        requires nodes { HaveNodes world.old maps.now }
+        ensures extends { Extends world.old world.new }
+        ensures nodes { IfOk result (HasNodes world.new) }
+        ensures joined { IfOk result (IsJoined self.now place maps.now world.old world.new) }
+    {
+        if maps.len() == 1 {
+            return Ok(maps[0]);
+        }
+        let half = maps.len() / 2;
+        let first = self.halves(world, place, &maps[..half])?;
+        let others = self.halves(world, place + half, &maps[half..])?;
+        let split = Split {
+            low: place,
+            count: half,
+            high: place + maps.len(),
+        };
+        self.both(world, split, first, others)
+    }
+
+    /// The parts of a PAR side by side, by the map of each. Parts that stand in a row and share a channel each with the next are
+    /// put side by side half by half, and what comes of that is put beside what stands behind it: so that channels are closed
+    /// soon, and the parts of a chain meet each other while they are small.
+    pub fn joined(&self, world: &mut World, maps: &[MapId]) -> Result<MapId, Memory>
+        requires some { 1 ≤ length maps.now }
+        requires writes { length self.now.writes.items ≡ length maps.now }
+        requires nodes { HaveNodes world.old maps.now }
+        ensures extends { Extends world.old world.new }
+        ensures nodes { IfOk result (HasNodes world.new) }
+        ensures joined { IfOk result (IsJoined self.now 0 maps.now world.old world.new) }
+    {
+        let count = maps.len();
+        let mut start = row_start(self.users.as_slice(), count);
+        let mut map = self.halves(world, start, &maps[start..])?;
+        while start > 0 {
+            let end = start;
+            start = row_start(self.users.as_slice(), end);
+            let first = self.halves(world, start, &maps[start..end])?;
+            let split = Split {
+                low: start,
+                count: end - start,
+                high: count,
+            };
+            map = self.both(world, split, first, map)?;
+        }
+        Ok(map)
     }
 }
 
@@ -91,19 +168,12 @@ pub fn side_frame(
     frame.with(alloc, keep, closed)
 }
 
-// Whether a name is among some.
-fn has_name(names: &[Name], name: Name) -> bool
-    ensures { result ≡ is_in (numbers names.now) name.0 }
-{
-    names.contains(&name)
-}
-
 // The bits of a variable, if its name is among some.
 fn entry_bits(entry: &(Name, Width, u32), names: &[Name]) -> u64
     requires { entry.now.2 + bits_of entry.now.1 ≤ 64 }
     ensures { (k : ℕ) → k < 64 → bit_at result k ≡ (if is_of (numbers names.now) k entry.now then 1 else 0) }
 {
-    let named = has_name(names, entry.0);
+    let named = names.contains(&entry.0);
     if !named {
         return 0;
     }
@@ -154,122 +224,4 @@ fn bits_in(writes: &[u64], place: usize, count: usize) -> u64
         bits |= writes[place + next];
     }
     bits
-}
-
-// Two neighbours among parts of a PAR, of which the first stands in place `low`.
-fn both(
-    alloc: Global,
-    world: &mut World,
-    sides: &Sides,
-    low: usize,
-    count: usize,
-    high: usize,
-    first: MapId,
-    others: MapId,
-) -> Result<MapId, Memory>
-    requires first { HasNodes world.old first }
-    requires others { HasNodes world.old others }
-    requires places { low + count ≤ length sides.now.writes.items }
-    ensures extends { Extends world.old world.new }
-    ensures nodes { IfOk result (HasNodes world.new) }
-    ensures both { IfOk result (AreBoth sides.now.users.items sides.now.writes.items low count high first others world.new) }
-{
-    let bits = bits_in(sides.writes.as_slice(), low, count);
-    let closed = crossing(alloc, sides.users.as_slice(), low, low + count, high)?;
-    let both = woven(alloc, world, bits, closed.as_slice(), first, others)?;
-    Ok(both)
-}
-
-// The map of parts of a PAR side by side, by the map of each, where the first of them stands in that place. The two halves
-// are put side by side, and so are theirs.
-#[cycle(halves)]
-fn halves(
-    alloc: Global,
-    world: &mut World,
-    frame: &Frame,
-    sides: &Sides,
-    place: usize,
-    parts: &[Proc],
-    maps: &[MapId],
-) -> Result<MapId, Memory>
-    requires some { 1 ≤ length parts.now }
-    requires places { place + length parts.now ≤ length sides.now.writes.items }
-    requires maps { length maps.now ≡ length parts.now }
-    requires nodes { HaveNodes world.old maps.now }
-    ensures extends { Extends world.old world.new }
-    ensures nodes { IfOk result (HasNodes world.new) }
-    ensures joined { IfOk result (IsJoined frame.now.vars frame.now.layout sides.now.all sides.now.users.items sides.now.writes.items place parts.now maps.now world.old world.new) }
-{
-    if parts.len() == 1 {
-        return Ok(maps[0]);
-    }
-    let half = parts.len() / 2;
-    let first = halves(
-        alloc,
-        world,
-        frame,
-        sides,
-        place,
-        &parts[..half],
-        &maps[..half],
-    )?;
-    let others = halves(
-        alloc,
-        world,
-        frame,
-        sides,
-        place + half,
-        &parts[half..],
-        &maps[half..],
-    )?;
-    let high = place + parts.len();
-    both(alloc, world, sides, place, half, high, first, others)
-}
-
-/// The map of the parts of a PAR side by side, by the map of each. Parts that stand in a row and share a channel each with
-/// the next are put side by side half by half, and what comes of that is put beside what stands behind it: so that channels
-/// are closed soon, and the parts of a chain meet each other while they are small.
-pub fn joined(
-    alloc: Global,
-    world: &mut World,
-    frame: &Frame,
-    sides: &Sides,
-    parts: &[Proc],
-    maps: &[MapId],
-) -> Result<MapId, Memory>
-    requires some { 1 ≤ length parts.now }
-    requires writes { length sides.now.writes.items ≡ length parts.now }
-    requires maps { length maps.now ≡ length parts.now }
-    requires nodes { HaveNodes world.old maps.now }
-    ensures extends { Extends world.old world.new }
-    ensures nodes { IfOk result (HasNodes world.new) }
-    ensures joined { IfOk result (IsJoined frame.now.vars frame.now.layout sides.now.all sides.now.users.items sides.now.writes.items 0 parts.now maps.now world.old world.new) }
-{
-    let count = parts.len();
-    let mut start = row_start(sides.users.as_slice(), count);
-    let mut map = halves(
-        alloc,
-        world,
-        frame,
-        sides,
-        start,
-        &parts[start..],
-        &maps[start..],
-    )?;
-    while start > 0 {
-        let end = start;
-        start = row_start(sides.users.as_slice(), end);
-        let first = halves(
-            alloc,
-            world,
-            frame,
-            sides,
-            start,
-            &parts[start..end],
-            &maps[start..end],
-        )?;
-        let size = end - start;
-        map = both(alloc, world, sides, start, size, count, first, map)?;
-    }
-    Ok(map)
 }

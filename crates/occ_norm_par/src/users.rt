@@ -145,7 +145,8 @@ fn is_crossing(user: &Users, mid: usize) -> bool
 }
 
 fn is_across(user: &Users, low: usize, mid: usize, high: usize) -> bool
-    ensures { result ≡ ((nat_le low user.now.first && nat_lt user.now.last high) && (not (nat_le mid user.now.first) && not (nat_lt user.now.last mid))) }
+    ensures { result ≡ ((nat_le low user.now.first && nat_lt user.now.last high)
+        && (not (nat_le mid user.now.first) && not (nat_lt user.now.last mid))) }
 {
     is_within(user, low, high) && is_crossing(user, mid)
 }

@@ -1,5 +1,5 @@
 -- Maps from lists of states.
-use Rattle.std.proofs.Common.{◌≡◌, ◌<◌, ◌≤◌, ◌^◌, ◌+◌, ◌*◌, ◌%◌, ◌-◌, ◌↔◌, ◌++◌, ◌==◌, ℕ, true, cond, List, [], ◌∷◌, Some, None, length, length-append, slice_get, sym, ap, ◌∙◌, subst, arith, ⊎_elim, mod-lt, pow_pos}
+use Rattle.std.proofs.Common.{◌≡◌, ◌<◌, ◌≤◌, ◌^◌, ◌+◌, ◌*◌, ◌%◌, ◌-◌, ◌↔◌, ◌++◌, ◌==◌, ℕ, true, cond, List, [], ◌∷◌, Some, length, length-append, slice_get, sym, ap, ◌∙◌, subst, arith, ⊎_elim, mod-lt, pow_pos}
 use Rattle.std.proofs.Math.Nat.{one-mul, zero-add, zero-mul}
 use Rattle.std.proofs.lemmas.Nat.{mod-pow-add}
 use Rattle.std.specs.Int.{bit_at}
@@ -37,9 +37,6 @@ use Rattle.occ_syntax.specs.Types.{types_kept}
 use Rattle.occ_syntax.specs.declared.scope.Kind.{Kind}
 use Rattle.occ_norm_transfer.proofs.Listing.{got_more, got_within}
 use Rattle.occ_norm_transfer.specs.Lists.{AreLed, AreStates, IsLaid, IsListed, IsSpread, StaySame, at, change_at}
-
-pub never_none : (w : World) (map : MapId) → HasNodes w map → (x : ℕ) → x < 2 ^ 64 → value w.maps map x ≡ None → ⊥
-never_none w map has x h e = let found = has.nodes x h in let f : Some found.0 ≡ None = sym found.1 ∙ e in cc
 
 -- a node as the world grows
 pub leads-extends : (v w : World) → Extends v w → (map : MapId) → HasNodes v map → (to change : ℕ) (a : NodeId) → Leads v map to change a → Leads w map to change a

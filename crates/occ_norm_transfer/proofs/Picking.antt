@@ -5,7 +5,7 @@ use Rattle.std.proofs.lemmas.Bool.{cases_eq}
 use Rattle.occ_dd.specs.Store.{has}
 use Rattle.occ_dd.specs.declared.set.SetId.{SetId}
 use Rattle.occ_dd.specs.declared.store.Store.{Store}
-use Rattle.occ_norm_transfer.specs.Lists.{ArePicked, at}
+use Rattle.occ_norm_transfer.specs.Lists.{at}
 
 -- below a place the list has the states of another list where `before` leads into the set, and is as it was at first
 pub record ArePickedTo (s : Store) (members : SetId) (before there old : List ℕ) (place : ℕ) (now : List ℕ) : Type 0 where

@@ -1,6 +1,5 @@
 ghost use Rattle.std.specs.Prelude.{ℕ, ◌≡◌, ◌≤◌, ◌+◌, ◌^◌, Some, IfOk, length, slice_get};
 ghost use Rattle.occ_follow.specs.Sequence.{HasNodes};
-ghost use Rattle.occ_mdd.specs.Maps.{value};
 ghost use Rattle.occ_node.specs.World.{IsNode};
 ghost use Rattle.occ_node.specs.declared.node.NodeId.{NodeId};
 ghost use Rattle.occ_node.specs.World.{Leads as Goes};
@@ -11,22 +10,10 @@ ghost use Rattle.occ_norm_transfer.specs.Lists.{AreLed, AreStates, IsLaid, IsSpr
 use occ_base::Memory;
 use occ_mdd::MapId;
 use occ_node::{NodeId, World};
-use occ_norm_frame::{Frame, bit_set};
+use occ_norm_frame::{Frame, bit_set, node_at};
 use occ_norm_maps::{choose, constant};
 use occ_scope::{Shifts, shift_with};
 use std::alloc::Global;
-
-// The node that a map has at a state.
-fn node_at(world: &World, map: MapId, state: u64) -> NodeId
-    requires { HasNodes world.now map }
-    ensures there { IsNode world.now result }
-    ensures value { value world.now.maps map state ≡ Some result }
-{
-    match world.maps.get(map, state) {
-        Some(node) => node,
-        None => unreachable!(),
-    }
-}
 
 // A node for each state of a list: what a map has where the state leads, turned by what changes of its bits.
 fn led(

@@ -1,5 +1,4 @@
-ghost use Rattle.std.specs.Prelude.{◌≡◌, ◌≤◌, ◌<◌, true, IfOk, IfSome, length, if◌then◌else◌};
-ghost use Rattle.occ_diagram.specs.Assignment.{with_bit};
+ghost use Rattle.std.specs.Prelude.{◌≡◌, ◌≤◌, IfOk, IfSome, length};
 ghost use Rattle.occ_dd.specs.Store.{IsKnown};
 ghost use Rattle.occ_norm_assign.specs.Writes.{AreWrites};
 ghost use Rattle.occ_norm_assign.specs.Written.{onto};
@@ -13,7 +12,7 @@ use occ_base::Memory;
 use occ_dd::SetId;
 use occ_node::World;
 use occ_norm_assign::{Write, writes_of};
-use occ_norm_frame::{Frame, has_bit, holds, without};
+use occ_norm_frame::{Frame, holds, with_bit, without};
 use occ_syntax::{Expr, Proc};
 use std::alloc::Global;
 
@@ -29,17 +28,6 @@ pub(crate) fn states(alloc: Global, bits: u32) -> Result<Vec<u64>, Memory>
         list.push(state)?;
     }
     Ok(list)
-}
-
-// A state with a bit made 1 or 0.
-fn with_bit(state: u64, bit: u32, one: bool) -> u64
-    requires { bit < 64 }
-    ensures { result ≡ with_bit state bit (if one then 1 else 0) }
-{
-    if has_bit(state, bit) == one {
-        return state;
-    }
-    state ^ (1 << bit)
 }
 
 // The state that writes make of a state.

@@ -2,7 +2,7 @@ use Rattle.occ_syntax.specs.Tree.{seq, par, select, alt, assign, skip, stop, no_
 use Rattle.occ_syntax.specs.Types.{branches_kept, is_condition, types_kept, waiting_kept}
 use Rattle.occ_meaning.proofs.Facts.{and_four}
 use Rattle.occ_norm_alt.specs.Alternation.{IsAlternation}
-use Rattle.occ_norm_alt.proofs.Alternatives.{alternation_grow}
+use Rattle.occ_norm_alt.proofs.Alternatives.{alternation_grow, held-extends}
 use Rattle.occ_syntax.specs.Usage.{KeepsUsage}
 use Rattle.occ_syntax.specs.View.{numbers, exp, exps, tree, trees, cases, branches, waiting}
 use Rattle.occ_syntax.proofs.Views.{tree-Seq, tree-Par, tree-If, tree-Alt}
@@ -13,7 +13,7 @@ use Rattle.occ_dd.proofs.Callers.{known-keeps}
 use Rattle.occ_mdd.specs.Maps.{value}
 use Rattle.occ_bits.specs.Layout.{environment_in, state_of}
 use Rattle.occ_syntax.specs.Eval.{is_true}
-use Rattle.occ_norm_reached.specs.States.{AreBetween, AreStates, EndsIn, set_at}
+use Rattle.occ_norm_reached.specs.States.{AreStates, EndsIn, set_at}
 use Rattle.occ_norm_reached.proofs.Freeing.{both_states, condition_states, states-keeps}
 use Rattle.occ_norm_reached.proofs.Leaving.{left-keeps}
 use Rattle.occ_norm_reached.proofs.Reaching.{between-keeps, other_default, part_between}
@@ -24,7 +24,6 @@ use Rattle.occ_norm_frame.proofs.Placing.{branch_at, branch_condition, branch_wa
 use Rattle.std.proofs.Common.{true, false, not, ◌-◌, ◌≡◌, ◌≤◌, ◌<◌, ◌+◌, [], ◌∷◌, cond, drop, take, length, get_or, sym, ap, ◌∙◌, subst, arith}
 use Rattle.std.proofs.lemmas.Bool.{and_from}
 use Rattle.occ_norm_maps.proofs.Worlds.{extends_trans, has_nodes-extends}
-use Rattle.occ_norm.specs.Parts.{IsAfterIn}
 use Rattle.occ_norm.proofs.Declaring.{bits_grow, opens_next}
 use Rattle.occ_norm.proofs.Opening.{after_from, freed_after}
 use Rattle.occ_norm.proofs.Freeing.{freed_over}
@@ -104,11 +103,11 @@ front-returns-clause-front t c =
     let w = c.freed.new.world in
     let from = c.args.span.from in
     let vw = extends_trans c.args.world.now v w c.undeclared.ensures.extends c.freed.ensures.extends in
-    let over = over-extends c.args.world.now w vw frame.bits c.args.span.rest c.requires.rest in
+    let over = over-extends c.args.world.now w vw frame.bits c.args.span.rest c.requires.span.rest_over in
     let nodes = has_nodes-extends v w c.freed.ensures.extends c.in_ok-map.map c.in_ok-map.ensures.over.has in
-    let rest_nodes = has_nodes-extends c.args.world.now v c.undeclared.ensures.extends c.args.span.rest c.requires.rest.has in
-    let states = states-keeps c.args.world.now.store w.store vw.grows.stored frame.bits from c.requires.from in
-    let here = front_later v w c.freed.ensures.extends inner.vars inner.layout inner.keep inner.closed.items from (known-keeps c.args.world.now.store v.store c.undeclared.ensures.extends.grows.stored from c.requires.from.known)
+    let rest_nodes = has_nodes-extends c.args.world.now v c.undeclared.ensures.extends c.args.span.rest c.requires.span.rest_over.has in
+    let states = states-keeps c.args.world.now.store w.store vw.grows.stored frame.bits from c.requires.span.states in
+    let here = front_later v w c.freed.ensures.extends inner.vars inner.layout inner.keep inner.closed.items from (known-keeps c.args.world.now.store v.store c.undeclared.ensures.extends.grows.stored from c.requires.span.states.known)
     (tree c.loop-name.body.now) c.args.span.rest c.in_ok-map.map rest_nodes c.in_ok-map.ensures.over.has c.in_ok-map.ensures.front in
     let kept = subst (λ k. IsAfterFromIn w inner.vars inner.layout k inner.closed.items (has w.store from) (tree c.loop-name.body.now) c.args.span.rest c.in_ok-map.map) c.loop-name.invariant.keep here in
     let bits = inner.kept.bits_are in
@@ -129,7 +128,7 @@ in_turn-loop-left-init t c =
     let w = c.states_between.new.world in
     let rest = c.args.span.rest in
     let sets = c.in_ok-sets.sets.items in
-    let over = over-extends v w c.states_between.ensures.extends frame.bits rest c.requires.rest in
+    let over = over-extends v w c.states_between.ensures.extends frame.bits rest c.requires.span.rest_over in
     let none = none_in w frame.vars frame.layout frame.bits frame.keep frame.closed.items frame.kept frame.inside rest over in
     let last = has w.store (set_at sets (length c.args.parts.now)) in
     record {
@@ -172,7 +171,7 @@ in_turn-loop-left-preserved-in-Some t c =
     let ps = trees (drop left parts) in
     let over = over-extends u w c.straight.ensures.extends frame.bits next c.in_ok-rest.ensures.over in
     let fits = seq_fits frame.vars qs (fit_from frame.vars (take left parts) start (fit_before frame.vars parts left c.requires.parts)) in
-    let rest_nodes = has_nodes-extends c.args.world.now v c.loop-left.invariant.extends c.args.span.rest c.requires.rest.has in
+    let rest_nodes = has_nodes-extends c.args.world.now v c.loop-left.invariant.extends c.args.span.rest c.requires.span.rest_over.has in
     let between = between-keeps v.store w.store vw.grows.stored frame.vars frame.layout frame.bits c.args.span.from parts sets c.loop-left.invariant.between in
     let count = between.count in
     let known : (i : ℕ) → i < length sets → IsKnown v.store (set_at sets i) = λ i h. (c.loop-left.invariant.between.states i h).known in
@@ -204,11 +203,11 @@ in_turn-front-requires t c =
         fit_at frame.vars c.args.parts.now (c.loop-left.left - 1) c.index-parts-left.result c.requires.parts lt c.index-parts-left.is,
         (
           usage_at c.args.parts.now (c.loop-left.left - 1) c.index-parts-left.result c.requires.usage lt c.index-parts-left.is,
-          (
-            states-keeps c.loop-left.world.store c.straight.new.world.store grow.grows.stored frame.bits c.index-from.result.now
-                (subst (AreStates c.loop-left.world.store frame.bits) (sym (c.index-from.ensures ∙ other_default sets (c.loop-left.left - 1) c.index-from.result.now (record { 0 = 0 }) here)) (c.loop-left.invariant.between.states (c.loop-left.left - 1) here)),
-            over-extends c.limited.new.world c.straight.new.world c.straight.ensures.extends frame.bits c.in_ok-rest.rest c.in_ok-rest.ensures.over,
-          ),
+          record {
+            states = states-keeps c.loop-left.world.store c.straight.new.world.store grow.grows.stored frame.bits c.index-from.result.now
+                (subst (AreStates c.loop-left.world.store frame.bits) (sym (c.index-from.ensures ∙ other_default sets (c.loop-left.left - 1) c.index-from.result.now (record { 0 = 0 }) here)) (c.loop-left.invariant.between.states (c.loop-left.left - 1) here));
+            rest_over = over-extends c.limited.new.world c.straight.new.world c.straight.ensures.extends frame.bits c.in_ok-rest.rest c.in_ok-rest.ensures.over;
+          },
         ),
       ),
     )
@@ -231,7 +230,7 @@ in_turn-loop-left-preserved t c =
     let part = c.index-parts-left.result in
     let sets = c.in_ok-sets.sets.items in
     let over = over-extends u w uw frame.bits rest c.in_ok-rest.ensures.over in
-    let rest_nodes = has_nodes-extends c.args.world.now v c.loop-left.invariant.extends c.args.span.rest c.requires.rest.has in
+    let rest_nodes = has_nodes-extends c.args.world.now v c.loop-left.invariant.extends c.args.span.rest c.requires.span.rest_over.has in
     let between = between-keeps v.store w.store vw.grows.stored frame.vars frame.layout frame.bits c.args.span.from c.args.parts.now sets c.loop-left.invariant.between in
     let count = between.count in
     let known : (i : ℕ) → i < length sets → IsKnown v.store (set_at sets i) = λ i h. (c.loop-left.invariant.between.states i h).known in
@@ -312,10 +311,10 @@ first_choice-front-requires t c =
         case_at frame.vars c.args.choices.now (c.loop-left.left - 1) item c.requires.choices lt c.index-choices-left.is,
         (
           case_usage_at c.args.choices.now (c.loop-left.left - 1) item c.requires.usage lt c.index-choices-left.is,
-          (
-            both_states u.store w.store frame.bits c.index.result.now c.in_ok-set.set c.in_ok-from.from left test c.in_ok-from.ensures.set,
-            over-extends c.args.world.now w (extends_trans c.args.world.now v w c.loop-left.invariant.extends vw) frame.bits c.args.span.rest c.requires.rest,
-          ),
+          record {
+            states = both_states u.store w.store frame.bits c.index.result.now c.in_ok-set.set c.in_ok-from.from left test c.in_ok-from.ensures.set;
+            rest_over = over-extends c.args.world.now w (extends_trans c.args.world.now v w c.loop-left.invariant.extends vw) frame.bits c.args.span.rest c.requires.span.rest_over;
+          },
         ),
       ),
     )
@@ -359,7 +358,7 @@ first_choice-loop-left-preserved t c =
     let over_chosen = over-extends f w c.choose.ensures.extends frame.bits chosen c.in_ok-chosen.ensures.over in
     let over_old = over-extends v w vw frame.bits old c.loop-left.invariant.over in
     let nodes = c.in_ok-next.ensures.nodes c.in_ok-chosen.ensures.over.has (over-extends v f vf frame.bits old c.loop-left.invariant.over).has in
-    let rest_v = has_nodes-extends c.args.world.now v c.loop-left.invariant.extends rest c.requires.rest.has in
+    let rest_v = has_nodes-extends c.args.world.now v c.loop-left.invariant.extends rest c.requires.span.rest_over.has in
     let rest_f = has_nodes-extends v f vf rest rest_v in
     let states = left-keeps v.store w.store vw.grows.stored frame.layout frame.bits c.args.span.from choices sets c.loop-left.invariant.states in
     let count = states.count in
@@ -410,7 +409,7 @@ first_choice-returns-clause-front t c =
 -- ---- a part by its form
 pub undeclared-assigned-requires-clause-pairs : goal.undeclared-assigned-requires-clause-pairs
 unfolding tree
-undeclared-assigned-requires-clause-pairs t c = fits_assign c.args.frame.now.vars c.args.frame.now.layout c.args.frame.now.bits c.args.frame.now.kept _ _ _ c.requires.part (ap tree c.in-Assign.is ∙ (λ i. assign (numbers (sym c.items.ensures i)) (exps (sym c.items-in-Assign.ensures i))))
+undeclared-assigned-requires-clause-pairs t c = fits_assign c.args.frame.now.vars c.args.frame.now.layout c.args.frame.now.bits c.args.frame.now.kept _ _ _ c.requires.part (ap tree c.in-Assign.is ∙ (λ i. assign (numbers (sym c.items-vars.ensures i)) (exps (sym c.items-values.ensures i))))
 
 pub undeclared-input-requires-clause-var : goal.undeclared-input-requires-clause-var
 unfolding tree
@@ -422,24 +421,24 @@ undeclared-output-requires-clause-value t c = fits_send c.args.frame.now.vars c.
 
 pub undeclared-in_turn-requires : goal.undeclared-in_turn-requires
 undeclared-in_turn-requires t c =
-    let e = (ap tree c.in-Seq.is ∙ tree-Seq c.in-Seq.parts ∙ ap (λ ps. seq (trees ps)) (sym c.items-in-Seq.ensures)) in
-    (omega (arith, weight-seq _ _ e, c.decreases), (fits_seq _ _ _ c.requires.part e, (subst KeepsUsage e c.requires.usage, (c.requires.from, c.requires.rest))))
+    let e = (ap tree c.in-Seq.is ∙ tree-Seq c.in-Seq.parts ∙ ap (λ ps. seq (trees ps)) (sym c.items.ensures)) in
+    (omega (arith, weight-seq _ _ e, c.decreases), (fits_seq _ _ _ c.requires.part e, (subst KeepsUsage e c.requires.usage, c.requires.span)))
 
 pub undeclared-at_once-requires : goal.undeclared-at_once-requires
 undeclared-at_once-requires t c =
     let e = (ap tree c.in-Par.is ∙ tree-Par c.in-Par.parts ∙ ap (λ ps. par (trees ps)) (sym c.items-in-Par.ensures)) in
     let usage = subst KeepsUsage e c.requires.usage in
-    (omega (arith, weight-par _ _ e, c.decreases), (fits_par _ _ _ c.requires.part e, (usage.0, (usage.1, c.requires.rest))))
+    (omega (arith, weight-par _ _ e, c.decreases), (fits_par _ _ _ c.requires.part e, (usage.0, (usage.1, c.requires.span.rest_over))))
 
 pub undeclared-first_choice-requires : goal.undeclared-first_choice-requires
 undeclared-first_choice-requires t c =
     let e = (ap tree c.in-If.is ∙ tree-If c.in-If.choices ∙ ap (λ ps. select (cases ps)) (sym c.items-in-If.ensures)) in
-    (omega (arith, weight-select _ _ e, c.decreases), (fits_select _ _ _ c.requires.part e, (subst KeepsUsage e c.requires.usage, (c.requires.from, c.requires.rest))))
+    (omega (arith, weight-select _ _ e, c.decreases), (fits_select _ _ _ c.requires.part e, (subst KeepsUsage e c.requires.usage, c.requires.span)))
 
 pub undeclared-alternated-requires : goal.undeclared-alternated-requires
 undeclared-alternated-requires t c =
     let e = (ap tree c.in-Alt.is ∙ tree-Alt c.in-Alt.alternatives ∙ ap (λ ps. alt (branches ps)) (sym c.items-in-Alt.ensures)) in
-    (omega (arith, weight-alt _ _ e, c.decreases), (fits_alt _ _ _ c.requires.part e, (subst KeepsUsage e c.requires.usage, c.requires.rest)))
+    (omega (arith, weight-alt _ _ e, c.decreases), (fits_alt _ _ _ c.requires.part e, (subst KeepsUsage e c.requires.usage, c.requires.span.rest_over)))
 
 -- ---- ALT
 pub alternated-after-requires : goal.alternated-after-requires
@@ -458,8 +457,11 @@ alternated-after-requires t c =
 pub alternated-holds-requires : goal.alternated-holds-requires
 alternated-holds-requires t c = branch_condition c.args.frame.now.vars c.args.frame.now.layout c.args.frame.now.bits c.args.frame.now.kept c.args.alternatives.now (c.loop-left.left - 1) c.index-alternatives-left.result c.requires.alternatives (omega (arith, c.loop-left.invariant.below, c.loop-left-test.true)) c.index-alternatives-left.is
 
-pub alternated-and-requires-clause-waiting : goal.alternated-and-requires-clause-waiting
-alternated-and-requires-clause-waiting t c = has_nodes-extends c.loop-left.world c.holds.new.world (extends_trans c.loop-left.world c.after.new.world c.holds.new.world c.after.ensures.extends c.holds.ensures.extends) c.loop-left.alternation.waiting c.loop-left.invariant.waiting
+pub alternated-and-requires-clause-maps : goal.alternated-and-requires-clause-maps
+alternated-and-requires-clause-maps t c =
+    let v = c.loop-left.world in
+    let w = c.holds.new.world in
+    held-extends v w (extends_trans v c.after.new.world w c.after.ensures.extends c.holds.ensures.extends) c.loop-left.alternation.waiting c.loop-left.alternation.ready c.loop-left.invariant.maps
 
 pub alternated-and-requires-clause-wait : goal.alternated-and-requires-clause-wait
 alternated-and-requires-clause-wait t c = branch_wait c.args.frame.now.vars c.args.frame.now.layout c.args.frame.now.bits c.args.frame.now.kept c.args.alternatives.now (c.loop-left.left - 1) c.index-alternatives-left.result c.requires.alternatives (omega (arith, c.loop-left.invariant.below, c.loop-left-test.true)) c.index-alternatives-left.is
@@ -477,8 +479,7 @@ alternated-and-requires-clause-next t c =
 pub alternated-loop-left-init : goal.alternated-loop-left-init
 alternated-loop-left-init t c = record {
   extends = c.none.ensures.extends;
-  waiting = c.in_ok-alternation.ensures.waiting;
-  ready = c.in_ok-alternation.ensures.ready;
+  maps = c.in_ok-alternation.ensures.maps;
   below = omega arith;
   alternation = λ Γ around kept. subst (λ bs. IsAlternation c.none.new.world c.args.frame.now.layout c.args.frame.now.keep c.args.frame.now.closed.items Γ (branches bs) c.args.rest c.in_ok-alternation.alternation.waiting c.in_ok-alternation.alternation.ready)
       (sym (dropped_all c.args.alternatives.now)) (c.in_ok-alternation.ensures.none c.args.frame.now.layout c.args.frame.now.keep c.args.frame.now.closed.items Γ c.args.rest);
@@ -502,8 +503,7 @@ alternated-loop-left-preserved t c =
     let bs = branches (drop c.loop-left.left c.args.alternatives.now) in
     record {
       extends = extends_trans c.args.world.now v w c.loop-left.invariant.extends vw;
-      waiting = c.in_ok-more.ensures.waiting;
-      ready = c.in_ok-more.ensures.ready;
+      maps = c.in_ok-more.ensures.maps;
       below = omega (arith, c.loop-left.invariant.below);
       alternation = λ Γ around kept.
           let types = and_four (is_condition Γ (exp item.0.condition)) (waiting_kept Γ (waiting item.0.wait)) (types_kept (tree item.1) Γ) (branches_kept bs Γ) (sym (ap (λ b. branches_kept b Γ) left_is) ∙ kept) in
@@ -511,7 +511,7 @@ alternated-loop-left-preserved t c =
           (c.in_ok-more.ensures.and Γ bs (exp item.0.condition) (tree item.1) c.args.rest around types.1
           (λ x h. c.in_ok-enabled.ensures.set.members x ∙ truth_here frame.vars frame.layout frame.bits frame.kept Γ around (exp item.0.condition) _)
           rest_u
-          (alternation_grow v u vu frame.layout frame.keep frame.closed.items Γ bs c.args.rest old.waiting old.ready c.loop-left.invariant.waiting c.loop-left.invariant.ready (c.loop-left.invariant.alternation Γ around types.3))
+          (alternation_grow v u vu frame.layout frame.keep frame.closed.items Γ bs c.args.rest old.waiting old.ready c.loop-left.invariant.maps (c.loop-left.invariant.alternation Γ around types.3))
           (after-extends a u c.holds.ensures.extends frame.layout frame.keep frame.closed.items Γ (tree item.1) c.args.rest c.in_ok-next.next rest_a.has c.in_ok-next.ensures.nodes (c.in_ok-next.ensures.after Γ around types.2)));
     }
 
@@ -532,7 +532,7 @@ undeclared-returns-in-Skip-clause-front t c =
     let w = c.args.world.now in
     let rest = c.args.span.rest in
     some_in w frame.vars frame.layout frame.keep frame.closed.items (has w.store c.args.span.from) (tree c.args.part.now) rest rest
-    (as_is _ _ _ _ _ _ skip _ _ (ap tree c.in-Skip.is) (skip_in w frame.vars frame.layout frame.bits frame.keep frame.closed.items frame.kept frame.inside rest c.requires.rest))
+    (as_is _ _ _ _ _ _ skip _ _ (ap tree c.in-Skip.is) (skip_in w frame.vars frame.layout frame.bits frame.keep frame.closed.items frame.kept frame.inside rest c.requires.span.rest_over))
 
 pub undeclared-returns-in-Stop-clause-over : goal.undeclared-returns-in-Stop-clause-over
 undeclared-returns-in-Stop-clause-over t c =
@@ -551,9 +551,9 @@ unfolding tree
 undeclared-returns-in-Assign-clause-over t c =
     let frame = c.args.frame.now in
     let w = c.assigned.new.world in
-    let e = (ap tree c.in-Assign.is ∙ (λ i. assign (numbers (sym c.items.ensures i)) (exps (sym c.items-in-Assign.ensures i)))) in
+    let e = (ap tree c.in-Assign.is ∙ (λ i. assign (numbers (sym c.items-vars.ensures i)) (exps (sym c.items-values.ensures i)))) in
     form_over w frame.vars frame.layout frame.bits frame.keep frame.closed.items frame.kept frame.inside (tree c.args.part.now) _ c.args.span.rest c.assigned.result e c.requires.part
-    (over-extends c.args.world.now w c.assigned.ensures.extends frame.bits c.args.span.rest c.requires.rest) c.assigned.ensures.nodes
+    (over-extends c.args.world.now w c.assigned.ensures.extends frame.bits c.args.span.rest c.requires.span.rest_over) c.assigned.ensures.nodes
     (if_ok c.assigned.result _ _ (λ r is Γ around types. is Γ around) c.assigned.ensures.after)
 
 pub undeclared-returns-in-Assign-clause-front : goal.undeclared-returns-in-Assign-clause-front
@@ -561,7 +561,7 @@ unfolding tree
 undeclared-returns-in-Assign-clause-front t c =
     let frame = c.args.frame.now in
     let w = c.assigned.new.world in
-    let e = (ap tree c.in-Assign.is ∙ (λ i. assign (numbers (sym c.items.ensures i)) (exps (sym c.items-in-Assign.ensures i)))) in
+    let e = (ap tree c.in-Assign.is ∙ (λ i. assign (numbers (sym c.items-vars.ensures i)) (exps (sym c.items-values.ensures i)))) in
     form_front w frame.vars frame.layout frame.bits frame.keep frame.closed.items frame.kept frame.inside (has w.store c.args.span.from) (tree c.args.part.now) _ c.args.span.rest c.assigned.result e
     (if_ok c.assigned.result _ _ (λ r is Γ around types. is Γ around) c.assigned.ensures.after)
 
@@ -572,7 +572,7 @@ undeclared-returns-in-Input-clause-over t c =
     let w = c.input.new.world in
     let e = ap tree c.in-Input.is in
     form_over w frame.vars frame.layout frame.bits frame.keep frame.closed.items frame.kept frame.inside (tree c.args.part.now) _ c.args.span.rest c.input.result e c.requires.part
-    (over-extends c.args.world.now w c.input.ensures.extends frame.bits c.args.span.rest c.requires.rest) c.input.ensures.nodes c.input.ensures.after
+    (over-extends c.args.world.now w c.input.ensures.extends frame.bits c.args.span.rest c.requires.span.rest_over) c.input.ensures.nodes c.input.ensures.after
 
 pub undeclared-returns-in-Input-clause-front : goal.undeclared-returns-in-Input-clause-front
 unfolding tree
@@ -589,7 +589,7 @@ undeclared-returns-in-Output-clause-over t c =
     let w = c.output.new.world in
     let e = ap tree c.in-Output.is in
     form_over w frame.vars frame.layout frame.bits frame.keep frame.closed.items frame.kept frame.inside (tree c.args.part.now) _ c.args.span.rest c.output.result e c.requires.part
-    (over-extends c.args.world.now w c.output.ensures.extends frame.bits c.args.span.rest c.requires.rest) c.output.ensures.nodes c.output.ensures.after
+    (over-extends c.args.world.now w c.output.ensures.extends frame.bits c.args.span.rest c.requires.span.rest_over) c.output.ensures.nodes c.output.ensures.after
 
 pub undeclared-returns-in-Output-clause-front : goal.undeclared-returns-in-Output-clause-front
 unfolding tree
@@ -605,7 +605,7 @@ undeclared-returns-in-Par-clause-over t c =
     let w = c.at_once.new.world in
     let e = (ap tree c.in-Par.is ∙ tree-Par c.in-Par.parts ∙ ap (λ ps. par (trees ps)) (sym c.items-in-Par.ensures)) in
     form_over w frame.vars frame.layout frame.bits frame.keep frame.closed.items frame.kept frame.inside (tree c.args.part.now) _ c.args.span.rest c.at_once.result e c.requires.part
-    (over-extends c.args.world.now w c.at_once.ensures.extends frame.bits c.args.span.rest c.requires.rest) c.at_once.ensures.nodes c.at_once.ensures.after
+    (over-extends c.args.world.now w c.at_once.ensures.extends frame.bits c.args.span.rest c.requires.span.rest_over) c.at_once.ensures.nodes c.at_once.ensures.after
 
 pub undeclared-returns-in-Par-clause-front : goal.undeclared-returns-in-Par-clause-front
 undeclared-returns-in-Par-clause-front t c =
@@ -620,7 +620,7 @@ undeclared-returns-in-Alt-clause-over t c =
     let w = c.alternated.new.world in
     let e = (ap tree c.in-Alt.is ∙ tree-Alt c.in-Alt.alternatives ∙ ap (λ ps. alt (branches ps)) (sym c.items-in-Alt.ensures)) in
     form_over w frame.vars frame.layout frame.bits frame.keep frame.closed.items frame.kept frame.inside (tree c.args.part.now) _ c.args.span.rest c.alternated.result e c.requires.part
-    (over-extends c.args.world.now w c.alternated.ensures.extends frame.bits c.args.span.rest c.requires.rest) c.alternated.ensures.nodes c.alternated.ensures.after
+    (over-extends c.args.world.now w c.alternated.ensures.extends frame.bits c.args.span.rest c.requires.span.rest_over) c.alternated.ensures.nodes c.alternated.ensures.after
 
 pub undeclared-returns-in-Alt-clause-front : goal.undeclared-returns-in-Alt-clause-front
 undeclared-returns-in-Alt-clause-front t c =
@@ -634,7 +634,7 @@ undeclared-returns-in-Seq-clause-front t c =
     let frame = c.args.frame.now in
     let w = c.in_turn.new.world in
     if_ok c.in_turn.result _ _
-    (λ r is. front_as w frame.vars frame.layout frame.keep frame.closed.items (has w.store c.args.span.from) (tree c.args.part.now) _ c.args.span.rest r (ap tree c.in-Seq.is ∙ tree-Seq c.in-Seq.parts ∙ ap (λ ps. seq (trees ps)) (sym c.items-in-Seq.ensures)) is)
+    (λ r is. front_as w frame.vars frame.layout frame.keep frame.closed.items (has w.store c.args.span.from) (tree c.args.part.now) _ c.args.span.rest r (ap tree c.in-Seq.is ∙ tree-Seq c.in-Seq.parts ∙ ap (λ ps. seq (trees ps)) (sym c.items.ensures)) is)
     c.in_turn.ensures.front
 
 pub undeclared-returns-in-If-clause-front : goal.undeclared-returns-in-If-clause-front
@@ -677,7 +677,10 @@ pub at_once-side_frame-requires-clause-place : goal.at_once-side_frame-requires-
 at_once-side_frame-requires-clause-place t c = let same : length c.in_ok-sides.sides.writes.items ≡ length c.args.parts.now = c.in_ok-sides.ensures.writes.count in omega (arith, same)
 
 pub at_once-joined-requires-clause-writes : goal.at_once-joined-requires-clause-writes
-at_once-joined-requires-clause-writes t c = c.in_ok-sides.ensures.writes.count
+at_once-joined-requires-clause-writes t c =
+    let count : length c.loop-place.maps.items ≡ c.loop-place.place = c.loop-place.invariant.count in
+    let whole : length c.args.parts.now ≡ length c.loop-place.maps.items = omega (arith, count) in
+    c.in_ok-sides.ensures.writes.count ∙ whole ∙ ap length (sym c.as_slice.ensures.value)
 
 pub at_once-loop-place-init : goal.at_once-loop-place-init
 at_once-loop-place-init t c = record {
@@ -758,7 +761,7 @@ at_once-sequel-requires-clause-together t c =
     let m = c.in_ok-map-2.map in
     let all : sides.all < 2 ^ frame.bits = keep_below frame.keep sides.needed sides.all frame.bits frame.inside c.in_ok-sides.ensures.needed.within c.in_ok-sides.ensures.all in
     part_over x frame.vars frame.layout frame.bits frame.kept sides.all (except sides.all (bits_in sides.writes.items 0 (length parts))) all (closed_in 0 (length parts) sides.users.items) c.requires.parts.outer (par (trees parts)) m
-    (parts_after w x frame.vars frame.layout sides.all sides.users.items sides.writes.items c.loop-place.place parts c.loop-place.maps.items c.as_slice.result.now frame.closed.items m c.as_slice.ensures.value (omega arith) c.requires.separate c.in_ok-sides.ensures.users c.in_ok-sides.ensures.writes
+    (parts_after w x frame sides c.loop-place.place parts c.loop-place.maps.items c.as_slice.result.now frame.closed.items m c.as_slice.ensures.value c.loop-place.invariant.count (omega arith) c.requires.separate c.in_ok-sides.ensures.users c.in_ok-sides.ensures.writes
     c.loop-place.invariant.made c.in_ok-map-2.ensures.joined c.requires.parts.outer c.requires.parts.around c.requires.parts.types) c.in_ok-map-2.ensures.nodes
 
 pub at_once-sequel-requires-clause-rest : goal.at_once-sequel-requires-clause-rest
@@ -780,6 +783,6 @@ at_once-returns-clause-after t c =
     (closed_all x frame.layout all (except all sides.written) m Γ parts frame.closed.items sides.users.items c.in_ok-sides.ensures.users types
     (subst (λ b. IsPart x frame.layout all (except all b) (closed_in 0 (length parts) sides.users.items) Γ (par (trees parts)) m) (sym c.in_ok-sides.ensures.written)
     (subst (λ k. IsPart x frame.layout k (except k (bits_in sides.writes.items 0 (length parts))) (closed_in 0 (length parts) sides.users.items) Γ (par (trees parts)) m) c.in_ok-sides.ensures.all
-    (parts_after w x frame.vars frame.layout sides.all sides.users.items sides.writes.items c.loop-place.place parts c.loop-place.maps.items c.as_slice.result.now frame.closed.items m c.as_slice.ensures.value (omega arith) c.requires.separate c.in_ok-sides.ensures.users c.in_ok-sides.ensures.writes
+    (parts_after w x frame sides c.loop-place.place parts c.loop-place.maps.items c.as_slice.result.now frame.closed.items m c.as_slice.ensures.value c.loop-place.invariant.count (omega arith) c.requires.separate c.in_ok-sides.ensures.users c.in_ok-sides.ensures.writes
     c.loop-place.invariant.made c.in_ok-map-2.ensures.joined Γ around types)))))
     c.sequel.ensures.after

@@ -1,4 +1,4 @@
-use Rattle.std.proofs.Common.{ℕ, ◌+◌, ◌*◌, ◌≤◌, ◌≡◌, true, drop, length}
+use Rattle.std.proofs.Common.{◌+◌, ◌*◌, ◌≤◌, ◌≡◌, true, drop, length}
 use Rattle.occ_syntax.specs.Scopes.{Environment}
 use Rattle.occ_syntax.specs.Tree.{select, seq}
 use Rattle.occ_syntax.specs.Types.{branches_kept}
@@ -8,11 +8,10 @@ use Rattle.occ_syntax.proofs.Weights.{weight, weight_of_all, weight_of_cases, we
 use Rattle.occ_dd.specs.Store.{has}
 use Rattle.occ_norm_reached.specs.States.{AreBetween, AreLeft, set_at}
 use Rattle.occ_norm.specs.From.{IsAfterFromIn}
-use Rattle.occ_follow.specs.Sequence.{HasNodes}
-use Rattle.occ_norm_maps.specs.Maps.{Extends, MayHaveNodes}
+use Rattle.occ_norm_maps.specs.Maps.{Extends}
 use Rattle.occ_norm_frame.specs.After.{IsOver}
 use Rattle.occ_norm_frame.specs.Placed.{Fits, IsAround}
-use Rattle.occ_norm_alt.specs.Alternation.{IsAlternation}
+use Rattle.occ_norm_alt.specs.Alternation.{AreHeld, IsAlternation}
 use Rattle.occ_norm_par.specs.Joined.{HaveNodes}
 use Rattle.occ_norm.proofs.Beside.{AreMade}
 use Rattle.occ_norm.proofs.Declaring.{Opens}
@@ -90,8 +89,7 @@ invariant-at_once-loop-place l = record {
 abbrev pub invariant-alternated-loop-left : goal.invariant-alternated-loop-left
 invariant-alternated-loop-left l = record {
   extends : Extends l.fn.world l.world;
-  waiting : HasNodes l.world l.alternation.waiting;
-  ready : MayHaveNodes l.world l.alternation.ready;
+  maps : AreHeld l.world l.alternation.waiting l.alternation.ready;
   below : l.left ≤ length l.alternatives;
   alternation : (Γ : Environment) → IsAround Γ l.frame.vars → branches_kept (branches (drop l.left l.alternatives)) Γ ≡ true
       → IsAlternation l.world l.frame.layout l.frame.keep l.frame.closed.items Γ (branches (drop l.left l.alternatives)) l.rest l.alternation.waiting l.alternation.ready;

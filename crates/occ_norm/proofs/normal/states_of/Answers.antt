@@ -29,7 +29,7 @@ returns-clause-root c =
     let same : whole.bits ≡ frame.bits = whole.kept.bits_are ∙ ap bits_of_scope (sym c.in_ok-frame.ensures.vars) ∙ sym frame.kept.bits_are in
     root_of w program.params frame.vars frame.layout frame.bits whole.keep frame.keep frame.closed.items (tree program.body) ended c.in_ok-changes.changes c.in_ok-states.states
     (c.in_ok-frame.ensures.vars ∙ c.in_ok-whole.ensures.vars) c.in_ok-frame.ensures.closed frame.kept
-    (subst (λ n. (k : ℕ) → k < n → bit_at whole.keep k ≡ 1) same c.in_ok-whole.ensures.keep) c.requires.types
+    (subst (λ n. (k : ℕ) → k < n → bit_at whole.keep k ≡ 1) same c.in_ok-whole.ensures.keep) c.requires.rules.keeps.types
     (has_nodes-extends v w grow ended c.in_ok-ended.ensures.nodes)
     (ending_later v w grow ended c.in_ok-ended.ensures.nodes whole.keep frame.keep c.in_ok-ended.ensures.ending)
     (has_nodes-extends u w c.rebased.ensures.extends c.in_ok-changes.changes c.in_ok-changes.ensures.nodes)

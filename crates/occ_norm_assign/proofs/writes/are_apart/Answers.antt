@@ -3,13 +3,13 @@ use Rattle.std.proofs.lemmas.Bool.{cases_lt}
 use Rattle.std.proofs.lemmas.List.Elements.{All-take}
 use Rattle.occ_norm_maps.proofs.Worlds.{extends_refl, extends_trans}
 use Rattle.occ_norm_assign.specs.Writes.{IsWrite}
-use Rattle.occ_norm_assign.specs.Written.{IsFree}
+use Rattle.occ_norm_assign.specs.Written.{IsFree, no_write}
 use Rattle.occ_norm_assign.proofs.Exchanging.{free-kept}
 use Rattle.occ_norm_assign.proofs.Keeping.{writes-extend}
 use Rattle.occ_norm_assign.proofs.writes.are_apart.Goals as goal
 
 pub is_apart-requires-clause-write : goal.is_apart-requires-clause-write
-is_apart-requires-clause-write c = writes-extend c.args.world.now c.loop-place.world c.loop-place.invariant.extends c.args.writes.now c.requires.writes c.loop-place.place (record { bit = 0; set = record { 0 = 0 } }) (omega arith)
+is_apart-requires-clause-write c = writes-extend c.args.world.now c.loop-place.world c.loop-place.invariant.extends c.args.writes.now c.requires.writes c.loop-place.place no_write (omega arith)
 
 pub is_apart-requires-clause-others : goal.is_apart-requires-clause-others
 is_apart-requires-clause-others c = All-take (IsWrite c.loop-place.world.store) c.loop-place.place c.args.writes.now (writes-extend c.args.world.now c.loop-place.world c.loop-place.invariant.extends c.args.writes.now c.requires.writes)
@@ -24,9 +24,9 @@ loop-place-preserved c = record {
       (λ (l : i < c.loop-place.place). c.loop-place.invariant.free i l)
       (λ (l : c.loop-place.place ≤ i).
       let e : c.loop-place.place ≡ i = omega (arith, h, l) in
-      subst (λ n. IsFree c.args.world.now.store (get_or c.args.writes.now n (record { bit = 0; set = record { 0 = 0 } })) (take n c.args.writes.now)) e
-      (free-kept c.args.world.now.store c.loop-place.world.store c.loop-place.invariant.extends.grows.stored (get_or c.args.writes.now c.loop-place.place (record { bit = 0; set = record { 0 = 0 } }))
-      (c.requires.writes c.loop-place.place (record { bit = 0; set = record { 0 = 0 } }) (omega arith)).known (take c.loop-place.place c.args.writes.now) (c.in_ok-free.ensures.free c.if-not-free.false)))
+      subst (λ n. IsFree c.args.world.now.store (get_or c.args.writes.now n no_write) (take n c.args.writes.now)) e
+      (free-kept c.args.world.now.store c.loop-place.world.store c.loop-place.invariant.extends.grows.stored (get_or c.args.writes.now c.loop-place.place no_write)
+      (c.requires.writes c.loop-place.place no_write (omega arith)).known (take c.loop-place.place c.args.writes.now) (c.in_ok-free.ensures.free c.if-not-free.false)))
       (cases_lt i c.loop-place.place);
 }
 

@@ -1,7 +1,7 @@
 use Rattle.std.proofs.Common.{sym, ◌∙◌, subst, arith}
 use Rattle.std.proofs.lemmas.List.{take_all}
 use Rattle.occ_norm_maps.proofs.Worlds.{extends_trans}
-use Rattle.occ_norm_assign.specs.Written.{IsFree, is_changed}
+use Rattle.occ_norm_assign.specs.Written.{IsFree, is_changed, no_write}
 use Rattle.occ_norm_assign.proofs.Exchanging.{free_next, set_still}
 use Rattle.occ_norm_assign.proofs.writes.is_apart.Goals as goal
 
@@ -9,7 +9,7 @@ pub is_free-requires-clause-set : goal.is_free-requires-clause-set
 is_free-requires-clause-set c = c.loop-place.invariant.set.known
 
 pub is_free-requires-clause-bit : goal.is_free-requires-clause-bit
-is_free-requires-clause-bit c = (c.requires.others c.loop-place.place (record { bit = 0; set = record { 0 = 0 } }) (omega arith)).within
+is_free-requires-clause-bit c = (c.requires.others c.loop-place.place no_write (omega arith)).within
 
 pub loop-place-init : goal.loop-place-init
 loop-place-init c = record {
@@ -22,7 +22,7 @@ pub loop-place-preserved : goal.loop-place-preserved
 loop-place-preserved c = record {
   extends = extends_trans c.args.world.now c.loop-place.world c.is_free.new.world c.loop-place.invariant.extends c.is_free.ensures.extends;
   set = set_still c.loop-place.world.store c.is_free.new.world.store c.is_free.ensures.extends.grows.stored c.in_ok-set.set (is_changed c.args.world.now.store c.args.write) c.loop-place.invariant.set;
-  free = free_next c.args.world.now.store c.args.write c.args.others.now c.loop-place.place (record { bit = 0; set = record { 0 = 0 } }) (omega arith) c.loop-place.invariant.free
+  free = free_next c.args.world.now.store c.args.write c.args.others.now c.loop-place.place no_write (omega arith) c.loop-place.invariant.free
       (λ x. sym (c.loop-place.invariant.set.members _) ∙ c.in_ok-free.ensures.free c.if-not-free.false x ∙ c.loop-place.invariant.set.members x);
 }
 

@@ -1,4 +1,4 @@
-use Rattle.std.proofs.Common.{sym, subst, [], ap, ◌∙◌}
+use Rattle.std.proofs.Common.{sym, subst, []}
 use Rattle.occ_norm_par.specs.Sides.{AllWritten}
 use Rattle.occ_norm_par.proofs.Writing.{all_written_end, all_written_more, all_written_none}
 use Rattle.occ_norm_par.proofs.parallel.writes_of.Goals as goal

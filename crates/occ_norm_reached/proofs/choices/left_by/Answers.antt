@@ -1,6 +1,5 @@
-use Rattle.std.proofs.Common.{◌≡◌, ◌<◌, ◌&&◌, not, length, sym, ◌∙◌, arith}
+use Rattle.std.proofs.Common.{◌&&◌, not, ◌∙◌, arith}
 use Rattle.occ_dd.proofs.Callers.{keeps_refl, keeps_trans}
-use Rattle.occ_dd.specs.Store.{has}
 use Rattle.occ_syntax.specs.View.{exp}
 use Rattle.occ_norm_frame.proofs.Placing.{case_condition}
 use Rattle.occ_norm_reached.proofs.Freeing.{condition_states, states-keeps, without_states}

@@ -1,6 +1,0 @@
-use Rattle.std.proofs.Common.{◌≡◌}
-use Rattle.occ_norm_alt.specs.Inputs.{placed}
-use Rattle.occ_norm_alt.proofs.listed.with_input.Given as goal
-
-abbrev pub invariant-loop-digit : goal.invariant-loop-digit
-invariant-loop-digit l = l.made ≡ placed l.listed.first l.digit l.number l.state
