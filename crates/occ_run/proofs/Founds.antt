@@ -12,16 +12,16 @@ use Rattle.occ_syntax.specs.Scopes.{Environment, Values, with_name, with_value}
 use Rattle.occ_syntax.specs.Tree.{Tree, Trees}
 use Rattle.occ_syntax.specs.declared.scope.Kind.TheVariants.{Chan, Var}
 use Rattle.occ_run_steps.specs.Control.{Control, Controls, done, unbegun, after, both, local, channel, no_control, and_control}
-use Rattle.occ_run_steps.specs.Step.{Step, leaving, off}
+use Rattle.occ_run_steps.specs.Step.{Step, leaving, off, same as is_same}
 use Rattle.occ_run_steps.specs.Steps.{process_steps, steps}
 use Rattle.std.specs.declared.rc.Rc.{Rc}
 use Rattle.std.specs.declared.alloc.Global.{Global}
 use Rattle.occ_run.specs.declared.control.Control.{Control as TheControl}
 use Rattle.occ_run.specs.declared.effect.Offer.{Offer}
 use Rattle.occ_run.specs.declared.found.Found.{Found}
-use Rattle.occ_run.specs.declared.found.Found.TheVariants.{Step as Here, Past, Unknown}
+use Rattle.occ_run.specs.declared.found.Found.TheVariants.{Step as Here, Past}
 use Rattle.occ_run.specs.Effects.{Effect, alone_of, applied, in_body, off_all, off_channels, offered, one, pairs_of}
-use Rattle.occ_run.specs.Founds.{IsAt, each_effects, effects, leaves}
+use Rattle.occ_run.specs.Founds.{IsAt, asked, asks, each_effects, effects, leaves}
 use Rattle.occ_run.specs.Offers.{AreOffers, Gives}
 use Rattle.occ_run.specs.View.{control, controls, in_channels, with_channels}
 use Rattle.occ_base.specs.declared.memory.Memory.{Memory}
@@ -78,19 +78,25 @@ pub off_none : (cs : List (Name × Width)) → off_all cs None ≡ true
 off_none [] = refl
 off_none (c ∷ cs) = off_none cs
 
+-- ---- steps that are asked for
+
+asks_more : (xs ys : List (Name × Width)) (o e : Option Event) → asks xs o e && off_all ys e ≡ asks (xs ++ ys) o e
+asks_more xs ys None e = off_more xs ys e
+asks_more xs ys (Some f) e = and_assoc (is_same f e) (off_all xs e) (off_all ys e) ∙ ap (λ (b : Bool). is_same f e && b) (off_more xs ys e)
+
+pub asked_twice : (xs ys : List (Name × Width)) (o : Option Event) (ks : List (Step Effect)) → asked xs o (off_channels ys ks) ≡ asked (xs ++ ys) o ks
+asked_twice xs ys o ks =
+    filter_twice (λ (k : Step Effect). asks xs o k.event) (λ (k : Step Effect). off_all ys k.event) ks
+    ∙ ap (λ (p : Step Effect → Bool). filter p ks) (fun_ext (λ k. asks_more xs ys o k.event))
+
 -- steps of which each passes, or none does
-pub all_pass : (cs : List (Name × Width)) (f : ℕ → Step Effect) → ((v : ℕ) → off_all cs (f v).event ≡ true) → (vs : List ℕ) → off_channels cs (map f vs) ≡ map f vs
-all_pass cs f h [] = refl
-all_pass cs f h (v ∷ vs) =
-    ap (λ (b : Bool). if b then f v ∷ off_channels cs (map f vs) else off_channels cs (map f vs)) (h v) ∙ ap (λ ks. f v ∷ ks) (all_pass cs f h vs)
+pub all_pass : (p : Step Effect → Bool) (f : ℕ → Step Effect) → ((v : ℕ) → p (f v) ≡ true) → (vs : List ℕ) → filter p (map f vs) ≡ map f vs
+all_pass p f h [] = refl
+all_pass p f h (v ∷ vs) = ap (λ (b : Bool). if b then f v ∷ filter p (map f vs) else filter p (map f vs)) (h v) ∙ ap (λ ks. f v ∷ ks) (all_pass p f h vs)
 
-pub none_pass : (cs : List (Name × Width)) (f : ℕ → Step Effect) → ((v : ℕ) → off_all cs (f v).event ≡ false) → (vs : List ℕ) → off_channels cs (map f vs) ≡ []
-none_pass cs f h [] = refl
-none_pass cs f h (v ∷ vs) =
-    ap (λ (b : Bool). if b then f v ∷ off_channels cs (map f vs) else off_channels cs (map f vs)) (h v) ∙ none_pass cs f h vs
-
-pub one_passes : (cs : List (Name × Width)) (k : Step Effect) → off_all cs k.event ≡ true → off_channels cs (k ∷ []) ≡ k ∷ []
-one_passes cs k h = ap (λ (b : Bool). if b then k ∷ [] else []) h
+pub none_pass : (p : Step Effect → Bool) (f : ℕ → Step Effect) → ((v : ℕ) → p (f v) ≡ false) → (vs : List ℕ) → filter p (map f vs) ≡ []
+none_pass p f h [] = refl
+none_pass p f h (v ∷ vs) = ap (λ (b : Bool). if b then f v ∷ filter p (map f vs) else filter p (map f vs)) (h v) ∙ none_pass p f h vs
 
 -- all events on one channel pass, or none does
 pub same_channel : (cs : List (Name × Width)) (e f : Event) → e.chan ≡ f.chan → off_all cs (Some e) ≡ off_all cs (Some f)
@@ -105,12 +111,13 @@ same_channel (c ∷ cs) e f h =
 pub at_same : (ks ls : List (Step Effect)) (n : ℕ) (r : Found) → ls ≡ ks → IsAt ks n r → IsAt ls n r
 at_same ks ls n r e h = let P : List (Step Effect) → Type 0 = λ xs. IsAt xs n r in subst P (sym e) h
 
-get_front : {A : Type 0} (xs ys : List A) (n : ℕ) (x : A) → slice_get xs n ≡ Some x → slice_get (xs ++ ys) n ≡ Some x
+-- the item of a number in the first of two lists, and in the second
+pub get_front : {A : Type 0} (xs ys : List A) (n : ℕ) (x : A) → slice_get xs n ≡ Some x → slice_get (xs ++ ys) n ≡ Some x
 get_front [] ys n x e = cc
 get_front (z ∷ xs) ys zero x e = e
 get_front (z ∷ xs) ys (suc n) x e = get_front xs ys n x e
 
-get_behind : {A : Type 0} (xs ys : List A) (m : ℕ) → slice_get (xs ++ ys) (length xs + m) ≡ slice_get ys m
+pub get_behind : {A : Type 0} (xs ys : List A) (m : ℕ) → slice_get (xs ++ ys) (length xs + m) ≡ slice_get ys m
 get_behind [] ys m = let e : 0 + m ≡ m = omega arith in ap (slice_get ys) e
 get_behind (z ∷ xs) ys m = let e : suc (length xs) + m ≡ suc (length xs + m) = omega arith in ap (slice_get (z ∷ xs ++ ys)) e ∙ get_behind xs ys m
 
@@ -122,7 +129,6 @@ at_front xs ys n x h = get_front xs ys n (offered x) h
 pub at_behind : (xs ys : List (Step Effect)) (n m : ℕ) → IsAt xs n (Past m) → (r : Found) → IsAt ys m r → IsAt (xs ++ ys) n r
 at_behind xs ys n m h (Here x) k = sym (ap (slice_get (xs ++ ys)) h) ∙ get_behind xs ys m ∙ k
 at_behind xs ys n m h (Past more) k = let e = length-append xs ys in omega (arith, h, k, e)
-at_behind xs ys n m h Unknown k = tt
 
 -- the same after f
 pub at_map : (f : Step Effect → Step Effect) (ks : List (Step Effect)) (n : ℕ) (x y : Offer) → offered y ≡ f (offered x) → IsAt ks n (Here x) → IsAt (map f ks) n (Here y)
@@ -137,32 +143,32 @@ none_left ks ls m n e h = let none : 0 + m ≡ m = omega arith in h (Past m) (at
 
 -- ---- controls at once
 
--- each alone, without those on hidden channels
-pub alone_off : (cs : List (Name × Width)) (i : ℕ) (ks : List (Step Effect)) (kss : List (List (Step Effect)))
-    → off_channels cs (alone_of i (ks ∷ kss)) ≡ map (leaving (one i)) (off_channels cs ks) ++ off_channels cs (alone_of (i + 1) kss)
-alone_off cs i ks kss =
-    let p : Step Effect → Bool = λ k. off_all cs k.event in
+-- each alone, of those that are asked for
+pub alone_off : (cs : List (Name × Width)) (o : Option Event) (i : ℕ) (ks : List (Step Effect)) (kss : List (List (Step Effect)))
+    → asked cs o (alone_of i (ks ∷ kss)) ≡ map (leaving (one i)) (asked cs o ks) ++ asked cs o (alone_of (i + 1) kss)
+alone_off cs o i ks kss =
+    let p : Step Effect → Bool = λ k. asks cs o k.event in
     filter-append p (map (leaving (one i)) ks) (alone_of (i + 1) kss)
-    ∙ ap (λ xs. xs ++ off_channels cs (alone_of (i + 1) kss)) (filter_map (leaving (one i)) p p (λ k. refl) ks)
+    ∙ ap (λ xs. xs ++ asked cs o (alone_of (i + 1) kss)) (filter_map (leaving (one i)) p p (λ k. refl) ks)
 
 -- a step of the first is one of all
-pub alone_here : (cs : List (Name × Width)) (i : ℕ) (ks : List (Step Effect)) (kss : List (List (Step Effect))) (n : ℕ) (x y : Offer) → offered y ≡ leaving (one i) (offered x)
-    → IsAt (off_channels cs ks) n (Here x) → IsAt (off_channels cs (alone_of i (ks ∷ kss))) n (Here y)
-alone_here cs i ks kss n x y e h =
-    let front : List (Step Effect) = map (leaving (one i)) (off_channels cs ks) in
-    at_same (front ++ off_channels cs (alone_of (i + 1) kss)) (off_channels cs (alone_of i (ks ∷ kss))) n (Here y) (alone_off cs i ks kss)
-    (at_front front (off_channels cs (alone_of (i + 1) kss)) n y (at_map (leaving (one i)) (off_channels cs ks) n x y e h))
+pub alone_here : (cs : List (Name × Width)) (o : Option Event) (i : ℕ) (ks : List (Step Effect)) (kss : List (List (Step Effect))) (n : ℕ) (x y : Offer) → offered y ≡ leaving (one i) (offered x)
+    → IsAt (asked cs o ks) n (Here x) → IsAt (asked cs o (alone_of i (ks ∷ kss))) n (Here y)
+alone_here cs o i ks kss n x y e h =
+    let front : List (Step Effect) = map (leaving (one i)) (asked cs o ks) in
+    at_same (front ++ asked cs o (alone_of (i + 1) kss)) (asked cs o (alone_of i (ks ∷ kss))) n (Here y) (alone_off cs o i ks kss)
+    (at_front front (asked cs o (alone_of (i + 1) kss)) n y (at_map (leaving (one i)) (asked cs o ks) n x y e h))
 
 -- past those of the first stands what stands among those of the others
-pub alone_behind : (cs : List (Name × Width)) (i : ℕ) (ks : List (Step Effect)) (kss : List (List (Step Effect))) (n m : ℕ) → IsAt (off_channels cs ks) n (Past m)
-    → (r : Found) → IsAt (off_channels cs (alone_of (i + 1) kss)) m r → IsAt (off_channels cs (alone_of i (ks ∷ kss))) n r
-alone_behind cs i ks kss n m h r k =
-    let front : List (Step Effect) = map (leaving (one i)) (off_channels cs ks) in
-    at_same (front ++ off_channels cs (alone_of (i + 1) kss)) (off_channels cs (alone_of i (ks ∷ kss))) n r (alone_off cs i ks kss)
-    (at_behind front (off_channels cs (alone_of (i + 1) kss)) n m (past_map (leaving (one i)) (off_channels cs ks) n m h) r k)
+pub alone_behind : (cs : List (Name × Width)) (o : Option Event) (i : ℕ) (ks : List (Step Effect)) (kss : List (List (Step Effect))) (n m : ℕ) → IsAt (asked cs o ks) n (Past m)
+    → (r : Found) → IsAt (asked cs o (alone_of (i + 1) kss)) m r → IsAt (asked cs o (alone_of i (ks ∷ kss))) n r
+alone_behind cs o i ks kss n m h r k =
+    let front : List (Step Effect) = map (leaving (one i)) (asked cs o ks) in
+    at_same (front ++ asked cs o (alone_of (i + 1) kss)) (asked cs o (alone_of i (ks ∷ kss))) n r (alone_off cs o i ks kss)
+    (at_behind front (asked cs o (alone_of (i + 1) kss)) n m (past_map (leaving (one i)) (asked cs o ks) n m h) r k)
 
 -- of the controls that code sees, the first, and the others
-module _ (Γ : Environment) (s : Values) (cs : List (Name × Width)) (i n : ℕ) (parts : List (Rc TheControl Global)) (part : Rc TheControl Global) (some : 0 < length parts) (is : part ≡ get_or parts 0 part)
+module _ (Γ : Environment) (s : Values) (cs : List (Name × Width)) (o : Option Event) (i n : ℕ) (parts : List (Rc TheControl Global)) (part : Rc TheControl Global) (some : 0 < length parts) (is : part ≡ get_or parts 0 part)
     (C : Control) (same : C ≡ control part.value) where
   abbrev each_of : List (Rc TheControl Global) → List (List (Step Effect))
   each_of ps = each_effects Γ s (controls ps)
@@ -171,28 +177,28 @@ module _ (Γ : Environment) (s : Values) (cs : List (Name × Width)) (i n : ℕ)
   first_part = ap each_of (front_is parts part some is) ∙ ap (λ D. effects Γ s D ∷ each_of (take (length parts - 1) (drop 1 parts))) (sym same)
 
   -- a step of the first is one of all
-  pub part_here : (r : Found) (x y : Offer) → r ≡ Here x → offered y ≡ leaving (one i) (offered x) → IsAt (off_channels cs (effects Γ s C)) n r → IsAt (off_channels cs (alone_of i (each_of parts))) n (Here y)
+  pub part_here : (r : Found) (x y : Offer) → r ≡ Here x → offered y ≡ leaving (one i) (offered x) → IsAt (asked cs o (effects Γ s C)) n r → IsAt (asked cs o (alone_of i (each_of parts))) n (Here y)
   part_here r x y f e h =
-      let P : Found → Type 0 = λ g. IsAt (off_channels cs (effects Γ s C)) n g in
+      let P : Found → Type 0 = λ g. IsAt (asked cs o (effects Γ s C)) n g in
       let kss = each_of (take (length parts - 1) (drop 1 parts)) in
-      at_same (off_channels cs (alone_of i (effects Γ s C ∷ kss))) (off_channels cs (alone_of i (each_of parts))) n (Here y) (ap (λ lss. off_channels cs (alone_of i lss)) first_part)
-      (alone_here cs i (effects Γ s C) kss n x y e (subst P f h))
+      at_same (asked cs o (alone_of i (effects Γ s C ∷ kss))) (asked cs o (alone_of i (each_of parts))) n (Here y) (ap (λ lss. asked cs o (alone_of i lss)) first_part)
+      (alone_here cs o i (effects Γ s C) kss n x y e (subst P f h))
 
   -- past its steps stand those of the others
-  pub part_behind : (f : Found) (m : ℕ) → f ≡ Past m → IsAt (off_channels cs (effects Γ s C)) n f → (r : Found)
-      → IsAt (off_channels cs (alone_of (i + 1) (each_of (take (length parts - 1) (drop 1 parts))))) m r → IsAt (off_channels cs (alone_of i (each_of parts))) n r
+  pub part_behind : (f : Found) (m : ℕ) → f ≡ Past m → IsAt (asked cs o (effects Γ s C)) n f → (r : Found)
+      → IsAt (asked cs o (alone_of (i + 1) (each_of (take (length parts - 1) (drop 1 parts))))) m r → IsAt (asked cs o (alone_of i (each_of parts))) n r
   part_behind f m e h r k =
-      let P : Found → Type 0 = λ g. IsAt (off_channels cs (effects Γ s C)) n g in
+      let P : Found → Type 0 = λ g. IsAt (asked cs o (effects Γ s C)) n g in
       let kss = each_of (take (length parts - 1) (drop 1 parts)) in
-      at_same (off_channels cs (alone_of i (effects Γ s C ∷ kss))) (off_channels cs (alone_of i (each_of parts))) n r (ap (λ lss. off_channels cs (alone_of i lss)) first_part)
-      (alone_behind cs i (effects Γ s C) kss n m (subst P e h) r k)
+      at_same (asked cs o (alone_of i (effects Γ s C ∷ kss))) (asked cs o (alone_of i (each_of parts))) n r (ap (λ lss. asked cs o (alone_of i lss)) first_part)
+      (alone_behind cs o i (effects Γ s C) kss n m (subst P e h) r k)
 
 -- ---- other controls
 
-module _ (Γ : Environment) (s : Values) (C : Control) (r : Result Found Memory) (hidden : List (Name × Width)) (n : ℕ) where
+module _ (Γ : Environment) (s : Values) (C : Control) (r : Result Found Memory) (hidden : List (Name × Width)) (only : Option Event) (n : ℕ) where
   -- what was found stands among the steps of the control
   abbrev pub Stands : Environment → Values → Control → List (Name × Width) → Type 0
-  Stands Δ u D cs = IfOk r (λ found. IsAt (off_channels cs (effects Δ u D)) n found)
+  Stands Δ u D cs = IfOk r (λ found. IsAt (asked cs only (effects Δ u D)) n found)
 
   pub after_found : (B D : Control) (ps : Trees) → C ≡ after B ps → D ≡ B → Stands Γ s D hidden → Stands Γ s C hidden
   after_found B D ps e f h = let P : Control → Type 0 = λ E. Stands Γ s E hidden in subst P (sym e) (subst P f h)
@@ -208,30 +214,46 @@ module _ (Γ : Environment) (s : Values) (C : Control) (r : Result Found Memory)
       let inside : Stands (with_channels Γ cs) s B (hidden ++ cs) =
       subst R (is ∙ ap (λ ds. hidden ++ ds) sc) (subst Q same (subst P g (subst O (f ∙ ap (with_channels Γ) sc) h))) in
       let ks = effects (with_channels Γ cs) s B in
-      subst T (sym e) (on_ok r (λ found k. at_same (off_channels (hidden ++ cs) ks) (off_channels hidden (effects Γ s (in_channels cs B))) n found
-      (ap (off_channels hidden) (effects_in_channels Γ s cs B) ∙ off_twice hidden cs ks) k) inside)
+      subst T (sym e) (on_ok r (λ found k. at_same (asked (hidden ++ cs) only ks) (asked hidden only (effects Γ s (in_channels cs B))) n found
+      (ap (asked hidden only) (effects_in_channels Γ s cs B) ∙ asked_twice hidden cs only ks) k) inside)
 
 -- a step in the body of a VAR is one of the whole
-pub local_at : (Γ : Environment) (s : Values) (C : Control) (hidden : List (Name × Width)) (n : ℕ) (Δ : Environment) (u : Values) (x : ℕ) (w : Width) (v : ℕ) (B D : Control) (found : Found)
+pub local_at : (Γ : Environment) (s : Values) (C : Control) (hidden : List (Name × Width)) (only : Option Event) (n : ℕ) (Δ : Environment) (u : Values) (x : ℕ) (w : Width) (v : ℕ) (B D : Control) (found : Found)
     → C ≡ local x w v B → Δ ≡ with_name Γ x (Var w) → u ≡ with_value s x v → D ≡ B
-    → IsAt (map (in_body x v) (off_channels hidden (effects Δ u D))) n found → IsAt (off_channels hidden (effects Γ s C)) n found
-local_at Γ s C hidden n Δ u x w v B D found e f g same h =
-    let p : Step Effect → Bool = λ k. off_all hidden k.event in
-    at_same (map (in_body x v) (off_channels hidden (effects Δ u D))) (off_channels hidden (effects Γ s C)) n found
-    (ap (λ E. off_channels hidden (effects Γ s E)) e
-    ∙ ap (λ Θ. off_channels hidden (map (in_body x v) (effects Θ (with_value s x v) B))) (sym f)
-    ∙ ap (λ q. off_channels hidden (map (in_body x v) (effects Δ q B))) (sym g)
-    ∙ ap (λ E. off_channels hidden (map (in_body x v) (effects Δ u E))) (sym same)
+    → IsAt (map (in_body x v) (asked hidden only (effects Δ u D))) n found → IsAt (asked hidden only (effects Γ s C)) n found
+local_at Γ s C hidden only n Δ u x w v B D found e f g same h =
+    let p : Step Effect → Bool = λ k. asks hidden only k.event in
+    at_same (map (in_body x v) (asked hidden only (effects Δ u D))) (asked hidden only (effects Γ s C)) n found
+    (ap (λ E. asked hidden only (effects Γ s E)) e
+    ∙ ap (λ Θ. asked hidden only (map (in_body x v) (effects Θ (with_value s x v) B))) (sym f)
+    ∙ ap (λ q. asked hidden only (map (in_body x v) (effects Δ q B))) (sym g)
+    ∙ ap (λ E. asked hidden only (map (in_body x v) (effects Δ u E))) (sym same)
     ∙ filter_map (in_body x v) p p (λ k. refl) (effects Δ u D)) h
 
 -- those of controls at once, by those of each alone and of two that meet
-pub both_at : (Γ : Environment) (s : Values) (C : Control) (hidden : List (Name × Width)) (n : ℕ) (Cs Ds : Controls) (found : Found) → C ≡ both Cs → Ds ≡ Cs
-    → IsAt (off_channels hidden (alone_of 0 (each_effects Γ s Ds)) ++ off_channels hidden (pairs_of 0 (each_effects Γ s Ds))) n found → IsAt (off_channels hidden (effects Γ s C)) n found
-both_at Γ s C hidden n Cs Ds found e f h =
+both_at : (Γ : Environment) (s : Values) (C : Control) (hidden : List (Name × Width)) (only : Option Event) (n : ℕ) (Cs Ds : Controls) (found : Found) → C ≡ both Cs → Ds ≡ Cs
+    → IsAt (asked hidden only (alone_of 0 (each_effects Γ s Ds)) ++ asked hidden only (pairs_of 0 (each_effects Γ s Ds))) n found → IsAt (asked hidden only (effects Γ s C)) n found
+both_at Γ s C hidden only n Cs Ds found e f h =
     let kss = each_effects Γ s Ds in
-    let p : Step Effect → Bool = λ k. off_all hidden k.event in
-    at_same (off_channels hidden (alone_of 0 kss) ++ off_channels hidden (pairs_of 0 kss)) (off_channels hidden (effects Γ s C)) n found
-    (ap (λ E. off_channels hidden (effects Γ s E)) (e ∙ ap both (sym f)) ∙ filter-append p (alone_of 0 kss) (pairs_of 0 kss)) h
+    let p : Step Effect → Bool = λ k. asks hidden only k.event in
+    at_same (asked hidden only (alone_of 0 kss) ++ asked hidden only (pairs_of 0 kss)) (asked hidden only (effects Γ s C)) n found
+    (ap (λ E. asked hidden only (effects Γ s E)) (e ∙ ap both (sym f)) ∙ filter-append p (alone_of 0 kss) (pairs_of 0 kss)) h
+
+-- a step that one of controls at once has alone
+pub both_here : (Γ : Environment) (s : Values) (C : Control) (hidden : List (Name × Width)) (only : Option Event) (n : ℕ) (Cs Ds : Controls) (r : Found) (x : Offer) → C ≡ both Cs → Ds ≡ Cs → r ≡ Here x
+    → IsAt (asked hidden only (alone_of 0 (each_effects Γ s Ds))) n r → IsAt (asked hidden only (effects Γ s C)) n (Here x)
+both_here Γ s C hidden only n Cs Ds r x e f g h =
+    let P : Found → Type 0 = λ q. IsAt (asked hidden only (alone_of 0 (each_effects Γ s Ds))) n q in
+    both_at Γ s C hidden only n Cs Ds (Here x) e f (at_front (asked hidden only (alone_of 0 (each_effects Γ s Ds))) (asked hidden only (pairs_of 0 (each_effects Γ s Ds))) n x (subst P g h))
+
+-- behind these stand those of two that meet
+pub both_behind : (Γ : Environment) (s : Values) (C : Control) (hidden : List (Name × Width)) (only : Option Event) (n m : ℕ) (Cs Ds Es : Controls) (r : Found) (q : Result Found Memory) → C ≡ both Cs → Ds ≡ Cs → Es ≡ Cs → r ≡ Past m
+    → IsAt (asked hidden only (alone_of 0 (each_effects Γ s Ds))) n r → IfOk q (IsAt (asked hidden only (pairs_of 0 (each_effects Γ s Es))) m) → IfOk q (IsAt (asked hidden only (effects Γ s C)) n)
+both_behind Γ s C hidden only n m Cs Ds Es r q e f k g h found =
+    let P : Found → Type 0 = λ x. IsAt (asked hidden only (alone_of 0 (each_effects Γ s Ds))) n x in
+    let Q : Controls → Type 0 = λ Bs. IfOk q (IsAt (asked hidden only (pairs_of 0 (each_effects Γ s Bs))) m) in
+    on_ok q (λ x j. both_at Γ s C hidden only n Cs Ds x e f
+    (at_behind (asked hidden only (alone_of 0 (each_effects Γ s Ds))) (asked hidden only (pairs_of 0 (each_effects Γ s Ds))) n m (subst P g h) x j)) (subst Q (k ∙ sym f) found)
 
 -- what holds where a step was taken, and what comes of it
 pub on_done : {A E : Type 0} {P R : A → Type 0} (Q : E → Type 0) (r : Result A E) → ((x : A) → P x → R x) → MatchResult r P Q → MatchResult r R Q

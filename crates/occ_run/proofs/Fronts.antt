@@ -1,6 +1,6 @@
 -- Loops that take items off the front of a list.
-use Rattle.std.proofs.Common.{◌≡◌, ◌+◌, ◌-◌, ◌<◌, ℕ, false, List, [], ◌∷◌, ◌++◌, map, length, get_or, take, drop, ◌==◌, inl, inr, refl, ap, sym, ◌∙◌, append_assoc, arith}
-use Rattle.std.proofs.lemmas.List.{append-nil, map_push, take_all}
+use Rattle.std.proofs.Common.{◌≡◌, ◌+◌, ◌<◌, ℕ, false, List, [], ◌∷◌, ◌++◌, map, length, get_or, ◌==◌, inl, inr, ap, sym, ◌∙◌, append_assoc, arith}
+use Rattle.std.proofs.lemmas.List.{append-nil, map_push}
 use Rattle.std.proofs.lemmas.List.FromFn.{map-range_with_len_more}
 use Rattle.std.proofs.lemmas.Bool.Decides.{eqb_tells}
 use Rattle.std.specs.List.{range_with_len}
@@ -8,22 +8,12 @@ use Rattle.occ_run_steps.specs.Control.{Control}
 use Rattle.occ_run_steps.specs.Step.{Step, leaving}
 use Rattle.occ_run.specs.declared.effect.Offer.{Offer}
 use Rattle.occ_run.specs.Effects.{at_leaf, offered, seen_offers}
-
--- the first item of a list, and the others
-pub front_is : {A : Type 0} (l : List A) (x : A) → 0 < length l → x ≡ get_or l 0 x → l ≡ x ∷ take (length l - 1) (drop 1 l)
-front_is [] x h e = absurd (omega (arith, h))
-front_is (y ∷ l) x h e =
-    let rest : take (length (y ∷ l) - 1) l ≡ l = take_all (length (y ∷ l) - 1) l (omega arith) in
-    ap (λ z. z ∷ l) (sym e) ∙ ap (λ zs. x ∷ zs) (sym rest)
+pub use Rattle.occ_run_meetings.proofs.Fronts.{front_is, none_is}
 
 -- two first items of a list are the same
 pub same_first : {A : Type 0} (l : List A) (x y : A) → 0 < length l → x ≡ get_or l 0 x → y ≡ get_or l 0 y → x ≡ y
 same_first [] x y h e f = absurd (omega (arith, h))
 same_first (z ∷ l) x y h e f = e ∙ sym f
-
-pub none_is : {A : Type 0} (l : List A) → length l < 1 → l ≡ []
-none_is [] h = refl
-none_is (x ∷ l) h = absurd (omega (arith, h))
 
 pub nothing_is : {A : Type 0} (l : List A) → length l ≡ 0 → l ≡ []
 nothing_is l h = none_is l (omega arith)

@@ -16,5 +16,10 @@ pub mod Refusing
 pub mod Listing
 pub mod Listed
 pub mod Founds
+pub mod Meetings
+pub mod Unseen
 pub mod Processes
+pub mod Running
+pub mod Pairing
+pub mod Joining
 pub mod Holding

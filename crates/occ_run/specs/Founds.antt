@@ -1,14 +1,19 @@
 -- All steps of a control with their effects, as a list that no code makes, and what stands at a number of it.
-use Rattle.std.specs.Prelude.{ℕ, ◌+◌, ◌≡◌, None, List, [], ◌∷◌, ◌++◌, map, Some, slice_get, length}
+use Rattle.std.specs.Prelude.{ℕ, ◌+◌, ◌≡◌, ◌&&◌, Bool, None, List, [], ◌∷◌, ◌++◌, map, Option, Some, slice_get, length}
+use Rattle.std.specs.List.{filter, range_with_len}
+use Rattle.occ_base.specs.declared.event.Dir.TheVariants.{Input}
+use Rattle.occ_base.specs.declared.event.Event.{Event}
+use Rattle.occ_base.specs.declared.names.Name.{Name}
+use Rattle.occ_base.specs.declared.width.Width.{Width}
 use Rattle.occ_syntax.specs.Scopes.{Environment, Values, with_name, with_value}
 use Rattle.occ_syntax.specs.declared.scope.Kind.TheVariants.{Chan, Var}
 use Rattle.occ_run_steps.specs.Control.{Control, done, unbegun, after, both, local, channel, Controls, no_control, and_control}
-use Rattle.occ_run_steps.specs.Step.{Step, leaving}
+use Rattle.occ_run_steps.specs.Step.{Step, leaving, same, step}
 use Rattle.occ_run_steps.specs.Steps.{process_steps}
-use Rattle.occ_run.specs.Effects.{Effect, leaf, offered, alone_of, pairs_of, in_body, off_channels}
+use Rattle.occ_run.specs.Effects.{Effect, leaf, offered, alone_of, pairs_of, in_body, off_all, off_channels}
 use Rattle.occ_run.specs.declared.found.Found.{Found}
 use Rattle.occ_run.specs.declared.found.Wanted.{Wanted}
-use Rattle.occ_run.specs.declared.found.Found.TheVariants.{Step as Here, Past, Unknown}
+use Rattle.occ_run.specs.declared.found.Found.TheVariants.{Step as Here, Past}
 
 -- the steps of a process as effects on it
 abbrev pub leaves : List (Step Control) → List (Step Effect)
@@ -28,12 +33,32 @@ abbrev mutual
   each_effects Γ s no_control = []
   each_effects Γ s (and_control C Cs) = effects Γ s C ∷ each_effects Γ s Cs
 
--- At that number among the steps stands that one; or the number is so far behind the last; or nothing is said.
+-- what is seen of a step is asked for: it isn't on hidden channels, and is the one event where there is one
+abbrev pub asks : List (Name × Width) → Option Event → Option Event → Bool
+asks cs None e = off_all cs e
+asks cs (Some only) e = same only e && off_all cs e
+
+abbrev pub asked : List (Name × Width) → Option Event → List (Step Effect) → List (Step Effect)
+asked cs only ks = filter (λ k. asks cs only k.event) ks
+
+-- At that number among the steps stands that one; or the number is so far behind the last.
 abbrev pub IsAt : List (Step Effect) → ℕ → Found → Type 0
 IsAt ks n (Here offer) = slice_get ks n ≡ Some (offered offer)
 IsAt ks n (Past more) = length ks + more ≡ n
-IsAt ks n Unknown = Unit {0}
 
--- what stands at the number that is wanted, among the steps that aren't on hidden channels
+-- what stands at the number that is wanted, among the steps that are asked for
 abbrev pub Finds : Wanted → List (Step Effect) → Found → Type 0
-Finds wanted ks found = IsAt (off_channels wanted.hidden.now ks) wanted.number found
+Finds wanted ks found = IsAt (asked wanted.hidden.now wanted.only ks) wanted.number found
+
+-- so much is left of the number behind the steps; or it is that of the step k
+abbrev pub IsOver : List (Step Effect) → ℕ → Step Effect → Option ℕ → Type 0
+IsOver ks n k None = slice_get ks n ≡ Some k
+IsOver ks n k (Some more) = length ks + more ≡ n
+
+-- the inputs on a channel of some values in a row, of which this is the first
+abbrev pub inputs_from : Name → ℕ → Effect → ℕ → ℕ → List (Step Effect)
+inputs_from chan x e first count = map (λ v. step (Some (record { chan = chan; dir = Input; value = v })) ((x, v) ∷ []) e) (range_with_len first count)
+
+-- of the values below a number
+abbrev pub inputs : Name → ℕ → Effect → ℕ → List (Step Effect)
+inputs chan x e size = inputs_from chan x e 0 size

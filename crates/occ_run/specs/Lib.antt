@@ -2,6 +2,7 @@ pub mod View
 pub mod Effects
 pub mod Offers
 pub mod Founds
+pub mod Runs
 pub mod Places
 pub mod Configurations
 pub mod Stands

@@ -13,6 +13,7 @@ mod number;
 mod offers;
 mod pairs;
 mod place;
+mod runs;
 mod settle;
 mod stand;
 mod stepping;

@@ -1,21 +1,22 @@
 ghost use Rattle.std.specs.Prelude.{◌≡◌, ◌++◌, ◌≤◌, IfOk, OnOk, true};
 ghost use Rattle.std.specs.List.{list_any};
-ghost use Rattle.occ_run_steps.specs.Step.{is_event, is_unseen};
+ghost use Rattle.occ_run_steps.specs.Step.{not_seen};
 ghost use Rattle.occ_syntax.specs.Scopes.{values};
 ghost use Rattle.occ_syntax.specs.Types.{is_width, width_of_kind};
-ghost use Rattle.occ_run.specs.Effects.{seen_offers};
 ghost use Rattle.occ_run.specs.Machines.{configuration};
 ghost use Rattle.occ_run.specs.Places.{values_at};
-ghost use Rattle.occ_run.specs.Stands.{IsStand, events_below, interface, kind_events, state_of as state_in, without};
+ghost use Rattle.occ_run.specs.Runs.{unheard};
+ghost use Rattle.occ_run_meetings.specs.Runs.{has, spelled};
+ghost use Rattle.occ_run.specs.Stands.{IsStand, events_below, interface, kind_events, state_of as state_in};
 
 use crate::answer::Stand;
 use crate::control::is_over;
-use crate::effect::Offer;
 use crate::machine::Machine;
 use crate::offers::size_of;
-use crate::pairs::is_same;
 use crate::place::Place;
+use crate::stepping::moves_in;
 use occ_base::{Dir, Event, Events, Memory, Name, State};
+use occ_run_meetings::Run;
 use occ_syntax::Kind;
 use std::alloc::Global;
 
@@ -28,15 +29,15 @@ impl<'a> Machine<'a> {
         if is_over(&self.point.control) {
             return Ok(Stand::Ended(state_of(place)?));
         }
-        let offers = self.point.offers()?;
-        let steps = offers.len() as u64;
+        let runs = self.point.runs()?;
+        let steps = moves_in(place.alloc, &runs)?.len() as u64;
         if steps == 0 {
-            return Ok(Stand::Stuck(refused(place, &offers)?));
+            return Ok(Stand::Stuck(refused(place, &runs)?));
         }
-        if has_unseen(&offers) {
+        if has_unseen(&runs) {
             return Ok(Stand::Moving { steps });
         }
-        let refused = refused(place, &offers)?;
+        let refused = refused(place, &runs)?;
         Ok(Stand::Stable { steps, refused })
     }
 }
@@ -71,12 +72,12 @@ pub fn held(state: &[(Name, u8)], name: Name) -> u8
 }
 
 /// Whether one of the steps is unseen.
-fn has_unseen(offers: &[Offer]) -> bool
-    ensures { result ≡ list_any is_unseen (seen_offers offers.now) }
+fn has_unseen(runs: &[Run]) -> bool
+    ensures { result ≡ list_any not_seen (spelled runs.now) }
 {
-    let mut rest = offers;
-    while let [offer, later @ ..] = rest {
-        if offer.event.is_none() {
+    let mut rest = runs;
+    while let [run, later @ ..] = rest {
+        if run.event().is_none() {
             return true;
         }
         rest = later;
@@ -85,15 +86,13 @@ fn has_unseen(offers: &[Offer]) -> bool
 }
 
 /// Whether one of the steps is that event.
-fn has_event(offers: &[Offer], event: Event) -> bool
-    ensures { result ≡ list_any (is_event event) (seen_offers offers.now) }
+fn has_event(runs: &[Run], event: Event) -> bool
+    ensures { result ≡ list_any (has event) runs.now }
 {
-    let mut rest = offers;
-    while let [offer, later @ ..] = rest {
-        if let Some(seen) = offer.event {
-            if is_same(event, seen) {
-                return true;
-            }
+    let mut rest = runs;
+    while let [run, later @ ..] = rest {
+        if run.has(event) {
+            return true;
         }
         rest = later;
     }
@@ -101,37 +100,37 @@ fn has_event(offers: &[Offer], event: Event) -> bool
 }
 
 /// The events of the interface that no step has.
-fn refused(place: &Place, offers: &[Offer]) -> Result<Events, Memory>
-    ensures { IfOk result (λ events. events ≡ without (seen_offers offers.now) (interface place.now.scope.items)) }
+fn refused(place: &Place, runs: &[Run]) -> Result<Events, Memory>
+    ensures { IfOk result (λ events. events ≡ unheard runs.now (interface place.now.scope.items)) }
 {
     let mut events = Events::new(place.alloc);
     let mut rest = place.scope.as_slice();
     while let [(name, kind), later @ ..] = rest {
-        add_refused(&mut events, offers, *name, *kind)?;
+        add_refused(&mut events, runs, *name, *kind)?;
         rest = later;
     }
     Ok(events)
 }
 
 /// Adds the events of a parameter that no step has.
-fn add_refused(events: &mut Events, offers: &[Offer], name: Name, kind: Kind) -> Result<(), Memory>
+fn add_refused(events: &mut Events, runs: &[Run], name: Name, kind: Kind) -> Result<(), Memory>
     requires { is_width (width_of_kind kind) ≡ true }
-    ensures { OnOk result (events.new ≡ events.old ++ without (seen_offers offers.now) (kind_events name kind)) }
+    ensures { OnOk result (events.new ≡ events.old ++ unheard runs.now (kind_events name kind)) }
 {
     match kind {
         Kind::Var(_) => Ok(()),
         Kind::Chan(width, None) => {
-            add_end(events, offers, (name, Dir::Input), size_of(width))?;
-            add_end(events, offers, (name, Dir::Output), size_of(width))
+            add_end(events, runs, (name, Dir::Input), size_of(width))?;
+            add_end(events, runs, (name, Dir::Output), size_of(width))
         }
-        Kind::Chan(width, Some(dir)) => add_end(events, offers, (name, dir), size_of(width)),
+        Kind::Chan(width, Some(dir)) => add_end(events, runs, (name, dir), size_of(width)),
     }
 }
 
 /// Adds the events at one end of a channel that no step has.
-fn add_end(events: &mut Events, offers: &[Offer], end: (Name, Dir), size: u16) -> Result<(), Memory>
+fn add_end(events: &mut Events, runs: &[Run], end: (Name, Dir), size: u16) -> Result<(), Memory>
     requires { size ≤ 256 }
-    ensures { OnOk result (events.new ≡ events.old ++ without (seen_offers offers.now) (events_below end size)) }
+    ensures { OnOk result (events.new ≡ events.old ++ unheard runs.now (events_below end size)) }
 {
     for number in 0..size {
         let event = Event {
@@ -139,7 +138,7 @@ fn add_end(events: &mut Events, offers: &[Offer], end: (Name, Dir), size: u16) -
             dir: end.1,
             value: number as u8,
         };
-        if !has_event(offers, event) {
+        if !has_event(runs, event) {
             events.push(event)?;
         }
     }

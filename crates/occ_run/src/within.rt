@@ -94,7 +94,7 @@ pub fn off_channels<'a>(
 }
 
 /// Whether what is seen isn't on that channel.
-fn is_off(channel: (Name, Width), event: Option<Event>) -> bool
+pub(crate) fn is_off(channel: (Name, Width), event: Option<Event>) -> bool
     ensures { result ≡ off channel.0.0 event }
 {
     match event {

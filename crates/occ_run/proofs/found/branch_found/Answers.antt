@@ -5,8 +5,7 @@ use Rattle.occ_syntax.specs.declared.expr.Guard.{Guard}
 use Rattle.occ_syntax.specs.declared.proc.Proc.{Proc}
 use Rattle.occ_run_steps.specs.Steps.{branch_steps}
 use Rattle.occ_run.specs.declared.found.Found.TheVariants.{Step as Here}
-use Rattle.occ_run.specs.Effects.{off_channels}
-use Rattle.occ_run.specs.Founds.{leaves}
+use Rattle.occ_run.specs.Founds.{asked, leaves}
 use Rattle.occ_run.specs.Places.{names_at, values_at}
 use Rattle.occ_run.proofs.Founds.{none_left}
 use Rattle.occ_run.proofs.Fronts.{none_is, not_one, same_first}
@@ -24,7 +23,7 @@ returns-in-Step c =
     let later = c.index-rest-0-in-loop-rest.is in
     let yes = ap (λ v. v == 1) (sym (c.value.ensures ∙ sym (ap (λ (x : Guard × Proc). eval Γ (exp x.0.condition) s) is)) ∙ c.if-value-eq1.true) in
     c.loop-rest.invariant.whole (Here c.in-Step.offer)
-    (branch_here Γ s c.args.wanted.hidden.now bs d some is c.loop-rest.number _ _ (sym (ap (λ (x : Guard × Proc). x.0.wait) is))
+    (branch_here Γ s c.args.wanted.hidden.now c.args.wanted.only bs d some is c.loop-rest.number _ _ (sym (ap (λ (x : Guard × Proc). x.0.wait) is))
     (sym (ap (λ (x : Guard × Proc). x.1) later) ∙ ap (λ (x : Guard × Proc). x.1) (same_first bs c.index-rest-0-in-loop-rest.result d some later is)) yes
     c.in_ok-offer.field-0 c.in-Step.offer c.in-Step.is c.in_ok-offer.ensures)
 
@@ -40,7 +39,7 @@ loop-rest-preserved-in-Past c =
     let yes = ap (λ v. v == 1) (sym (c.value.ensures ∙ sym (ap (λ (x : Guard × Proc). eval Γ (exp x.0.condition) s) is)) ∙ c.if-value-eq1.true) in
     record {
       whole = λ r h. c.loop-rest.invariant.whole r
-          (branch_behind Γ s c.args.wanted.hidden.now bs d some is c.loop-rest.number _ _ (sym (ap (λ (x : Guard × Proc). x.0.wait) is))
+          (branch_behind Γ s c.args.wanted.hidden.now c.args.wanted.only bs d some is c.loop-rest.number _ _ (sym (ap (λ (x : Guard × Proc). x.0.wait) is))
           (sym (ap (λ (x : Guard × Proc). x.1) later) ∙ ap (λ (x : Guard × Proc). x.1) (same_first bs c.index-rest-0-in-loop-rest.result d some later is)) yes
           c.in_ok-offer.field-0 c.in-Past.more c.in-Past.is c.in_ok-offer.ensures r h);
       kept = others_kept Γ bs d some is c.loop-rest.invariant.kept;
@@ -56,7 +55,7 @@ loop-rest-preserved c =
     let is = c.index-rest-0.is in
     let no = not_one c.value.result _ (c.value.ensures ∙ sym (ap (λ (x : Guard × Proc). eval Γ (exp x.0.condition) s) is)) c.if-value-eq1.false in
     record {
-      whole = λ r h. c.loop-rest.invariant.whole r (branch_over Γ s c.args.wanted.hidden.now bs d some is c.loop-rest.number no r h);
+      whole = λ r h. c.loop-rest.invariant.whole r (branch_over Γ s c.args.wanted.hidden.now c.args.wanted.only bs d some is c.loop-rest.number no r h);
       kept = others_kept Γ bs d some is c.loop-rest.invariant.kept;
     }
 
@@ -64,6 +63,6 @@ pub returns : goal.returns
 returns c =
     let Γ = names_at c.args.place.now in
     let s = values_at c.args.place.now in
-    none_left (off_channels c.args.wanted.hidden.now (leaves (branch_steps Γ s (branches c.args.alternatives.now)))) (off_channels c.args.wanted.hidden.now (leaves (branch_steps Γ s (branches c.loop-rest.rest.now))))
+    none_left (asked c.args.wanted.hidden.now c.args.wanted.only (leaves (branch_steps Γ s (branches c.args.alternatives.now)))) (asked c.args.wanted.hidden.now c.args.wanted.only (leaves (branch_steps Γ s (branches c.loop-rest.rest.now))))
     c.loop-rest.number c.args.wanted.number
-    (ap (λ bs. off_channels c.args.wanted.hidden.now (leaves (branch_steps Γ s (branches bs)))) (none_is c.loop-rest.rest.now c.in_default.len_below)) c.loop-rest.invariant.whole
+    (ap (λ bs. asked c.args.wanted.hidden.now c.args.wanted.only (leaves (branch_steps Γ s (branches bs)))) (none_is c.loop-rest.rest.now c.in_default.len_below)) c.loop-rest.invariant.whole

@@ -1,11 +1,11 @@
 use Rattle.std.proofs.Common.{◌≡◌, length}
 use Rattle.std.specs.List.{list_any}
-use Rattle.occ_run_steps.specs.Step.{is_unseen}
-use Rattle.occ_run.specs.Effects.{seen_offers}
+use Rattle.occ_run_steps.specs.Step.{not_seen}
+use Rattle.occ_run_meetings.specs.Runs.{spelled}
 use Rattle.occ_run.proofs.stand.has_unseen.Given as goal
 
 abbrev pub invariant-loop-rest : goal.invariant-loop-rest
-invariant-loop-rest l = list_any is_unseen (seen_offers l.rest) ≡ list_any is_unseen (seen_offers l.offers)
+invariant-loop-rest l = list_any not_seen (spelled l.rest) ≡ list_any not_seen (spelled l.runs)
 
 abbrev pub decreases-loop-rest : goal.decreases-loop-rest
 decreases-loop-rest l = length l.rest

@@ -1,8 +1,7 @@
-use Rattle.std.proofs.Common.{List, subst, ◌∙◌}
+use Rattle.std.proofs.Common.{List, None, subst, ◌∙◌}
 use Rattle.occ_base.specs.declared.names.Name.{Name}
 use Rattle.occ_base.specs.declared.width.Width.{Width}
-use Rattle.occ_run.specs.Effects.{off_channels}
-use Rattle.occ_run.specs.Founds.{IsAt, effects}
+use Rattle.occ_run.specs.Founds.{IsAt, asked, effects}
 use Rattle.occ_run.specs.Places.{names_at, values_at}
 use Rattle.occ_run.specs.View.{control}
 use Rattle.occ_run.proofs.Bodies.{on_ok}
@@ -13,4 +12,4 @@ pub returns : goal.returns
 returns c =
     let ks = effects (names_at c.args.self.now.place) (values_at c.args.self.now.place) (control c.args.self.now.control) in
     on_ok c.found.result (λ found h. at_all ks c.args.number found
-    (subst (λ (cs : List (Name × Width)). IsAt (off_channels cs ks) c.args.number found) (c.as_slice-hidden.ensures.value ∙ c.new-hidden.ensures.items) h)) c.found.ensures
+    (subst (λ (cs : List (Name × Width)). IsAt (asked cs None ks) c.args.number found) (c.as_slice-hidden.ensures.value ∙ c.new-hidden.ensures.items) h)) c.found.ensures

@@ -1,0 +1,5 @@
+pub mod Fronts
+pub mod Meetings
+pub mod Passing
+pub mod Pairing
+pub mod Adding
