@@ -74,10 +74,6 @@ effects_in_channels Γ s (c ∷ cs) C =
     let Δ = with_name Γ c.0.0 (Chan c.1 None) in
     ap (off_channels (c ∷ [])) (effects_in_channels Δ s cs C) ∙ off_twice (c ∷ []) cs (effects (with_channels Δ cs) s C)
 
-pub off_none : (cs : List (Name × Width)) → off_all cs None ≡ true
-off_none [] = refl
-off_none (c ∷ cs) = off_none cs
-
 -- ---- steps that are asked for
 
 asks_more : (xs ys : List (Name × Width)) (o e : Option Event) → asks xs o e && off_all ys e ≡ asks (xs ++ ys) o e
