@@ -1,6 +1,6 @@
 -- Head forms: what a part does first stands at its head.
 use Rattle.std.specs.Prelude.{Bool, true, false}
-use Rattle.occ_syntax.specs.Tree.{Tree, skip, stop, assign, receive, send, seq, par, select, alt, declare, connect, Trees, no_tree, and_tree}
+use Rattle.occ_syntax.specs.Tree.{Tree, skip, stop, assign, seq, select, alt, declare, Trees, no_tree, and_tree}
 
 -- whether a process is an assignment
 abbrev pub is_assignment : Tree → Bool

@@ -8,7 +8,7 @@ use crate::beside::{first_done, second_done};
 use crate::build::{alone, beside_one, cut};
 use crate::head::{assigns_first, is_head};
 use crate::hidden::{declared, hidden};
-use occ_base::{Memory, Name};
+use occ_base::Memory;
 use occ_derive_trail::{Lost, Piece, Trail, alt_of, law, seq_of};
 use occ_syntax::{Expr, Guard, Proc, Wait};
 use std::alloc::Global;

@@ -2,7 +2,7 @@ use crate::constants::{Pairs, held, substituted};
 use crate::joining::join_pairs;
 use crate::layers::Layer;
 use crate::row::{
-    MOST, choices_of_if, declared, first_of, flatten, group, into_scope, parts_of_seq, seq_with,
+    MOST, choices_of_if, declared, first_of, flatten, into_scope, parts_of_seq, seq_with,
     two_of_seq,
 };
 use crate::spine::{Spine, Standing};
@@ -115,10 +115,7 @@ impl Spine {
         rest: Vec<Proc>,
     ) -> Result<Proc, Lost> {
         let assignment = self.assignment(trail)?;
-        let (_, head, rest) = group(trail, assignment, head, rest)?;
-        if !rest.is_empty() {
-            self.layers.push(trail, Layer::Seq(rest))?;
-        }
+        let (_, head) = self.layers.focus(trail, assignment, head, rest)?;
         Ok(head)
     }
 

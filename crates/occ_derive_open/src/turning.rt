@@ -1,4 +1,4 @@
-use crate::constants::{Pairs, held};
+use crate::constants::Pairs;
 use crate::joining::join_pairs;
 use crate::layers::Layers;
 use crate::opening::{Branches, branches_of_alt};

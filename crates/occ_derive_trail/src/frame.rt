@@ -1,3 +1,7 @@
+ghost use Rattle.std.specs.Prelude.{ℕ, ◌≡◌, List, false, true};
+ghost use Rattle.occ_derive_trail.specs.Frames.{comes_before, first_met, in_frame, names_among, of_width, precedes, width_among};
+ghost use Rattle.occ_syntax.specs.Types.{same_width};
+
 use occ_base::{Name, Width};
 
 /// What a derivation keeps in view: the parameters that are variables, in order; the variables that take in what an input
@@ -11,7 +15,9 @@ pub struct Frame {
 
 impl Frame {
     /// The width of a parameter or target; None for any other name.
-    pub fn width_of(&self, name: Name) -> Option<Width> {
+    pub fn width_of(&self, name: Name) -> Option<Width>
+        ensures { result ≡ width_among (in_frame self.now) name.0 }
+    {
         match width_in(self.params.as_slice(), name) {
             Some(width) => Some(width),
             None => width_in(self.targets.as_slice(), name),
@@ -19,9 +25,11 @@ impl Frame {
     }
 
     /// The target of that width; None where there is none.
-    pub fn target(&self, width: Width) -> Option<Name> {
+    pub fn target(&self, width: Width) -> Option<Name>
+        ensures { result ≡ of_width self.now.targets.items width }
+    {
         for (name, other) in self.targets.as_slice() {
-            if *other == width {
+            if is_same_width(width, *other) {
                 return Some(*name);
             }
         }
@@ -30,24 +38,35 @@ impl Frame {
 
     /// Whether a variable stands before another in assignments: first the parameters, then the targets, in their orders, and
     /// then all others by their numbers.
-    pub fn precedes(&self, left: Name, right: Name) -> bool {
-        let (group, place) = self.rank(left);
-        let (other_group, other_place) = self.rank(right);
-        group < other_group || (group == other_group && place < other_place)
-    }
-
-    fn rank(&self, name: Name) -> (u8, usize) {
-        if let Some(place) = place_in(self.params.as_slice(), name) {
-            return (0, place);
+    pub fn precedes(&self, left: Name, right: Name) -> bool
+        ensures { result ≡ precedes self.now left.0 right.0 }
+    {
+        match is_met_first(self.params.as_slice(), left, right) {
+            Some(is_left) => is_left,
+            None => match is_met_first(self.targets.as_slice(), left, right) {
+                Some(is_left) => is_left,
+                None => left.0 < right.0,
+            },
         }
-        if let Some(place) = place_in(self.targets.as_slice(), name) {
-            return (1, place);
-        }
-        (2, name.0)
     }
 }
 
-fn width_in(variables: &[(Name, Width)], name: Name) -> Option<Width> {
+fn is_same_width(left: Width, right: Width) -> bool
+    ensures { result ≡ same_width left right }
+{
+    match left {
+        Width::Bool => matches!(right, Width::Bool),
+        Width::Word(bits) => match right {
+            Width::Bool => false,
+            Width::Word(others) => bits == others,
+        },
+    }
+}
+
+/// The width of a variable among these; None where it isn't.
+fn width_in(variables: &[(Name, Width)], name: Name) -> Option<Width>
+    ensures { result ≡ width_among variables.now name.0 }
+{
     for (other, width) in variables {
         if *other == name {
             return Some(*width);
@@ -56,11 +75,24 @@ fn width_in(variables: &[(Name, Width)], name: Name) -> Option<Width> {
     None
 }
 
-fn place_in(variables: &[(Name, Width)], name: Name) -> Option<usize> {
-    for (place, (other, _)) in variables.iter().enumerate() {
-        if *other == name {
-            return Some(place);
+/// Whether the left name, and not the right one, stands first among these variables; None where neither stands there.
+fn is_met_first(variables: &[(Name, Width)], left: Name, right: Name) -> Option<bool>
+    ensures { result ≡ first_met (names_among variables.now) left.0 right.0 }
+{
+    for (name, _) in variables {
+        if *name == left {
+            return Some(left != right);
+        }
+        if *name == right {
+            return Some(false);
         }
     }
     None
 }
+
+/// The order of names is strict, and of two names one comes before the other.
+pub fn precedence_is_an_order()
+    ensures irreflexive { (zs : List ℕ) (x : ℕ) → comes_before zs x x ≡ false }
+    ensures transitive { (zs : List ℕ) (x y z : ℕ) → comes_before zs x y ≡ true → comes_before zs y z ≡ true → comes_before zs x z ≡ true }
+    ensures total { (zs : List ℕ) (x y : ℕ) → comes_before zs x y ≡ false → comes_before zs y x ≡ false → x ≡ y }
+{}

@@ -1,33 +1,38 @@
+ghost use Rattle.std.specs.Prelude.{◌≡◌, IfOk};
+ghost use Rattle.occ_syntax.specs.View.{in_alternatives, in_choices, in_procs};
+
 use occ_base::Memory;
 use occ_syntax::{Alternatives, Choices, Expr, Guard, Proc, Procs, Wait};
 use std::alloc::Global;
 
 /// The processes of a list, taken out of it.
-pub fn parts_of(alloc: Global, mut list: Procs) -> Result<Vec<Proc>, Memory> {
+pub fn parts_of(alloc: Global, mut list: Procs) -> Result<Vec<Proc>, Memory>
+    ensures { IfOk result (λ parts. parts.items ≡ in_procs list) }
+{
     let count = list.items().len();
     let mut parts = Vec::with_capacity(alloc, count)?;
     for place in 0..count {
-        if place < list.items().len() {
-            parts.push(list.exchange(place, Proc::Skip))?;
-        }
+        parts.push(list.exchange(place, Proc::Skip))?;
     }
     Ok(parts)
 }
 
 /// The choices of a list, taken out of it.
-pub fn choices_of(alloc: Global, mut list: Choices) -> Result<Vec<(Expr, Proc)>, Memory> {
+pub fn choices_of(alloc: Global, mut list: Choices) -> Result<Vec<(Expr, Proc)>, Memory>
+    ensures { IfOk result (λ choices. choices.items ≡ in_choices list) }
+{
     let count = list.items().len();
     let mut choices = Vec::with_capacity(alloc, count)?;
     for place in 0..count {
-        if place < list.items().len() {
-            choices.push(list.exchange(place, (Expr::Bool(true), Proc::Skip)))?;
-        }
+        choices.push(list.exchange(place, (Expr::Bool(true), Proc::Skip)))?;
     }
     Ok(choices)
 }
 
 /// The alternatives of a list, taken out of it.
-pub fn branches_of(alloc: Global, mut list: Alternatives) -> Result<Vec<(Guard, Proc)>, Memory> {
+pub fn branches_of(alloc: Global, mut list: Alternatives) -> Result<Vec<(Guard, Proc)>, Memory>
+    ensures { IfOk result (λ branches. branches.items ≡ in_alternatives list) }
+{
     let count = list.items().len();
     let mut branches = Vec::with_capacity(alloc, count)?;
     for place in 0..count {
@@ -35,9 +40,7 @@ pub fn branches_of(alloc: Global, mut list: Alternatives) -> Result<Vec<(Guard, 
             condition: Expr::Bool(true),
             wait: Wait::Skip,
         };
-        if place < list.items().len() {
-            branches.push(list.exchange(place, (guard, Proc::Skip)))?;
-        }
+        branches.push(list.exchange(place, (guard, Proc::Skip)))?;
     }
     Ok(branches)
 }

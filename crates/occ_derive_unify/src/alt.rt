@@ -1,8 +1,22 @@
+ghost use Rattle.std.specs.Prelude.{◌≡◌, ◌++◌, ◌∷◌, [], IfOk, List, false, length};
+ghost use Rattle.occ_base.specs.declared.names.Name.{Name};
+ghost use Rattle.occ_derive_moves.specs.Come.{HasCome, HasMoved};
+ghost use Rattle.occ_derive_trail.specs.Trails.{going};
+ghost use Rattle.occ_derive_unify.specs.Places.{HasMore, HasOther};
+ghost use Rattle.occ_derive_unify.specs.Rows.{AreNumbered, IsArranged, alternatives_of, row_order};
+ghost use Rattle.occ_derive_unify.specs.declared.alt.Keyed.{Keyed};
+ghost use Rattle.occ_script_path.specs.declared.direction.Direction.TheVariants as direction;
+ghost use Rattle.occ_syntax.specs.declared.scope.Kind.{Kind};
+ghost use Rattle.occ_syntax.specs.Scopes.{environment};
+ghost use Rattle.occ_syntax.specs.Tree.{alt};
+ghost use Rattle.occ_syntax.specs.Usage.{Keeps};
+ghost use Rattle.occ_syntax.specs.View.{branches, tree};
+
 use crate::orders::{Key, accepted, key_of, rank};
 use occ_base::Memory;
-use occ_derive_trail::{Lost, Trail, alt_of, branches_of, law};
+use occ_derive_trail::{Lost, Piece, Trail, alt_of, law};
 use occ_law::LawId;
-use occ_syntax::{Alternatives, Guard, Proc, Scope};
+use occ_syntax::{Guard, Proc, Scope};
 use std::alloc::Global;
 use std::cmp::Ordering;
 use std::mem::replace;
@@ -22,13 +36,16 @@ struct Keyed {
 }
 
 impl Keyed {
-    fn order(&self, other: &Keyed) -> Ordering {
-        self.key
-            .order(&other.key)
-            .then(self.place.cmp(&other.place))
+    fn order(&self, other: &Keyed) -> Ordering
+        ensures { result ≡ row_order self.now other.now }
+    {
+        let keys = self.key.order(&other.key);
+        keys.then(self.place.cmp(&other.place))
     }
 
-    fn into_branch(self) -> (Guard, Proc) {
+    fn into_branch(self) -> (Guard, Proc)
+        ensures { result ≡ self.branch }
+    {
         self.branch
     }
 }
@@ -43,25 +60,28 @@ pub(crate) fn enter(trail: &mut Trail, number: usize) -> Result<(), Lost> {
 
 impl Alt {
     /// The branches of an ALT.
-    pub(crate) fn of(alloc: Global, mut part: Proc) -> Result<Alt, Lost> {
-        match &mut part {
-            Proc::Alt(list) => {
-                let list = replace(list, Alternatives::new(alloc));
-                Ok(Alt {
-                    list: branches_of(alloc, list)?,
-                })
-            }
+    pub(crate) fn of(alloc: Global, part: Proc) -> Result<Alt, Lost>
+        ensures { IfOk result (λ made. tree part ≡ alt (branches made.list.items)) }
+    {
+        match Piece::of(alloc, part)? {
+            Piece::Alt(list) => Ok(Alt { list }),
             _ => Err(Lost::NoStep),
         }
     }
 
     /// The ALT of the branches.
-    pub(crate) fn into_part(self, alloc: Global) -> Result<Proc, Memory> {
+    pub(crate) fn into_part(self, alloc: Global) -> Result<Proc, Memory>
+        ensures { IfOk result (λ part. tree part ≡ alt (branches self.list.items)) }
+    {
         alt_of(alloc, self.list)
     }
 
     /// A law used forward makes the present part this ALT.
-    pub(crate) fn forward(self, trail: &mut Trail, law: LawId) -> Result<Alt, Lost> {
+    pub(crate) fn forward(self, trail: &mut Trail, law: LawId) -> Result<Alt, Lost>
+        ensures list { IfOk result (λ made. branches made.list.items ≡ branches self.list.items) }
+        ensures moved { let part = alt (branches self.list.items) in
+            IfOk result (λ made. HasMoved (going trail.old) (going trail.new) law.0 direction.Forward part) }
+    {
         let alloc = trail.alloc();
         let part = self.into_part(alloc)?;
         trail.forward(law, &part)?;
@@ -69,7 +89,11 @@ impl Alt {
     }
 
     /// A law used backward makes the present part this ALT.
-    pub(crate) fn backward(self, trail: &mut Trail, law: LawId) -> Result<Alt, Lost> {
+    pub(crate) fn backward(self, trail: &mut Trail, law: LawId) -> Result<Alt, Lost>
+        ensures list { IfOk result (λ made. branches made.list.items ≡ branches self.list.items) }
+        ensures moved { let part = alt (branches self.list.items) in
+            IfOk result (λ made. HasMoved (going trail.old) (going trail.new) law.0 direction.Backward part) }
+    {
         let alloc = trail.alloc();
         let part = self.into_part(alloc)?;
         trail.backward(law, &part)?;
@@ -77,37 +101,44 @@ impl Alt {
     }
 
     /// The process of a branch, taken out; SKIP stands for it meanwhile.
-    pub(crate) fn take(&mut self, place: usize) -> Result<Proc, Lost> {
-        match self.list.get_mut(place) {
-            Some(branch) => Ok(replace(&mut branch.1, Proc::Skip)),
-            None => Err(Lost::NoStep),
-        }
+    pub(crate) fn take(&mut self, place: usize) -> Result<Proc, Lost>
+        ensures { IfOk result (λ part. HasOther self.old.list.items self.new.list.items place part Proc.Skip) }
+    {
+        self.exchange(place, Proc::Skip)
     }
 
     /// Puts in the process of a branch.
-    pub(crate) fn put(&mut self, place: usize, part: Proc) -> Result<(), Lost> {
-        match self.list.get_mut(place) {
-            Some(branch) => {
-                branch.1 = part;
-                Ok(())
-            }
-            None => Err(Lost::NoStep),
+    pub(crate) fn put(&mut self, place: usize, part: Proc) -> Result<(), Lost>
+        ensures { IfOk result (λ done. (was : Proc) × HasOther self.old.list.items self.new.list.items place was part) }
+    {
+        let _ = self.exchange(place, part)?;
+        Ok(())
+    }
+
+    fn exchange(&mut self, place: usize, part: Proc) -> Result<Proc, Lost>
+        ensures { IfOk result (λ was. HasOther self.old.list.items self.new.list.items place was part) }
+    {
+        if place >= self.list.len() {
+            return Err(Lost::NoStep);
         }
+        Ok(replace(&mut self.list[place].1, part))
     }
 
     /// Puts in a branch in front of that place.
-    pub(crate) fn insert(&mut self, place: usize, branch: (Guard, Proc)) -> Result<(), Lost> {
+    pub(crate) fn insert(&mut self, place: usize, branch: (Guard, Proc)) -> Result<(), Lost>
+        ensures { IfOk result (λ done. HasMore self.old.list.items self.new.list.items place branch) }
+    {
         if place > self.list.len() {
             return Err(Lost::NoStep);
         }
-        match self.list.insert(place, branch) {
-            Ok(()) => Ok(()),
-            Err(_) => Err(Lost::Memory),
-        }
+        self.list.insert(place, branch)?;
+        Ok(())
     }
 
     /// Takes a branch out.
-    pub(crate) fn remove(&mut self, place: usize) -> Result<(Guard, Proc), Lost> {
+    pub(crate) fn remove(&mut self, place: usize) -> Result<(Guard, Proc), Lost>
+        ensures { IfOk result (λ branch. HasMore self.new.list.items self.old.list.items place branch) }
+    {
         if place >= self.list.len() {
             return Err(Lost::NoStep);
         }
@@ -115,7 +146,10 @@ impl Alt {
     }
 
     /// Puts the branches into the order of a normal program.
-    pub(crate) fn ordered(self, trail: &mut Trail, params: &Scope) -> Result<Alt, Lost> {
+    pub(crate) fn ordered(self, trail: &mut Trail, params: &Scope) -> Result<Alt, Lost>
+        ensures { IfOk result (λ made. (S : List (Name × Kind)) → let part = alt (branches self.list.items) in Keeps (environment S) part
+            → HasCome S (going trail.old) (going trail.new) part (alt (branches made.list.items))) }
+    {
         let alloc = trail.alloc();
         let mut rows = Rows::new(alloc);
         for branch in self.list {
@@ -131,7 +165,10 @@ impl Alt {
         trail: &mut Trail,
         params: &Scope,
         chosen: &[u64],
-    ) -> Result<Alt, Lost> {
+    ) -> Result<Alt, Lost>
+        ensures { IfOk result (λ made. (S : List (Name × Kind)) → let part = alt (branches self.list.items) in Keeps (environment S) part
+            → HasCome S (going trail.old) (going trail.new) part (alt (branches made.list.items))) }
+    {
         let alloc = trail.alloc();
         let mut rows = Rows::new(alloc);
         for branch in self.list {
@@ -162,46 +199,75 @@ fn lead(params: &Scope, chosen: &[u64], guard: &Guard) -> u64 {
 #[derive(Drop)]
 pub(crate) struct Rows {
     list: Vec<Keyed>,
+    ghost numbered: { AreNumbered list.items },
 }
 
 impl Rows {
     /// No branches.
-    pub(crate) fn new(alloc: Global) -> Rows {
+    pub(crate) fn new(alloc: Global) -> Rows
+        ensures { result.list.items ≡ [] }
+    {
         Rows {
             list: Vec::new(alloc),
         }
     }
 
     /// How many there are.
-    pub(crate) fn count(&self) -> usize {
+    pub(crate) fn count(&self) -> usize
+        ensures { result ≡ length self.now.list.items }
+    {
         self.list.len()
     }
 
     /// Adds the next branch with its key.
-    pub(crate) fn push(&mut self, key: Key, branch: (Guard, Proc)) -> Result<(), Lost> {
+    pub(crate) fn push(&mut self, key: Key, branch: (Guard, Proc)) -> Result<(), Lost>
+        ensures { IfOk result (λ done. let place = length self.old.list.items in
+            self.new.list.items ≡ self.old.list.items ++ record { key = key; place = place; branch = branch } ∷ []) }
+    {
         let place = self.list.len();
         self.list.push(Keyed { key, place, branch })?;
         Ok(())
     }
 
     /// The ALT of the branches in the order of their keys, those of equal keys as they stood. No step where they stand so.
-    pub(crate) fn arranged(mut self, trail: &mut Trail) -> Result<Alt, Lost> {
-        self.list.sort_unstable_by(|a, b| a.order(b));
-        let moved = is_moved(self.list.as_slice());
-        let mut list = Vec::with_capacity(trail.alloc(), self.list.len())?;
-        for row in self.list {
-            list.push(row.into_branch())?;
+    pub(crate) fn arranged(self, trail: &mut Trail) -> Result<Alt, Lost>
+        ensures sorted { IfOk result (λ made. (rows : List Keyed) × IsArranged self.list.items rows
+            × (branches made.list.items ≡ branches (alternatives_of rows))) }
+        ensures come { IfOk result (λ made. (S : List (Name × Kind)) → let part = alt (branches (alternatives_of self.list.items)) in
+            Keeps (environment S) part → HasCome S (going trail.old) (going trail.new) part (alt (branches made.list.items))) }
+    {
+        let rows = in_order(self.list);
+        let moved = is_moved(rows.as_slice());
+        let list = without_keys(trail.alloc(), rows)?;
+        if !moved {
+            return Ok(Alt { list });
         }
-        let alt = Alt { list };
-        if moved {
-            alt.forward(trail, law::ALT_ORDER)
-        } else {
-            Ok(alt)
-        }
+        let made = Alt { list }.forward(trail, law::ALT_ORDER)?;
+        Ok(made)
     }
 }
 
-fn is_moved(rows: &[Keyed]) -> bool {
+// The rows in the order of their keys, and then of their places.
+fn in_order(mut rows: Vec<Keyed>) -> Vec<Keyed>
+    ensures { IsArranged rows.items result.items }
+{
+    rows.sort_unstable_by(|a, b| a.order(b));
+    rows
+}
+
+fn without_keys(alloc: Global, rows: Vec<Keyed>) -> Result<Vec<(Guard, Proc)>, Lost>
+    ensures { IfOk result (λ list. list.items ≡ alternatives_of rows.items) }
+{
+    let mut list = Vec::with_capacity(alloc, rows.len())?;
+    for row in rows {
+        list.push(row.into_branch())?;
+    }
+    Ok(list)
+}
+
+fn is_moved(rows: &[Keyed]) -> bool
+    ensures { result ≡ false → AreNumbered rows.now }
+{
     for (place, row) in rows.iter().enumerate() {
         if row.place != place {
             return true;

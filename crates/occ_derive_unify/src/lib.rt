@@ -10,5 +10,6 @@ mod restoring;
 mod unifying;
 
 pub use merging::merge;
+pub use orders::ranks_tell_guards_apart;
 pub use restoring::restore;
 pub use unifying::unify;

@@ -1,0 +1,14 @@
+pub mod Alike
+pub mod Fixed
+pub mod Spines
+pub mod Standing
+pub mod Known
+pub mod Rows
+pub mod Passing
+pub mod Reading
+pub mod Inward
+pub mod Deciding
+pub mod Uniting
+pub mod Widened
+pub mod Choosing
+pub mod Tabled

@@ -1,0 +1,4 @@
+pub mod Going
+pub mod Ordered
+pub mod Pairs
+pub mod Taken

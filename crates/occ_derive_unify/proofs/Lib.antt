@@ -1,0 +1,4 @@
+pub mod Arranging
+pub mod Branched
+pub mod Ranking
+pub mod Reordering
