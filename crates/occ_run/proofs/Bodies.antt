@@ -1,5 +1,5 @@
 -- The steps in the body of a VAR and of CHANs.
-use Rattle.std.proofs.Common.{◌≡◌, ◌==◌, ℕ, None, List, [], ◌∷◌, map, if◌then◌else◌, refl, ap, sym, ◌∙◌}
+use Rattle.std.proofs.Common.{◌≡◌, ◌==◌, ℕ, None, List, [], ◌∷◌, map, if◌then◌else◌, refl, ap, sym, subst, ◌∙◌}
 use Rattle.std.specs.List.{filter}
 use Rattle.std.proofs.Common.{Result, Ok, Err, IfOk}
 use Rattle.occ_syntax.specs.Tree.{Trees}
@@ -47,6 +47,14 @@ gives_channels Γ s (c ∷ cs) C ks h =
 pub gives_after : (Γ : Environment) (s : Values) (C : Control) (ps : Trees) (ks : List (Step Effect)) → Gives Γ s C ks → Gives Γ s (after C ps) ks
 gives_after Γ s C ps ks h =
     sym (map_after (leaving (λ D. after D ps)) (leaving (applied C)) (leaving (applied (after C ps))) (λ k. refl) ks) ∙ ap (map (leaving (λ D. after D ps))) h
+
+-- what holds of a control at a place holds of the same control at the same place
+pub at_place : (P : Environment → Values → Control → Type 0) (Γ Δ : Environment) (s u : Values) (C D : Control) → Δ ≡ Γ → u ≡ s → D ≡ C → P Δ u D → P Γ s C
+at_place P Γ Δ s u C D e f g h =
+    let O : Environment → Type 0 = λ Θ. P Θ u D in
+    let Q : Values → Type 0 = λ q. P Γ q D in
+    let R : Control → Type 0 = λ E. P Γ s E in
+    subst R g (subst Q f (subst O e h))
 
 -- what holds of a result at hand, and what comes of it
 pub on_ok : {A E : Type 0} {P Q : A → Type 0} (r : Result A E) → ((x : A) → P x → Q x) → IfOk r P → IfOk r Q

@@ -25,7 +25,7 @@ use Rattle.occ_run.specs.Founds.{IsAt, asked, asks, each_effects, effects, leave
 use Rattle.occ_run.specs.Offers.{AreOffers, Gives}
 use Rattle.occ_run.specs.View.{control, controls, in_channels, with_channels}
 use Rattle.occ_base.specs.declared.memory.Memory.{Memory}
-use Rattle.occ_run.proofs.Bodies.{gives_after, gives_channels, gives_local, on_ok}
+use Rattle.occ_run.proofs.Bodies.{at_place, gives_after, gives_channels, gives_local, on_ok}
 use Rattle.occ_run.proofs.Fronts.{front_is}
 use Rattle.occ_run.proofs.Lists.{filter_all, filter_map, filter_twice, get_map}
 use Rattle.occ_run.proofs.Together.{gives_both}
@@ -202,13 +202,11 @@ module _ (Γ : Environment) (s : Values) (C : Control) (r : Result Found Memory)
   pub channels_found : (Δ : Environment) (u : Values) (cs seen all : List (Name × Width)) (B D : Control) → C ≡ in_channels cs B → seen ≡ cs → all ≡ hidden ++ seen
       → Δ ≡ with_channels Γ seen → u ≡ s → D ≡ B → Stands Δ u D all → Stands Γ s C hidden
   channels_found Δ u cs seen all B D e sc is f g same h =
-      let O : Environment → Type 0 = λ Θ. Stands Θ u D all in
-      let P : Values → Type 0 = λ q. Stands (with_channels Γ cs) q D all in
-      let Q : Control → Type 0 = λ E. Stands (with_channels Γ cs) s E all in
+      let P : Environment → Values → Control → Type 0 = λ Θ q E. Stands Θ q E all in
       let R : List (Name × Width) → Type 0 = λ ds. Stands (with_channels Γ cs) s B ds in
       let T : Control → Type 0 = λ E. Stands Γ s E hidden in
       let inside : Stands (with_channels Γ cs) s B (hidden ++ cs) =
-      subst R (is ∙ ap (λ ds. hidden ++ ds) sc) (subst Q same (subst P g (subst O (f ∙ ap (with_channels Γ) sc) h))) in
+      subst R (is ∙ ap (λ ds. hidden ++ ds) sc) (at_place P (with_channels Γ cs) Δ s u B D (f ∙ ap (with_channels Γ) sc) g same h) in
       let ks = effects (with_channels Γ cs) s B in
       subst T (sym e) (on_ok r (λ found k. at_same (asked (hidden ++ cs) only ks) (asked hidden only (effects Γ s (in_channels cs B))) n found
       (ap (asked hidden only) (effects_in_channels Γ s cs B) ∙ asked_twice hidden cs only ks) k) inside)

@@ -4,6 +4,7 @@ pub mod Bodies
 pub mod Together
 pub mod Sizes
 pub mod Rows
+pub mod Walks
 pub mod Beginning
 pub mod Fronts
 pub mod Led

@@ -4,8 +4,10 @@ use Rattle.std.proofs.lemmas.List.{length-map}
 use Rattle.occ_run_steps.specs.Step.{Step, leaving, meetings}
 use Rattle.occ_run_meetings.specs.declared.run.Run.{Run}
 use Rattle.occ_run_meetings.specs.declared.meeting.Met.{Met}
-use Rattle.occ_run_meetings.specs.Pairs.{MetFrom, pairs_before, pairs_until}
-use Rattle.occ_run_meetings.specs.Runs.{IsMet, events, met, pairs_along, run_pairs, spelled}
+use Rattle.occ_run_meetings.specs.declared.meeting.Pair.{Pair}
+use Rattle.occ_run_meetings.specs.declared.meeting.Pair.TheVariants.{At, Past}
+use Rattle.occ_run_meetings.specs.Pairs.{IsPair, MetFrom, pairs_before, pairs_until}
+use Rattle.occ_run_meetings.specs.Runs.{IsMet, events, met, pairs_along, pairs_among, run_pairs, spelled}
 use Rattle.occ_run_meetings.proofs.Meetings.{pairs_count}
 use Rattle.occ_run.specs.Effects.{Effect, both_of, pairs_of, pairs_with}
 use Rattle.occ_run.proofs.Founds.{get_behind, get_front}
@@ -105,8 +107,8 @@ pub record PairAt (kss : List (List (Step Effect))) (number : ℕ) (m : Met) : T
   pub is_met : IsMet (events ones) (events others) inner m.event m.before m.answer
   pub whole : (k : Step (Effect × Effect)) → slice_get (meetings ones others) inner ≡ Some k → slice_get (pairs_of 0 kss) number ≡ Some (leaving (both_of m.first m.second) k)
 
-pub pair_is : (kss : List (List (Step Effect))) (each rss : List (List Run)) (n : ℕ) (m : Met) → rss ≡ each → map spelled each ≡ map events kss → MetFrom 0 rss n m → PairAt kss n m
-pair_is kss each rss n m read all h =
+pair_of : (kss : List (List (Step Effect))) (each rss : List (List Run)) (n : ℕ) (m : Met) → rss ≡ each → map spelled each ≡ map events kss → MetFrom 0 rss n m → PairAt kss n m
+pair_of kss each rss n m read all h =
     let t : map events kss ≡ map spelled rss = sym (ap (map spelled) read ∙ all) in
     let one = row_of kss rss h.place h.ones t h.one_stands in
     let other = row_of kss rss h.other h.others t h.other_stands in
@@ -127,3 +129,10 @@ pair_is kss each rss n m read all h =
           ∙ from_place 0 kss rss h.place h.other h.inner one.steps other.steps k t h.below one.stand other.stand e
           ∙ ap (λ v. Some (leaving (both_of v (0 + h.other)) k)) (sym h.first) ∙ ap (λ v. Some (leaving (both_of m.first v) k)) (sym h.second);
     }
+
+pub pair_is : (kss : List (List (Step Effect))) (each rss : List (List Run)) (n : ℕ) (p : Pair) (m : Met) → rss ≡ each → map spelled each ≡ map events kss → p ≡ At m → IsPair 0 rss n p → PairAt kss n m
+pair_is kss each rss n p m read all is h = pair_of kss each rss n m read all (subst (λ q. IsPair 0 rss n q) is h)
+
+-- there is no pair of that number
+pub all_past : (rss : List (List Run)) (n more : ℕ) (p : Pair) → p ≡ Past more → IsPair 0 rss n p → pairs_among rss + more ≡ n
+all_past rss n more p is h = subst (λ q. IsPair 0 rss n q) is h

@@ -30,7 +30,7 @@ use Rattle.occ_run.specs.declared.effect.Offer.{Offer}
 use Rattle.occ_run.specs.declared.found.Found.{Found}
 use Rattle.occ_run.specs.declared.found.Found.TheVariants.{Step as Here, Past}
 use Rattle.occ_run.specs.Effects.{Effect, leaf, off_all}
-use Rattle.occ_run.specs.Founds.{IsAt, IsOver, asked, asks, inputs, inputs_from, leaves}
+use Rattle.occ_run.specs.Founds.{IsAt, IsOver, asked, asks, input_of, inputs, inputs_from, leaves}
 use Rattle.occ_base.specs.declared.memory.Memory.{Memory}
 use Rattle.occ_run.proofs.Bodies.{on_ok}
 use Rattle.occ_run.proofs.Fronts.{front_is}
@@ -86,19 +86,16 @@ abbrev pub input_at : Name → ℕ → Event
 input_at chan v = record { chan = chan; dir = Input; value = v }
 
 module _ (cs : List (Name × Width)) (chan : Name) (x : ℕ) (D : Effect) (size : ℕ) where
-  abbrev made : ℕ → Step Effect
-  made v = step (Some (input_at chan v)) ((x, v) ∷ []) D
-
   -- whether an input is hidden doesn't hang on its value
   hidden_at : (u v : ℕ) → off_all cs (Some (input_at chan u)) ≡ off_all cs (Some (input_at chan v))
   hidden_at u v = same_channel cs (input_at chan u) (input_at chan v) refl
 
   -- all are asked for, or none
   pub inputs_all : asks cs None (Some (input_at chan 0)) ≡ true → asked cs None (inputs chan x D size) ≡ inputs_from chan x D 0 size
-  inputs_all h = all_pass (λ k. asks cs None k.event) made (λ v. hidden_at v 0 ∙ h) (range_with_len 0 size)
+  inputs_all h = all_pass (λ k. asks cs None k.event) (input_of chan x D) (λ v. hidden_at v 0 ∙ h) (range_with_len 0 size)
 
   pub inputs_none : asks cs None (Some (input_at chan 0)) ≡ false → asked cs None (inputs chan x D size) ≡ inputs_from chan x D 0 0
-  inputs_none h = none_pass (λ k. asks cs None k.event) made (λ v. hidden_at v 0 ∙ h) (range_with_len 0 size)
+  inputs_none h = none_pass (λ k. asks cs None k.event) (input_of chan x D) (λ v. hidden_at v 0 ∙ h) (range_with_len 0 size)
 
   -- one event is asked for, and isn't an input of these
   missed : (e : Event) (v : ℕ) (b : Bool) → same_event e (input_at chan v) ≡ b → asks cs (Some e) (Some (input_at chan e.value)) ≡ false → b && off_all cs (Some (input_at chan v)) ≡ false
@@ -109,7 +106,7 @@ module _ (cs : List (Name × Width)) (chan : Name) (x : ℕ) (D : Effect) (size 
   missed e v false h off = refl
 
   pub input_missed : (e : Event) → asks cs (Some e) (Some (input_at chan e.value)) ≡ false → asked cs (Some e) (inputs chan x D size) ≡ inputs_from chan x D 0 0
-  input_missed e off = none_pass (λ k. asks cs (Some e) k.event) made (λ v. missed e v (same_event e (input_at chan v)) refl off) (range_with_len 0 size)
+  input_missed e off = none_pass (λ k. asks cs (Some e) k.event) (input_of chan x D) (λ v. missed e v (same_event e (input_at chan v)) refl off) (range_with_len 0 size)
 
   -- it is an input on this channel
   at_value : (e : Event) → asks cs (Some e) (Some (input_at chan e.value)) ≡ true → (v : ℕ) → asks cs (Some e) (Some (input_at chan v)) ≡ (e.value == v)
@@ -123,26 +120,26 @@ module _ (cs : List (Name × Width)) (chan : Name) (x : ℕ) (D : Effect) (size 
   pub input_asked : (e : Event) → asks cs (Some e) (Some (input_at chan e.value)) ≡ true → e.value < size → asked cs (Some e) (inputs chan x D size) ≡ inputs_from chan x D e.value 1
   input_asked e on h =
       let below : nat_le 0 e.value && nat_lt e.value (0 + size) ≡ true = grind (arith, nat_tests) in
-      one_from e.value (λ k. asks cs (Some e) k.event) made (at_value e on) 0 size ∙ ap (λ (b : Bool). if b then made e.value ∷ [] else []) below
+      one_from e.value (λ k. asks cs (Some e) k.event) (input_of chan x D) (at_value e on) 0 size ∙ ap (λ (b : Bool). if b then input_of chan x D e.value ∷ [] else []) below
 
   pub input_above : (e : Event) → asks cs (Some e) (Some (input_at chan e.value)) ≡ true → size ≤ e.value → asked cs (Some e) (inputs chan x D size) ≡ inputs_from chan x D 0 0
   input_above e on h =
       let above : nat_le 0 e.value && nat_lt e.value (0 + size) ≡ false = grind (arith, nat_tests) in
-      one_from e.value (λ k. asks cs (Some e) k.event) made (at_value e on) 0 size ∙ ap (λ (b : Bool). if b then made e.value ∷ [] else []) above
+      one_from e.value (λ k. asks cs (Some e) k.event) (input_of chan x D) (at_value e on) 0 size ∙ ap (λ (b : Bool). if b then input_of chan x D e.value ∷ [] else []) above
 
 -- what stands among inputs of which those are asked for
 module _ (cs : List (Name × Width)) (o : Option Event) (chan : Name) (x : ℕ) (D : Effect) (size first count n : ℕ)
     (those : asked cs o (inputs chan x D size) ≡ inputs_from chan x D first count) where
   pub inputs_past : count ≤ n → IsAt (asked cs o (inputs chan x D size)) n (Past (n - count))
   inputs_past h =
-      let numbers = length-map-range_with_len (λ v. step (Some (input_at chan v)) ((x, v) ∷ []) D) first count in
+      let numbers = length-map-range_with_len (input_of chan x D) first count in
       let past : length (inputs_from chan x D first count) + (n - count) ≡ n = omega (arith, h, numbers) in
       at_same (inputs_from chan x D first count) (asked cs o (inputs chan x D size)) n (Past (n - count)) those past
 
   pub input_here : n < count → (es : List (ℕ × ℕ)) → es ≡ (x, first + n) ∷ [] → (r : Result Found Memory)
       → IfOk r (IsAt (step (Some (input_at chan (first + n))) es D ∷ []) 0) → IfOk r (IsAt (asked cs o (inputs chan x D size)) n)
   input_here h es g r k =
-      let f : ℕ → Step Effect = λ v. step (Some (input_at chan v)) ((x, v) ∷ []) D in
+      let f : ℕ → Step Effect = input_of chan x D in
       let one : Step Effect = step (Some (input_at chan (first + n))) es D in
       let same : f (first + n) ≡ one = ap (λ xs. step (Some (input_at chan (first + n))) xs D) (sym g) in
       let at : slice_get (asked cs o (inputs chan x D size)) n ≡ Some one = ap (λ ks. slice_get ks n) those ∙ get_number f first count n h ∙ ap Some same in
@@ -154,7 +151,7 @@ pub inputs_found : (cs : List (Name × Width)) (o : Option Event) (chan : Name) 
     → IfOk r (IsAt (asked cs o (leaves (map (λ u. step (Some (input_at chan u)) ((x, u) ∷ []) (unbegun p)) (values_of v)))) n)
 inputs_found cs o chan x v w size n p C r e f g h =
     let F : ℕ → Step Control = λ u. step (Some (input_at chan u)) ((x, u) ∷ []) (unbegun p) in
-    let G : ℕ → Step Effect = λ u. step (Some (input_at chan u)) ((x, u) ∷ []) (leaf (unbegun p)) in
+    let G : ℕ → Step Effect = input_of chan x (leaf (unbegun p)) in
     let same : leaves (map F (values_of v)) ≡ inputs chan x (leaf C) size =
     ap (λ q. leaves (map F (values_of q))) e ∙ map_after (leaving leaf) F G (λ u. refl) (range_with_len 0 (2 ^ bits_of w))
     ∙ ap (inputs chan x (leaf (unbegun p))) (sym f) ∙ ap (λ E. inputs chan x (leaf E) size) (sym g) in

@@ -89,6 +89,10 @@ effect (Two' i p d j q e) = two i (effect d) j (effect e)
 abbrev pub changes_of : List (Name × ℕ) → List (ℕ × ℕ)
 changes_of cs = map (λ (c : Name × ℕ). (c.0.0, c.1)) cs
 
+-- the step by which a process becomes that
+abbrev pub becoming : Option Event → List (Name × ℕ) → Next → Step Effect
+becoming event changes next = step event (changes_of changes) (leaf (next_left next))
+
 abbrev pub offered : Offer → Step Effect
 offered k = step k.event (changes_of k.changes.items) (effect k.effect.value)
 

@@ -8,10 +8,12 @@ use Rattle.occ_base.specs.declared.width.Width.{Width}
 use Rattle.occ_syntax.specs.Scopes.{Environment, Values, with_name, with_value}
 use Rattle.occ_syntax.specs.declared.scope.Kind.TheVariants.{Chan, Var}
 use Rattle.occ_run_steps.specs.Control.{Control, done, unbegun, after, both, local, channel, Controls, no_control, and_control}
-use Rattle.occ_run_steps.specs.Step.{Step, leaving, same, step}
+use Rattle.occ_run_steps.specs.Step.{Step, is_event, leaving, same, step}
 use Rattle.occ_run_steps.specs.Steps.{process_steps}
 use Rattle.occ_run.specs.Effects.{Effect, leaf, offered, alone_of, pairs_of, in_body, off_all, off_channels}
 use Rattle.occ_run.specs.declared.found.Found.{Found}
+use Rattle.occ_run.specs.declared.place.Place.{Place}
+use Rattle.occ_run.specs.Places.{names_at, values_at}
 use Rattle.occ_run.specs.declared.found.Wanted.{Wanted}
 use Rattle.occ_run.specs.declared.found.Found.TheVariants.{Step as Here, Past}
 
@@ -55,9 +57,21 @@ abbrev pub IsOver : List (Step Effect) → ℕ → Step Effect → Option ℕ �
 IsOver ks n k None = slice_get ks n ≡ Some k
 IsOver ks n k (Some more) = length ks + more ≡ n
 
--- the inputs on a channel of some values in a row, of which this is the first
+-- the same of what is wanted, and one step of which that is seen
+abbrev pub IsOverOne : Wanted → Option Event → Option ℕ → Type 0
+IsOverOne wanted event left = (k : Step Effect) → k.event ≡ event → IsOver (asked wanted.hidden.now wanted.only (k ∷ [])) wanted.number k left
+
+-- the steps of a control at a place that are an event
+abbrev pub steps_with : Event → Place → Control → List (Step Effect)
+steps_with event place C = filter (is_event event) (effects (names_at place) (values_at place) C)
+
+-- the input of a value on a channel, which a variable has then
+abbrev pub input_of : Name → ℕ → Effect → ℕ → Step Effect
+input_of chan x e v = step (Some (record { chan = chan; dir = Input; value = v })) ((x, v) ∷ []) e
+
+-- those of some values in a row, of which this is the first
 abbrev pub inputs_from : Name → ℕ → Effect → ℕ → ℕ → List (Step Effect)
-inputs_from chan x e first count = map (λ v. step (Some (record { chan = chan; dir = Input; value = v })) ((x, v) ∷ []) e) (range_with_len first count)
+inputs_from chan x e first count = map (input_of chan x e) (range_with_len first count)
 
 -- of the values below a number
 abbrev pub inputs : Name → ℕ → Effect → ℕ → List (Step Effect)

@@ -23,7 +23,8 @@ pub fn numbers_that_are_followed_lead()
 pub fn what_is_seen_is_a_trace_of_the_program()
     ensures { (program : Program) → IsAccepted program → (state : List (Name × ℕ)) → is_state program.params state ≡ true →
         (k : ℕ) (ns : List ℕ) (d : Configuration) →
-        followed k (started program state) ns ≡ Ok d → HasTrace (environment program.params) (tree program.body) (values state) d.trace }
+        followed k (started program state) ns ≡ Ok d →
+        HasTrace (environment program.params) (tree program.body) (values state) d.trace }
 {}
 
 /// Where a machine of an accepted program has ended, is stuck or is stable, the behaviour that it shows is one of the
@@ -31,5 +32,6 @@ pub fn what_is_seen_is_a_trace_of_the_program()
 pub fn what_a_stand_shows_belongs_to_the_program()
     ensures { (program : Program) → IsAccepted program → (state : List (Name × ℕ)) → is_state program.params state ≡ true →
         (k : ℕ) (ns : List ℕ) (d : Configuration) →
-        followed k (started program state) ns ≡ Ok d → (stand : Stand) → IsStand d stand → Belongs program state d.trace (shown stand) }
+        followed k (started program state) ns ≡ Ok d →
+        (stand : Stand) → IsStand d stand → Belongs program state d.trace (shown stand) }
 {}

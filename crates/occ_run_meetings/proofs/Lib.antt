@@ -3,3 +3,5 @@ pub mod Meetings
 pub mod Passing
 pub mod Pairing
 pub mod Adding
+pub mod Tables
+pub mod Behind

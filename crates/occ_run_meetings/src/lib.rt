@@ -3,6 +3,7 @@
 
 mod meeting;
 mod run;
+mod table;
 mod together;
 
 pub use meeting::{Met, Pair, pair_at};

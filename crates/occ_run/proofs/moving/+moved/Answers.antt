@@ -3,7 +3,7 @@ use Rattle.std.proofs.lemmas.Bool.{and_parts}
 use Rattle.occ_base.specs.declared.names.Name.{Name}
 use Rattle.occ_base.specs.declared.width.Width.{Width}
 use Rattle.occ_syntax.specs.Scopes.{values}
-use Rattle.occ_run_steps.specs.Control.{Control as Left, all_done, both, is_done}
+use Rattle.occ_run_steps.specs.Control.{Control as Left, all_done, is_done}
 use Rattle.occ_run_steps.specs.Kept.{all_types_held, types_held}
 use Rattle.occ_run_steps.specs.Settled.{all_are_settled, all_settled, is_settled, settled, side_by_side}
 use Rattle.occ_run_steps.proofs.Settling.{settled_stays}
@@ -14,8 +14,9 @@ use Rattle.occ_run.proofs.Applying.{applied_in_channels}
 use Rattle.occ_run.proofs.Beginning.{settled_row}
 use Rattle.occ_run.proofs.Channels.{held_row}
 use Rattle.occ_run.proofs.Fronts.{front_is, none_is}
-use Rattle.occ_run.proofs.Rows.{all_made, control-Both, one_made}
+use Rattle.occ_run.proofs.Rows.{all_made, one_made}
 use Rattle.occ_run.proofs.Sizes.{size, size_both, size_in_channels, sizes}
+use Rattle.occ_run.proofs.Walks.{parts_are}
 use Rattle.occ_run.proofs.moving.+moved.Goals as goal
 use Rattle.occ_run.proofs.moving.+moved.Goals.{all_moved-in-None+in_ok-next-in-None, all_moved-in-Some+in_ok-moved-in-Some+in_ok-next-in-Some}
 
@@ -59,7 +60,7 @@ all_moved-returns t c =
 
 pub moved-all_moved-requires : goal.moved-all_moved-requires
 moved-all_moved-requires t c =
-    let e = ap control c.in-Both.is ∙ control-Both c.in-Both.parts ∙ ap (λ xs. both (controls xs)) (sym c.deref-in-Both.ensures.value) in
+    let e = parts_are (control c.args.control.now) c.in-Both.parts c.deref-in-Both.result.now (ap control c.in-Both.is) c.deref-in-Both.ensures.value in
     let w = size_both _ _ e in
     let Cs = controls c.deref-in-Both.result.now in (
       omega (arith, w, c.decreases),
@@ -71,7 +72,7 @@ moved-all_moved-requires t c =
 
 pub moved-returns-in-Both : goal.moved-returns-in-Both
 moved-returns-in-Both t c =
-    let e = ap control c.in-Both.is ∙ control-Both c.in-Both.parts ∙ ap (λ xs. both (controls xs)) (sym c.deref-in-Both.ensures.value) in
+    let e = parts_are (control c.args.control.now) c.in-Both.parts c.deref-in-Both.result.now (ap control c.in-Both.is) c.deref-in-Both.ensures.value in
     subst (λ (C : Left). IfOk c.all_moved.result (λ next. control next ≡ settled (names_at c.args.place.now) (values_at c.args.place.now) (applied C (effect c.args.effect.now)))) (sym e) c.all_moved.ensures
 
 pub moved-within-requires : goal.moved-within-requires

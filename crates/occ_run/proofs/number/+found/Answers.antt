@@ -1,38 +1,38 @@
-use Rattle.std.proofs.Common.{◌≡◌, ◌<◌, ◌∷◌, ◌++◌, length, map, refl, sym, ap, ◌∙◌, arith}
+use Rattle.std.proofs.Common.{◌<◌, ◌∷◌, ◌++◌, length, map, refl, sym, ap, ◌∙◌, arith}
 use Rattle.std.proofs.lemmas.Bool.{and_parts}
 use Rattle.occ_base.specs.Event.{counterpart}
 use Rattle.occ_syntax.specs.Scopes.{environment, values}
 use Rattle.occ_syntax.specs.View.{trees}
-use Rattle.occ_run_steps.specs.Control.{both}
 use Rattle.occ_run_steps.specs.Kept.{all_types_held, types_held}
 use Rattle.occ_run.specs.declared.found.Found.TheVariants.{Step as Here}
 use Rattle.occ_run.specs.Effects.{alone_of, pairs_of}
 use Rattle.occ_run.specs.Founds.{asked, each_effects, effects}
 use Rattle.occ_run.specs.Places.{names_at, values_at}
-use Rattle.occ_run.specs.View.{control, controls, in_channels}
+use Rattle.occ_run.specs.View.{control, controls}
 use Rattle.occ_run.proofs.Bodies.{on_ok}
 use Rattle.occ_run.proofs.Channels.{held_row}
 use Rattle.occ_run.proofs.Founds.{after_found, at_same, both_behind, both_here, channels_found, local_at, none_left, part_behind, part_here}
 use Rattle.occ_run.proofs.Fronts.{front_is, none_is}
 use Rattle.occ_run.proofs.Joining.{event_here, first_more, not_past, pair_stands, part_is, part_there, same_more, same_step, second_more}
-use Rattle.occ_run.proofs.Pairing.{pair_is}
+use Rattle.occ_run.proofs.Pairing.{all_past, pair_is}
 use Rattle.occ_run_meetings.specs.Runs.{runs_of_each, spelled}
 use Rattle.occ_run.proofs.Unseen.{among_length, pairs_asked, pairs_missed}
 use Rattle.occ_run.proofs.Rows.{control-Both}
-use Rattle.occ_run.proofs.Sizes.{size, size_both, size_in_channels, sizes}
+use Rattle.occ_run.proofs.Sizes.{sizes}
+use Rattle.occ_run.proofs.Walks.{body_held, parts_held}
 use Rattle.occ_run.proofs.number.+found.Goals as goal
 
 pub found-alone_found-requires : goal.found-alone_found-requires
 found-alone_found-requires t c =
-    let e = ap control c.in-Both.is ∙ control-Both c.in-Both.parts ∙ ap (λ xs. both (controls xs)) (sym c.deref-in-Both.ensures.value) in
-    let w = size_both _ _ e in
-    (omega (arith, w, c.decreases), sym (ap (λ C. types_held C (names_at c.args.place.now)) e) ∙ c.requires)
+    let held = parts_held (names_at c.args.place.now) (control c.args.control.now) c.in-Both.parts c.deref-in-Both.result.now (ap control c.in-Both.is) c.deref-in-Both.ensures.value c.requires in
+    let less = held.0 in
+    (omega (arith, less, c.decreases), held.1)
 
 pub found-pair_asked-requires : goal.found-pair_asked-requires
 found-pair_asked-requires t c =
-    let e = ap control c.in-Both.is ∙ control-Both c.in-Both.parts ∙ ap (λ xs. both (controls xs)) (sym c.deref-in-Past.ensures.value) in
-    let w = size_both _ _ e in
-    (omega (arith, w, c.decreases), sym (ap (λ C. types_held C (names_at c.args.place.now)) e) ∙ c.requires)
+    let held = parts_held (names_at c.args.place.now) (control c.args.control.now) c.in-Both.parts c.deref-in-Past.result.now (ap control c.in-Both.is) c.deref-in-Past.ensures.value c.requires in
+    let less = held.0 in
+    (omega (arith, less, c.decreases), held.1)
 
 pub found-within-requires : goal.found-within-requires
 found-within-requires t c =
@@ -46,15 +46,11 @@ found-returns-in-After t c =
 
 pub found-found-requires-in-Channels : goal.found-found-requires-in-Channels
 found-found-requires-in-Channels t c =
-    let held = held_row (names_at c.args.place.now) c.in-Channels.first c.in-Channels.more.items c.deref-in-Channels.result.now (control c.args.control.now) (control c.in-Channels.body.value)
-    (ap control c.in-Channels.is) c.deref-in-Channels.ensures.value c.requires in
-    let whole : size (control c.args.control.now) ≡ size (in_channels (c.in-Channels.first ∷ c.in-Channels.more.items) (control c.in-Channels.body.value)) = ap (λ x. size (control x)) c.in-Channels.is in
-    let less = size_in_channels c.in-Channels.more.items (control c.in-Channels.body.value) in
-    let same = ap (λ x. size (control x)) c.deref-in-Channels-3.ensures in (
-      omega (arith, whole, less, same, c.decreases),
-      ap (λ x. types_held (control x) (names_at c.in_ok-inner-in-Channels.inner)) c.deref-in-Channels-3.ensures
-          ∙ ap (types_held (control c.in-Channels.body.value)) c.in_ok-inner-in-Channels.ensures.scope ∙ held.1,
-    )
+    let inner = c.in_ok-inner-in-Channels in
+    let held = body_held (names_at c.args.place.now) (names_at inner.inner) c.in-Channels.first c.in-Channels.more.items c.deref-in-Channels.result.now (control c.args.control.now)
+    (control c.in-Channels.body.value) (control c.deref-in-Channels-3.result.now) (ap control c.in-Channels.is) c.deref-in-Channels.ensures.value (ap control c.deref-in-Channels-3.ensures) inner.ensures.scope c.requires in
+    let less = held.0 in
+    (omega (arith, less, c.decreases), held.1)
 
 pub found-returns-in-Step : goal.found-returns-in-Step
 found-returns-in-Step t c =
@@ -152,30 +148,31 @@ pair_found-returns-in-Past t c =
     let kss = each_effects (names_at c.args.place.now) (values_at c.args.place.now) (controls c.args.parts.now) in
     let same = ap (λ es. map spelled (runs_of_each es)) c.deref.ensures.value ∙ c.in_ok-each.ensures in
     let count = among_length 0 kss (runs_of_each c.deref.result.now) (sym same) in
-    omega (arith, count, c.in-Past.ensures)
+    let past = all_past (runs_of_each c.deref.result.now) c.args.number c.in-Past.more c.in_ok-more.field-0 c.in-Past.is c.in_ok-more.ensures in
+    omega (arith, count, past)
 
 pub pair_found-bounds-parts-met : goal.pair_found-bounds-parts-met
 pair_found-bounds-parts-met t c =
     let Γ = names_at c.args.place.now in
     let s = values_at c.args.place.now in
-    let it = pair_is (each_effects Γ s (controls c.args.parts.now)) (runs_of_each c.in_ok-each.each.items) (runs_of_each c.deref.result.now) c.args.number c.in-At.met
-    (ap runs_of_each c.deref.ensures.value) c.in_ok-each.ensures c.in-At.ensures in
+    let it = pair_is (each_effects Γ s (controls c.args.parts.now)) (runs_of_each c.in_ok-each.each.items) (runs_of_each c.deref.result.now) c.args.number c.in_ok-more.field-0 c.in-At.met
+    (ap runs_of_each c.deref.ensures.value) c.in_ok-each.ensures c.in-At.is c.in_ok-more.ensures in
     part_there Γ s c.args.parts.now c.in-At.met.first it.ones it.one_stands
 
 pub pair_found-bounds-parts-met-in-At : goal.pair_found-bounds-parts-met-in-At
 pair_found-bounds-parts-met-in-At t c =
     let Γ = names_at c.args.place.now in
     let s = values_at c.args.place.now in
-    let it = pair_is (each_effects Γ s (controls c.args.parts.now)) (runs_of_each c.in_ok-each.each.items) (runs_of_each c.deref.result.now) c.args.number c.in-At.met
-    (ap runs_of_each c.deref.ensures.value) c.in_ok-each.ensures c.in-At.ensures in
+    let it = pair_is (each_effects Γ s (controls c.args.parts.now)) (runs_of_each c.in_ok-each.each.items) (runs_of_each c.deref.result.now) c.args.number c.in_ok-more.field-0 c.in-At.met
+    (ap runs_of_each c.deref.ensures.value) c.in_ok-each.ensures c.in-At.is c.in_ok-more.ensures in
     part_there Γ s c.args.parts.now c.in-At.met.second it.others it.other_stands
 
 pub pair_found-part_found-requires : goal.pair_found-part_found-requires
 pair_found-part_found-requires t c =
     let Γ = names_at c.args.place.now in
     let s = values_at c.args.place.now in
-    let it = pair_is (each_effects Γ s (controls c.args.parts.now)) (runs_of_each c.in_ok-each.each.items) (runs_of_each c.deref.result.now) c.args.number c.in-At.met
-    (ap runs_of_each c.deref.ensures.value) c.in_ok-each.ensures c.in-At.ensures in
+    let it = pair_is (each_effects Γ s (controls c.args.parts.now)) (runs_of_each c.in_ok-each.each.items) (runs_of_each c.deref.result.now) c.args.number c.in_ok-more.field-0 c.in-At.met
+    (ap runs_of_each c.deref.ensures.value) c.in_ok-each.ensures c.in-At.is c.in_ok-more.ensures in
     let one = part_is Γ s c.args.parts.now c.in-At.met.first it.ones c.index-parts-met.result (control c.deref-in-At.result.now) c.requires it.one_stands c.index-parts-met.is (ap control c.deref-in-At.ensures) in
     let less = one.less in (
       omega (arith, less, c.decreases),
@@ -186,8 +183,8 @@ pub pair_found-part_found-requires-in-At : goal.pair_found-part_found-requires-i
 pair_found-part_found-requires-in-At t c =
     let Γ = names_at c.args.place.now in
     let s = values_at c.args.place.now in
-    let it = pair_is (each_effects Γ s (controls c.args.parts.now)) (runs_of_each c.in_ok-each.each.items) (runs_of_each c.deref.result.now) c.args.number c.in-At.met
-    (ap runs_of_each c.deref.ensures.value) c.in_ok-each.ensures c.in-At.ensures in
+    let it = pair_is (each_effects Γ s (controls c.args.parts.now)) (runs_of_each c.in_ok-each.each.items) (runs_of_each c.deref.result.now) c.args.number c.in_ok-more.field-0 c.in-At.met
+    (ap runs_of_each c.deref.ensures.value) c.in_ok-each.ensures c.in-At.is c.in_ok-more.ensures in
     let other = part_is Γ s c.args.parts.now c.in-At.met.second it.others c.index-parts-met-in-At.result (control c.deref-in-At-2.result.now) c.requires it.other_stands c.index-parts-met-in-At.is
     (ap control c.deref-in-At-2.ensures) in
     let less = other.less in (
@@ -203,8 +200,8 @@ pub pair_found-returns : goal.pair_found-returns
 pair_found-returns t c =
     let Γ = names_at c.args.place.now in
     let s = values_at c.args.place.now in
-    let it = pair_is (each_effects Γ s (controls c.args.parts.now)) (runs_of_each c.in_ok-each.each.items) (runs_of_each c.deref.result.now) c.args.number c.in-At.met
-    (ap runs_of_each c.deref.ensures.value) c.in_ok-each.ensures c.in-At.ensures in
+    let it = pair_is (each_effects Γ s (controls c.args.parts.now)) (runs_of_each c.in_ok-each.each.items) (runs_of_each c.deref.result.now) c.args.number c.in_ok-more.field-0 c.in-At.met
+    (ap runs_of_each c.deref.ensures.value) c.in_ok-each.ensures c.in-At.is c.in_ok-more.ensures in
     let one = part_is Γ s c.args.parts.now c.in-At.met.first it.ones c.index-parts-met.result (control c.deref-in-At.result.now) c.requires it.one_stands c.index-parts-met.is (ap control c.deref-in-At.ensures) in
     let other = part_is Γ s c.args.parts.now c.in-At.met.second it.others c.index-parts-met-in-At.result (control c.deref-in-At-2.result.now) c.requires it.other_stands c.index-parts-met-in-At.is
     (ap control c.deref-in-At-2.ensures) in

@@ -1,16 +1,17 @@
-use Rattle.std.proofs.Common.{◌≡◌, ◌<◌, IfOk, length, sym, ap, subst, ◌∙◌, ◌∷◌, arith}
+use Rattle.std.proofs.Common.{◌≡◌, ◌<◌, IfOk, length, sym, ap, subst, ◌∙◌, arith}
 use Rattle.std.proofs.lemmas.Bool.{and_parts}
 use Rattle.occ_syntax.specs.Scopes.{values}
-use Rattle.occ_run_steps.specs.Control.{Control as Left, both}
+use Rattle.occ_run_steps.specs.Control.{Control as Left}
 use Rattle.occ_run_steps.specs.Kept.{all_types_held, types_held}
 use Rattle.occ_run_steps.specs.Settled.{all_settled, settled, side_by_side}
 use Rattle.occ_run.specs.Places.{names_at, values_at}
-use Rattle.occ_run.specs.View.{control, controls, in_channels}
+use Rattle.occ_run.specs.View.{control, controls}
 use Rattle.occ_run.proofs.Beginning.{settled_row}
 use Rattle.occ_run.proofs.Channels.{held_row}
 use Rattle.occ_run.proofs.Fronts.{front_is, none_is}
-use Rattle.occ_run.proofs.Rows.{all_made, control-Both, one_made}
-use Rattle.occ_run.proofs.Sizes.{size, size_both, size_in_channels, sizes}
+use Rattle.occ_run.proofs.Rows.{all_made, one_made}
+use Rattle.occ_run.proofs.Sizes.{sizes}
+use Rattle.occ_run.proofs.Walks.{body_held, parts_are, parts_held}
 use Rattle.occ_run.proofs.settle.+settled.Goals as goal
 
 pub all_settled-loop-rest-preserved : goal.all_settled-loop-rest-preserved
@@ -34,13 +35,13 @@ all_settled-returns t c =
 
 pub settled-all_settled-requires : goal.settled-all_settled-requires
 settled-all_settled-requires t c =
-    let e = ap control c.in-Both.is ∙ control-Both c.in-Both.parts ∙ ap (λ xs. both (controls xs)) (sym c.deref-in-Both.ensures.value) in
-    let w = size_both _ _ e in
-    (omega (arith, w, c.decreases), sym (ap (λ C. types_held C (names_at c.args.place.now)) e) ∙ c.requires)
+    let held = parts_held (names_at c.args.place.now) (control c.args.control.now) c.in-Both.parts c.deref-in-Both.result.now (ap control c.in-Both.is) c.deref-in-Both.ensures.value c.requires in
+    let less = held.0 in
+    (omega (arith, less, c.decreases), held.1)
 
 pub settled-returns-in-Both : goal.settled-returns-in-Both
 settled-returns-in-Both t c =
-    let e = ap control c.in-Both.is ∙ control-Both c.in-Both.parts ∙ ap (λ xs. both (controls xs)) (sym c.deref-in-Both.ensures.value) in
+    let e = parts_are (control c.args.control.now) c.in-Both.parts c.deref-in-Both.result.now (ap control c.in-Both.is) c.deref-in-Both.ensures.value in
     subst (λ (C : Left). IfOk c.all_settled.result (λ next. control next ≡ settled (names_at c.args.place.now) (values_at c.args.place.now) C)) (sym e) c.all_settled.ensures
 
 pub settled-within-requires : goal.settled-within-requires
@@ -50,15 +51,11 @@ settled-within-requires t c =
 
 pub settled-settled-requires-in-Channels : goal.settled-settled-requires-in-Channels
 settled-settled-requires-in-Channels t c =
-    let held = held_row (names_at c.args.place.now) c.in-Channels.first c.in-Channels.more.items c.deref-in-Channels.result.now (control c.args.control.now) (control c.in-Channels.body.value)
-    (ap control c.in-Channels.is) c.deref-in-Channels.ensures.value c.requires in
-    let whole : size (control c.args.control.now) ≡ size (in_channels (c.in-Channels.first ∷ c.in-Channels.more.items) (control c.in-Channels.body.value)) = ap (λ x. size (control x)) c.in-Channels.is in
-    let less = size_in_channels c.in-Channels.more.items (control c.in-Channels.body.value) in
-    let same = ap (λ x. size (control x)) c.deref-in-Channels-2.ensures in (
-      omega (arith, whole, less, same, c.decreases),
-      ap (λ x. types_held (control x) (names_at c.in_ok-inner-in-Channels.inner)) c.deref-in-Channels-2.ensures
-          ∙ ap (types_held (control c.in-Channels.body.value)) c.in_ok-inner-in-Channels.ensures.scope ∙ held.1,
-    )
+    let inner = c.in_ok-inner-in-Channels in
+    let held = body_held (names_at c.args.place.now) (names_at inner.inner) c.in-Channels.first c.in-Channels.more.items c.deref-in-Channels.result.now (control c.args.control.now)
+    (control c.in-Channels.body.value) (control c.deref-in-Channels-2.result.now) (ap control c.in-Channels.is) c.deref-in-Channels.ensures.value (ap control c.deref-in-Channels-2.ensures) inner.ensures.scope c.requires in
+    let less = held.0 in
+    (omega (arith, less, c.decreases), held.1)
 
 pub settled-returns-in_ok-from_slice-in-Channels : goal.settled-returns-in_ok-from_slice-in-Channels
 settled-returns-in_ok-from_slice-in-Channels t c =
