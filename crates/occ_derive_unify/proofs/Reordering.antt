@@ -19,7 +19,7 @@ use Rattle.occ_syntax.specs.Tree.{Tree, alt}
 use Rattle.occ_syntax.specs.Usage.{Keeps}
 use Rattle.occ_syntax.specs.View.{branches}
 
-arranged_reordered : (rows sorted : List Keyed) → IsArranged rows sorted
+pub arranged_reordered : (rows sorted : List Keyed) → IsArranged rows sorted
     → BranchesReordered (branches (alternatives_of rows)) (branches (alternatives_of sorted))
 arranged_reordered rows sorted is =
     permuted (alternatives_of rows) (alternatives_of sorted) (IsPermutation-map (λ (row : Keyed). row.branch) rows sorted is.permutation)

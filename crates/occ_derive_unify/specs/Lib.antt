@@ -1,3 +1,4 @@
+pub mod Merged
 pub mod Orders
 pub mod Places
 pub mod Rows

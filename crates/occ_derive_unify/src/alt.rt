@@ -1,10 +1,11 @@
 ghost use Rattle.std.specs.Prelude.{◌≡◌, ◌++◌, ◌∷◌, [], IfOk, List, false, length};
 ghost use Rattle.occ_base.specs.declared.names.Name.{Name};
-ghost use Rattle.occ_derive_moves.specs.Come.{HasCome, HasMoved};
+ghost use Rattle.occ_derive_moves.specs.Come.{HasCome, HasEntered, HasMoved};
 ghost use Rattle.occ_derive_trail.specs.Trails.{going};
 ghost use Rattle.occ_derive_unify.specs.Places.{HasMore, HasOther};
 ghost use Rattle.occ_derive_unify.specs.Rows.{AreNumbered, IsArranged, alternatives_of, row_order};
 ghost use Rattle.occ_derive_unify.specs.declared.alt.Keyed.{Keyed};
+ghost use Rattle.occ_law_rules.specs.Lists.{BranchesReordered};
 ghost use Rattle.occ_script_path.specs.declared.direction.Direction.TheVariants as direction;
 ghost use Rattle.occ_syntax.specs.declared.scope.Kind.{Kind};
 ghost use Rattle.occ_syntax.specs.Scopes.{environment};
@@ -51,11 +52,14 @@ impl Keyed {
 }
 
 /// Goes on with the part of that number in the present one.
-pub(crate) fn enter(trail: &mut Trail, number: usize) -> Result<(), Lost> {
-    match u32::try_from(number) {
-        Ok(number) => Ok(trail.enter(number)?),
-        Err(_) => Err(Lost::NoStep),
-    }
+pub(crate) fn enter(trail: &mut Trail, number: usize) -> Result<(), Lost>
+    ensures { IfOk result (λ done. HasEntered (going trail.old) (going trail.new) number) }
+{
+    let Ok(small) = u32::try_from(number) else {
+        return Err(Lost::NoStep);
+    };
+    trail.enter(small)?;
+    Ok(())
 }
 
 impl Alt {
@@ -74,6 +78,17 @@ impl Alt {
         ensures { IfOk result (λ part. tree part ≡ alt (branches self.list.items)) }
     {
         alt_of(alloc, self.list)
+    }
+
+    /// The same branches, and a copy of the ALT.
+    pub(crate) fn copied(self, alloc: Global) -> Result<(Alt, Proc), Lost>
+        ensures list { IfOk result (λ made. branches made.0.list.items ≡ branches self.list.items) }
+        ensures part { IfOk result (λ made. tree made.1 ≡ alt (branches self.list.items)) }
+    {
+        let part = self.into_part(alloc)?;
+        let copy = part.copy(alloc)?;
+        let same = Alt::of(alloc, part)?;
+        Ok((same, copy))
     }
 
     /// A law used forward makes the present part this ALT.
@@ -147,8 +162,9 @@ impl Alt {
 
     /// Puts the branches into the order of a normal program.
     pub(crate) fn ordered(self, trail: &mut Trail, params: &Scope) -> Result<Alt, Lost>
-        ensures { IfOk result (λ made. (S : List (Name × Kind)) → let part = alt (branches self.list.items) in Keeps (environment S) part
-            → HasCome S (going trail.old) (going trail.new) part (alt (branches made.list.items))) }
+        ensures reordered { IfOk result (λ made. BranchesReordered (branches self.list.items) (branches made.list.items)) }
+        ensures come { IfOk result (λ made. (S : List (Name × Kind)) → let part = alt (branches self.list.items) in
+            Keeps (environment S) part → HasCome S (going trail.old) (going trail.new) part (alt (branches made.list.items))) }
     {
         let alloc = trail.alloc();
         let mut rows = Rows::new(alloc);

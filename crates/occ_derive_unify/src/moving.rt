@@ -109,13 +109,11 @@ fn copied_out(trail: &mut Trail, params: &Scope, mut alt: Alt, event: Event) -> 
 }
 
 // The first branch twice.
-fn doubled(trail: &mut Trail, mut alt: Alt) -> Result<Alt, Lost> {
+fn doubled(trail: &mut Trail, alt: Alt) -> Result<Alt, Lost> {
     let alloc = trail.alloc();
-    let copy = match alt.list.as_slice() {
-        [first, ..] => (first.0.copy(alloc)?, first.1.copy(alloc)?),
-        [] => return Err(Lost::NoStep),
-    };
-    alt.insert(0, copy)?;
+    let (mut alt, copy) = alt.copied(alloc)?;
+    let first = Alt::of(alloc, copy)?.remove(0)?;
+    alt.insert(0, first)?;
     alt.backward(trail, law::ALT_TWICE)
 }
 

@@ -1,7 +1,7 @@
 use crate::alt::{Alt, enter};
 use crate::merging::{flat, has_unseen};
 use crate::orders::{accepted, following, ranks};
-use occ_derive_trail::{Lost, Trail, alt_of, choices_of, if_of, law, unseen};
+use occ_derive_trail::{Lost, Trail, choices_of, if_of, law, unseen};
 use occ_syntax::{Choices, Guard, Proc, Scope, Wait};
 use std::alloc::Global;
 use std::mem::replace;
@@ -106,19 +106,10 @@ fn offering(trail: &mut Trail, params: &Scope, alt: Alt) -> Result<Alt, Lost> {
 }
 
 // An ALT of events alone, with all of them as an acceptance too.
-fn slid(trail: &mut Trail, mut alt: Alt) -> Result<Alt, Lost> {
-    let alloc = trail.alloc();
-    let copy = copies(alloc, alt.list.as_slice())?;
-    alt.list.push((unseen(), alt_of(alloc, copy)?))?;
+fn slid(trail: &mut Trail, alt: Alt) -> Result<Alt, Lost> {
+    let (mut alt, copy) = alt.copied(trail.alloc())?;
+    alt.list.push((unseen(), copy))?;
     alt.backward(trail, law::ALT_SLIDE)
-}
-
-fn copies(alloc: Global, list: &[(Guard, Proc)]) -> Result<Vec<(Guard, Proc)>, Lost> {
-    let mut copies = Vec::with_capacity(alloc, list.len())?;
-    for (guard, part) in list {
-        copies.push((guard.copy(alloc)?, part.copy(alloc)?))?;
-    }
-    Ok(copies)
 }
 
 // The ranks of the events of the acceptance at a place that no acceptance before it has.
@@ -170,10 +161,9 @@ fn offered(
     let inner = Alt::of(alloc, alt.take(place)?)?;
     enter(trail, place)?;
     let inner = inner.led_by(trail, params, chosen)?;
-    let mut outer = Alt {
-        list: copies(alloc, front(inner.list.as_slice(), chosen.len()))?,
-    };
-    outer.list.push((unseen(), inner.into_part(alloc)?))?;
+    let (mut outer, copy) = inner.copied(alloc)?;
+    outer.list.truncate(chosen.len());
+    outer.list.push((unseen(), copy))?;
     let mut outer = outer.backward(trail, law::ALT_SLIDE)?;
     let inner = Alt::of(alloc, outer.take(chosen.len())?)?;
     enter(trail, chosen.len())?;
@@ -183,11 +173,4 @@ fn offered(
     outer.put(chosen.len(), inner.into_part(alloc)?)?;
     alt.put(place, outer.into_part(alloc)?)?;
     flat(trail, alt, place)
-}
-
-fn front(list: &[(Guard, Proc)], count: usize) -> &[(Guard, Proc)] {
-    match list.get(..count) {
-        Some(front) => front,
-        None => list,
-    }
 }

@@ -5,8 +5,10 @@ use Rattle.std.proofs.lemmas.List.{map-id, map_push}
 use Rattle.std.proofs.lemmas.Result.{IfOk-weaker}
 use Rattle.occ_derive_moves.specs.Come.{HasCome}
 use Rattle.occ_derive_trail.specs.Trails.{going}
+use Rattle.occ_derive_unify.proofs.Reordering.{arranged_reordered}
 use Rattle.occ_derive_unify.specs.declared.alt.Keyed.{Keyed}
 use Rattle.occ_derive_unify.specs.Rows.{alternatives_of}
+use Rattle.occ_law_rules.specs.Lists.{BranchesReordered}
 use Rattle.occ_syntax.specs.Scopes.{environment}
 use Rattle.occ_syntax.specs.Tree.{alt}
 use Rattle.occ_syntax.specs.Usage.{Keeps}
@@ -27,8 +29,14 @@ returns c =
     let e = YieldsList-end (YieldsList-from_vec {s = c.into_iter-branch-iterator.result} c.args.self.list.items gives.0 (gives.1
     ∙ c.args.self.list.ok.0))
     c.loop-branch.yielded c.loop-branch.branch-iterator c.loop-branch.yielded_by c.next.result c.next.new.self c.in-None.is c.next.ensures.steps in
+    let rows = c.loop-branch.rows.list.items in
     let all = c.loop-branch.invariant.2 ∙ sym (map-id c.loop-branch.yielded) ∙ e.0 in
-    IfOk-weaker c.arranged.result _ _
-    (λ made come S. subst (λ l. Keeps (environment S) (alt (branches l))
-    → HasCome S (going c.args.trail.now) (going c.arranged.new.trail) (alt (branches l)) (alt (branches made.list.items))) all (come S))
-    c.arranged.ensures.come
+    record {
+      reordered = IfOk-weaker c.arranged.result _ _
+          (λ made s. subst (λ l. BranchesReordered (branches l) (branches made.list.items)) all
+          (subst (BranchesReordered (branches (alternatives_of rows))) (sym s.2) (arranged_reordered rows s.0 s.1))) c.arranged.ensures.sorted;
+      come = IfOk-weaker c.arranged.result _ _
+          (λ made come S. subst (λ l. Keeps (environment S) (alt (branches l))
+          → HasCome S (going c.args.trail.now) (going c.arranged.new.trail) (alt (branches l)) (alt (branches made.list.items))) all (come S))
+          c.arranged.ensures.come;
+    }

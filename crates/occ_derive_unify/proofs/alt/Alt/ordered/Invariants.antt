@@ -1,5 +1,4 @@
 use Rattle.std.proofs.Common.{◌≡◌}
-use Rattle.occ_derive_trail.specs.Trails.{going}
 use Rattle.occ_derive_unify.specs.Rows.{alternatives_of}
 use Rattle.occ_derive_unify.proofs.alt.Alt.ordered.Given as goal
 

@@ -1,4 +1,4 @@
-use Rattle.std.proofs.Common.{add-one, ap, arith, drop, length, suc, sym, take, ◌+◌, ◌++◌, ◌<◌, ◌≡◌, ◌∙◌, ◌∷◌}
+use Rattle.std.proofs.Common.{ap, arith, drop, length, suc, sym, take, ◌+◌, ◌++◌, ◌<◌, ◌≡◌, ◌∙◌, ◌∷◌}
 use Rattle.std.proofs.lemmas.List.{drop_more, length-take-le, take-append-drop}
 use Rattle.occ_derive_unify.proofs.alt.Alt.remove.Goals as goal
 

@@ -1,0 +1,20 @@
+use Rattle.std.proofs.Common.{arith, get_or, length, subst, sym, true, ◌+◌, ◌<◌, ◌≡◌}
+use Rattle.occ_derive_unify.proofs.Having.{neighbours_there}
+use Rattle.occ_derive_unify.specs.Orders.{rank_of}
+use Rattle.occ_law_rules.specs.Choice.{is_event}
+use Rattle.occ_syntax.specs.declared.expr.Guard.{Guard}
+use Rattle.occ_syntax.specs.declared.proc.Proc.{Proc}
+use Rattle.occ_syntax.specs.View.{waiting}
+use Rattle.occ_derive_unify.proofs.merging.waits_as_next.Goals as goal
+
+pub returns : goal.returns
+returns c = λ e short.
+    let h : c.args.place + 1 < length c.args.list.now = omega arith in
+    let params = c.args.params.now in
+    let x = c.index-list-place.result in
+    let y = c.index-list-next.result in
+    let rank = subst (λ (z : Guard × Proc). rank_of params (waiting x.0.wait) ≡ rank_of params (waiting z.0.wait)) (sym c.index-list-next.is)
+    (subst (λ (z : Guard × Proc). rank_of params (waiting z.0.wait) ≡ rank_of params (waiting (get_or c.args.list.now (c.args.place + 1) y).0.wait))
+    (sym c.index-list-place.is) (c.is_one_event.ensures.rank e short)) in
+    neighbours_there params c.args.list.now c.args.place x y h c.index-list-place.is c.index-list-next.is
+    (subst (λ (z : Guard × Proc). is_event (waiting z.0.wait) ≡ true) (sym c.index-list-place.is) (c.is_one_event.ensures.event e)) rank
