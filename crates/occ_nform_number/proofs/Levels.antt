@@ -6,25 +6,26 @@ use Rattle.std.proofs.lemmas.List.Elements.{recursion_from_All}
 use Rattle.std.proofs.lemmas.List.Sorted.{length_permutation, All-permutation, Contains-permutation}
 use Rattle.std.proofs.lemmas.Map.Keys.{IsDistinct-IsPermutation, IsDistinct-head, IsDistinct-tail, IsDistinct-from_apart, apart_from_distinct}
 use Rattle.std.specs.List.{All, AllByRecursion, IsDistinct}
+use Rattle.occ_base.specs.Names.{IsDistinct as AreDistinct}
 use Rattle.occ_base.specs.declared.event.Event.{Event}
 use Rattle.occ_base.specs.declared.names.Name.{Name}
 use Rattle.occ_syntax.specs.declared.scope.Kind.{Kind}
 use Rattle.occ_syntax.specs.Counts.{bits_of_scope}
 use Rattle.occ_node.specs.Offers.{are_below}
-use Rattle.occ_node.specs.World.{row_of}
+use Rattle.occ_node.specs.World.{nodes_of, row_of}
 use Rattle.occ_node.specs.declared.node.NodeId.{NodeId}
 use Rattle.occ_node.specs.declared.world.World.{World}
 use Rattle.occ_nform_table.specs.declared.table.TableRow.{TableRow}
 use Rattle.occ_nform_table.specs.Behaviours.{row_at, no_row}
 use Rattle.occ_nform_table.specs.Judging.{row_text, comes_after, text_less}
 use Rattle.occ_nform_table.specs.Tables.{are_params, IsInterface, IsRowOf}
-use Rattle.occ_nform_rows.specs.Listed.{IsListed, number_of, are_marked}
+use Rattle.occ_nform_rows.specs.Listed.{IsListed, number_of}
 use Rattle.occ_nform_number.specs.declared.level.Draft.{Draft}
 use Rattle.occ_nform_number.specs.declared.numbering.Numbering.{Numbering}
 use Rattle.occ_nform_number.specs.declared.order.Placed.{Placed}
-use Rattle.occ_nform_number.specs.Numbering.{placed_at, key_at, IsGraph, IsLower, AreReady, IsDraft, AreDrafts, AreSorted, text_before, numbered_from, ArePlaced, HaveOneText, IsNumbered, IsLevelDone}
+use Rattle.occ_nform_number.specs.Numbering.{placed_at, key_at, IsGraph, IsLower, AreReady, IsDraft, AreDrafts, AreSorted, text_before, numbered_from, IsNumbered, IsNumbering}
 use Rattle.occ_nform_number.proofs.Rows.{row_get}
-use Rattle.occ_nform_number.proofs.Texts.{one_text}
+use Rattle.occ_nform_number.proofs.Texts.{marked_params, one_text}
 use Rattle.occ_nform_number.proofs.Nodes.{each_more, listed_same, nodes_same, less_from}
 
 -- ---- lists that were made longer
@@ -38,42 +39,63 @@ row_right rows drafts j d h =
     let more : length rows + j < length (rows ++ map (λ (d : Draft). d.row) drafts) = omega (arith, length-append rows (map (λ (d : Draft). d.row) drafts), length-map drafts (λ (d : Draft). d.row)) in
     sym (row_get (rows ++ map (λ (d : Draft). d.row) drafts) (length rows + j) no_row more) ∙ get_or-append-add rows (map (λ (d : Draft). d.row) drafts) j no_row ∙ get_or-map (λ (d : Draft). d.row) drafts j d no_row h
 
-placed_right : (done : List Placed) (drafts : List Draft) (j : ℕ) (d : Draft) → j < length drafts → placed_at (done ++ map (λ (d : Draft). d.placed) drafts) (length done + j) ≡ (get_or drafts j d).placed
-placed_right done drafts j d h = get_or-append-add done (map (λ (d : Draft). d.placed) drafts) j (record { height = 0; node = record { 0 = 0 } }) ∙ get_or-map (λ (d : Draft). d.placed) drafts j d (record { height = 0; node = record { 0 = 0 } }) h
+-- the node of a draft, with its height
+abbrev placed_as : ℕ → Draft → Placed
+placed_as height d = record { height = height; node = d.node }
+
+placed_right : (height : ℕ) (done : List Placed) (drafts : List Draft) (j : ℕ) (d : Draft) → j < length drafts → placed_at (done ++ map (placed_as height) drafts) (length done + j) ≡ placed_as height (get_or drafts j d)
+placed_right height done drafts j d h = get_or-append-add done (map (placed_as height) drafts) j (record { height = 0; node = record { 0 = 0 } }) ∙ get_or-map (placed_as height) drafts j d (record { height = 0; node = record { 0 = 0 } }) h
 
 placed_left : (done more : List Placed) (i : ℕ) → i < length done → placed_at (done ++ more) i ≡ placed_at done i
 placed_left done more i h = get_or_append_left done more (record { height = 0; node = record { 0 = 0 } }) i h
 
 -- ---- numbers of drafts
 abbrev pub same_draft : Draft → Draft → Bool
-same_draft d e = d.placed.node.0 == e.placed.node.0
+same_draft d e = d.node.0 == e.node.0
 
 draft_flips : (d e : Draft) → same_draft d e ≡ same_draft e d
-draft_flips d e = turned d.placed.node.0 e.placed.node.0
+draft_flips d e = turned d.node.0 e.node.0
   where
     turned : (m n : ℕ) → (m == n) ≡ (n == m)
     turned m n = grind arith
 
 pub numbers_wide : (n : ℕ) (drafts : List Draft) (numbers : List ℕ) → length (numbered_from n drafts numbers) ≡ length numbers
 numbers_wide n [] numbers = refl
-numbers_wide n (d ∷ drafts) numbers = numbers_wide (n + 1) drafts (set numbers d.placed.node.0 n) ∙ length-set numbers d.placed.node.0 n
+numbers_wide n (d ∷ drafts) numbers = numbers_wide (n + 1) drafts (set numbers d.node.0 n) ∙ length-set numbers d.node.0 n
 
-number_other : (n : ℕ) (drafts : List Draft) (numbers : List ℕ) (a : ℕ) → AllByRecursion (λ (d : Draft). (d.placed.node.0 == a) ≡ false) drafts → get_or (numbered_from n drafts numbers) a 0 ≡ get_or numbers a 0
+number_other : (n : ℕ) (drafts : List Draft) (numbers : List ℕ) (a : ℕ) → AllByRecursion (λ (d : Draft). (d.node.0 == a) ≡ false) drafts → get_or (numbered_from n drafts numbers) a 0 ≡ get_or numbers a 0
 number_other n [] numbers a h = refl
-number_other n (d ∷ drafts) numbers a h = number_other (n + 1) drafts (set numbers d.placed.node.0 n) a h.1
-    ∙ get_or-set_other numbers d.placed.node.0 a n 0 (λ e. eqb-false d.placed.node.0 a h.0 (sym e))
+number_other n (d ∷ drafts) numbers a h = number_other (n + 1) drafts (set numbers d.node.0 n) a h.1
+    ∙ get_or-set_other numbers d.node.0 a n 0 (λ e. eqb-false d.node.0 a h.0 (sym e))
 
-number_at : (n : ℕ) (drafts : List Draft) (numbers : List ℕ) → IsDistinct same_draft drafts → AllByRecursion (λ (d : Draft). d.placed.node.0 < length numbers) drafts
-    → (i : ℕ) (d : Draft) → i < length drafts → get_or (numbered_from n drafts numbers) (get_or drafts i d).placed.node.0 0 ≡ n + i
+number_at : (n : ℕ) (drafts : List Draft) (numbers : List ℕ) → IsDistinct same_draft drafts → AllByRecursion (λ (d : Draft). d.node.0 < length numbers) drafts
+    → (i : ℕ) (d : Draft) → i < length drafts → get_or (numbered_from n drafts numbers) (get_or drafts i d).node.0 0 ≡ n + i
 number_at n [] numbers apart known i d h = absurd (omega arith)
 number_at n (e ∷ drafts) numbers apart known zero d h =
     let same : n ≡ n + zero = omega arith in
-    number_other (n + 1) drafts (set numbers e.placed.node.0 n) e.placed.node.0 (each_more _ (λ (d : Draft). (d.placed.node.0 == e.placed.node.0) ≡ false) (λ d t. draft_flips d e ∙ t) drafts (IsDistinct-head same_draft e drafts apart))
-    ∙ get_or-set_same numbers e.placed.node.0 n 0 known.0 ∙ same
+    number_other (n + 1) drafts (set numbers e.node.0 n) e.node.0 (each_more _ (λ (d : Draft). (d.node.0 == e.node.0) ≡ false) (λ d t. draft_flips d e ∙ t) drafts (IsDistinct-head same_draft e drafts apart))
+    ∙ get_or-set_same numbers e.node.0 n 0 known.0 ∙ same
 number_at n (e ∷ drafts) numbers apart known (suc i) d h =
     let same : n + 1 + i ≡ n + suc i = omega arith in
-    number_at (n + 1) drafts (set numbers e.placed.node.0 n) (IsDistinct-tail same_draft e drafts apart)
-    (each_more _ (λ (d : Draft). d.placed.node.0 < length (set numbers e.placed.node.0 n)) (λ d (t : d.placed.node.0 < length numbers). omega (arith, length-set numbers e.placed.node.0 n)) drafts known.1) i d (omega arith) ∙ same
+    number_at (n + 1) drafts (set numbers e.node.0 n) (IsDistinct-tail same_draft e drafts apart)
+    (each_more _ (λ (d : Draft). d.node.0 < length (set numbers e.node.0 n)) (λ d (t : d.node.0 < length numbers). omega (arith, length-set numbers e.node.0 n)) drafts known.1) i d (omega arith) ∙ same
+
+-- before any level
+pub none_numbered : (w : World) (names : List (List ℕ)) (params : List (Name × Kind)) (placed : List Placed) → IsGraph w params placed → (n : Numbering) → n.rows ≡ [] → length n.numbers.items ≡ nodes_of w → IsNumbering w names params placed 0 n
+none_numbered w names params placed graph n none long = record {
+  done = [];
+  numbered = record {
+    count = ap length none;
+    most = omega arith;
+    wide = λ k h. let node : (placed_at placed k).node.0 < nodes_of w = graph.node k h in omega arith;
+    met = λ i h. absurd (omega arith);
+    all = λ k h. absurd (omega arith);
+    numbered = λ i h. absurd (omega arith);
+    listed = λ i h. absurd (omega arith);
+    rising = λ i h. absurd (omega arith);
+    whole = λ k h more. absurd (omega arith);
+  };
+}
 
 module _ (w : World) (names : List (List ℕ)) (params : List (Name × Kind)) (placed : List Placed) (graph : IsGraph w params placed)
     (start : ℕ) (small : start < length placed) (done : List Placed) (rows : List TableRow) (numbers : List ℕ) (is : IsNumbered w names params placed start done rows numbers) where
@@ -115,10 +137,10 @@ module _ (w : World) (names : List (List ℕ)) (params : List (Name × Kind)) (p
       all_below (o ∷ offers) h = and_from (nat_lt o.1.0 (length numbers)) (are_below (length numbers) offers) (lt-ltb o.1.0 (length numbers) (wide_at o.1 h.0)) (all_below offers h.1)
 
   -- ---- the drafts of a level, sorted
-  module _ (distinct : HaveOneText names params) (interface : IsInterface names params) (params_are : are_params names [] params ≡ true) (marked : are_marked params ≡ true)
+  module _ (distinct : 0 < length params → AreDistinct names) (interface : IsInterface names params) (params_are : are_params names [] params ≡ true)
       (drafts sorted : List Draft) (level : AreDrafts w names params numbers placed start drafts) (by : AreSorted drafts sorted) where
     abbrev IsOfLevel : Draft → Type 0
-    IsOfLevel d = (k : ℕ) × (k < length drafts) × IsDraft w names params numbers (placed_at placed (start + k)) d
+    IsOfLevel d = (k : ℕ) × (k < length drafts) × IsDraft w names params numbers (placed_at placed (start + k)).node d
 
     count : length sorted ≡ length drafts
     count = length_permutation drafts sorted by.same
@@ -129,43 +151,43 @@ module _ (w : World) (names : List (List ℕ)) (params : List (Name × Kind)) (p
     place_within : (k : ℕ) → k < length drafts → start + k < length placed
     place_within k h = let within : start + length drafts ≤ length placed = level.within in omega arith
 
-    node_of : (k : ℕ) → k < length drafts → (d : Draft) → (get_or drafts k d).placed ≡ placed_at placed (start + k)
-    node_of k h d = (level.each k d h).placed
+    abbrev height : ℕ
+    height = (placed_at placed start).height
+
+    node_of : (k : ℕ) → k < length drafts → (d : Draft) → IsDraft w names params numbers (placed_at placed (start + k)).node d → placed_as height d ≡ placed_at placed (start + k)
+    node_of k h d is = λ t. record { height = sym (level.level k h) t; node = is.node t }
 
     apart_drafts : (i j : ℕ) (d : Draft) → i < j → j < length drafts → same_draft (get_or drafts i d) (get_or drafts j d) ≡ false
-    apart_drafts i j d low high = ne_eqb (get_or drafts i d).placed.node.0 (get_or drafts j d).placed.node.0 (λ e.
-        let first = ap (λ (p : Placed). p.node.0) (node_of i (omega arith) d) in
-        let second = ap (λ (p : Placed). p.node.0) (node_of j high d) in
+    apart_drafts i j d low high = ne_eqb (get_or drafts i d).node.0 (get_or drafts j d).node.0 (λ e.
+        let first = ap (λ (a : NodeId). a.0) (level.each i d (omega arith)).node in
+        let second = ap (λ (a : NodeId). a.0) (level.each j d high).node in
         let same : start + i ≡ start + j = graph.apart (start + i) (start + j) (place_within i (omega arith)) (place_within j high) (sym first ∙ e ∙ second) in
         omega arith)
 
     apart : IsDistinct same_draft sorted
     apart = IsDistinct-IsPermutation same_draft draft_flips drafts sorted by.same (IsDistinct-from_apart same_draft drafts apart_drafts)
 
-    pub level_known : All (λ d. d.placed.node.0 < length numbers) sorted
-    level_known k d h = let v = of_level k d h in subst (λ (p : Placed). p.node.0 < length numbers) (sym v.2.placed) (is.wide (start + v.0) (place_within v.0 v.1))
-
-    level_height : (d : Draft) → IsOfLevel d → d.placed.height ≡ (placed_at placed start).height
-    level_height d v = ap (λ (p : Placed). p.height) v.2.placed ∙ level.level v.0 v.1
+    pub level_known : All (λ d. d.node.0 < length numbers) sorted
+    level_known k d h = let v = of_level k d h in subst (λ (a : NodeId). a.0 < length numbers) (sym v.2.node) (is.wide (start + v.0) (place_within v.0 v.1))
 
     abbrev new_numbers : List ℕ
     new_numbers = numbered_from (length done) sorted numbers
 
     abbrev new_done : List Placed
-    new_done = done ++ map (λ (d : Draft). d.placed) sorted
+    new_done = done ++ map (placed_as height) sorted
 
     abbrev new_rows : List TableRow
     new_rows = rows ++ map (λ (d : Draft). d.row) sorted
 
     -- the numbers of the lower nodes stay
-    other_draft : (j : ℕ) → j < start → (d : Draft) → IsOfLevel d → (d.placed.node.0 == (placed_at placed j).node.0) ≡ false
-    other_draft j h d v = ne_eqb d.placed.node.0 (placed_at placed j).node.0 (λ e.
-        let same : start + v.0 ≡ j = graph.apart (start + v.0) j (place_within v.0 v.1) (omega arith) (sym (ap (λ (p : Placed). p.node.0) v.2.placed) ∙ e) in
+    other_draft : (j : ℕ) → j < start → (d : Draft) → IsOfLevel d → (d.node.0 == (placed_at placed j).node.0) ≡ false
+    other_draft j h d v = ne_eqb d.node.0 (placed_at placed j).node.0 (λ e.
+        let same : start + v.0 ≡ j = graph.apart (start + v.0) j (place_within v.0 v.1) (omega arith) (sym (ap (λ (a : NodeId). a.0) v.2.node) ∙ e) in
         omega arith)
 
     number_stays : (j : ℕ) → j < start → number_of new_numbers (placed_at placed j).node ≡ number_of numbers (placed_at placed j).node
     number_stays j h = number_other (length done) sorted numbers (placed_at placed j).node.0
-        (recursion_from_All (λ d. (d.placed.node.0 == (placed_at placed j).node.0) ≡ false) sorted (λ k d small. other_draft j h (get_or sorted k d) (of_level k d small)))
+        (recursion_from_All (λ d. (d.node.0 == (placed_at placed j).node.0) ≡ false) sorted (λ k d small. other_draft j h (get_or sorted k d) (of_level k d small)))
 
     lower_stays : (b : NodeId) (height : ℕ) → height ≤ (placed_at placed start).height → IsLower placed height b → number_of numbers b ≡ number_of new_numbers b
     lower_stays b height most v = let u = lower_place b height most v in subst (λ b. number_of numbers b ≡ number_of new_numbers b) u.2 (sym (number_stays u.0 u.1))
@@ -175,11 +197,11 @@ module _ (w : World) (names : List (List ℕ)) (params : List (Name × Kind)) (p
         (each_more _ (λ (o : Event × NodeId). number_of numbers o.1 ≡ number_of new_numbers o.1) (λ o v. lower_stays o.1 (placed_at placed k).height most v) (row_of w (placed_at placed k).node).offers (graph.closed k h))
 
     -- two drafts of one text are of one node
-    draft_form : (k : ℕ) (d : Draft) → k < length drafts → IsDraft w names params numbers (placed_at placed (start + k)) d → IsRowOf params (length done) d.row
-    draft_form k d h v = v.listed.form marked (length done) (each_more _ (λ (o : Event × NodeId). number_of numbers o.1 < length done) (λ o u. u.0) (row_of w (placed_at placed (start + k)).node).offers
+    draft_form : (k : ℕ) (d : Draft) → k < length drafts → IsDraft w names params numbers (placed_at placed (start + k)).node d → IsRowOf params (length done) d.row
+    draft_form k d h v = v.listed.form (marked_params names [] params params_are) (length done) (each_more _ (λ (o : Event × NodeId). number_of numbers o.1 < length done) (λ o u. u.0) (row_of w (placed_at placed (start + k)).node).offers
         (offers_known (start + k) (place_within k h) (omega (arith, level.level k h))))
 
-    one_node : (d e : Draft) → IsOfLevel d → IsOfLevel e → d.text.items ≡ e.text.items → d.placed.node ≡ e.placed.node
+    one_node : (d e : Draft) → IsOfLevel d → IsOfLevel e → d.text.items ≡ e.text.items → d.node ≡ e.node
     one_node d e v u same =
         let bound : length done ≤ 10 ^ 64 = omega (arith, is.most) in
         let row : d.row ≡ e.row = one_text names params distinct interface params_are (length done) d.row e.row bound (draft_form v.0 d v.1 v.2) (draft_form u.0 e u.1 u.2) (sym v.2.text ∙ same ∙ u.2.text) in
@@ -189,15 +211,15 @@ module _ (w : World) (names : List (List ℕ)) (params : List (Name × Kind)) (p
         let nodes = nodes_same w params numbers (λ n. (placed_at done n).node) (placed_at placed (start + v.0)).node (placed_at placed (start + u.0)).node
         (graph.node (start + v.0) (place_within v.0 v.1)) (graph.node (start + u.0) (place_within u.0 u.1)) (graph.within (start + v.0) (place_within v.0 v.1)) (graph.within (start + u.0) (place_within u.0 u.1)) few_bits
         (back v.0 v.1) (back u.0 u.1) d.row e.row v.2.listed u.2.listed row in
-        ap (λ (p : Placed). p.node) v.2.placed ∙ nodes ∙ sym (ap (λ (p : Placed). p.node) u.2.placed)
+        v.2.node ∙ nodes ∙ sym u.2.node
 
     texts_rise : (j : ℕ) (d : Draft) → suc j < length sorted → text_less (get_or sorted j d).text.items (get_or sorted (suc j) d).text.items ≡ true
     texts_rise j d h =
         let next : suc j ≡ j + 1 = omega arith in
         let order : text_before (get_or sorted (suc j) d) (get_or sorted j d) ≡ false = subst (λ n. text_before (get_or sorted n d) (get_or sorted j d) ≡ false) (sym next) (by.sorted j d (omega arith) (omega arith)) in
         less_from (get_or sorted j d).text.items (get_or sorted (suc j) d).text.items order (λ e.
-        let nodes : (get_or sorted j d).placed.node ≡ (get_or sorted (suc j) d).placed.node = one_node (get_or sorted j d) (get_or sorted (suc j) d) (of_level j d (omega arith)) (of_level (suc j) d h) e in
-        eqb-false (get_or sorted j d).placed.node.0 (get_or sorted (suc j) d).placed.node.0 (apart_from_distinct same_draft sorted j (suc j) d apart (omega arith) h) (ap (λ (a : NodeId). a.0) nodes))
+        let nodes : (get_or sorted j d).node ≡ (get_or sorted (suc j) d).node = one_node (get_or sorted j d) (get_or sorted (suc j) d) (of_level j d (omega arith)) (of_level (suc j) d h) e in
+        eqb-false (get_or sorted j d).node.0 (get_or sorted (suc j) d).node.0 (apart_from_distinct same_draft sorted j (suc j) d apart (omega arith) h) (ap (λ (a : NodeId). a.0) nodes))
 
     -- ---- all rows so far
     first_of : (xs : List Draft) → 0 < length xs → Draft
@@ -211,7 +233,7 @@ module _ (w : World) (names : List (List ℕ)) (params : List (Name × Kind)) (p
     draft_at j = get_or sorted j some_draft
 
     wide_now : length new_done ≡ length done + length sorted
-    wide_now = omega (arith, length-append done (map (λ (d : Draft). d.placed) sorted), length-map sorted (λ (d : Draft). d.placed))
+    wide_now = omega (arith, length-append done (map (placed_as height) sorted), length-map sorted (placed_as height))
 
     -- a place is one of the old ones or one of a draft
     abbrev IsDraftAt : ℕ → Type 0
@@ -224,10 +246,10 @@ module _ (w : World) (names : List (List ℕ)) (params : List (Name × Kind)) (p
         (cases_lt i (length done))
 
     new_left : (i : ℕ) → i < length done → placed_at new_done i ≡ placed_at done i
-    new_left i h = placed_left done (map (λ (d : Draft). d.placed) sorted) i h
+    new_left i h = placed_left done (map (placed_as height) sorted) i h
 
-    new_right : (j : ℕ) → j < length sorted → placed_at new_done (length done + j) ≡ (draft_at j).placed
-    new_right j h = placed_right done sorted j some_draft h
+    new_right : (j : ℕ) → j < length sorted → placed_at new_done (length done + j) ≡ placed_as height (draft_at j)
+    new_right j h = placed_right height done sorted j some_draft h
 
     rows_left : (i : ℕ) → i < length done → row_at new_rows i ≡ row_at rows i
     rows_left i h = row_left rows (map (λ (d : Draft). d.row) sorted) i (omega (arith, is.count))
@@ -244,21 +266,21 @@ module _ (w : World) (names : List (List ℕ)) (params : List (Name × Kind)) (p
         (λ (l : i < length done). let v = is.met i l in (v.0, omega (arith, v.1), v.2 ∙ sym (new_left i l)))
         (λ (r : IsDraftAt i).
         let u = level_of r.0 r.1 in
-        (start + u.0, omega (arith, u.1), sym u.2.placed ∙ sym (new_right r.0 r.1) ∙ ap (placed_at new_done) r.2))
+        (start + u.0, omega (arith, u.1), sym (node_of u.0 u.1 (draft_at r.0) u.2) ∙ sym (new_right r.0 r.1) ∙ ap (placed_at new_done) r.2))
         (old_or_new i h)
 
-    new_number : (j : ℕ) → j < length sorted → number_of new_numbers (draft_at j).placed.node ≡ length done + j
-    new_number j h = number_at (length done) sorted numbers apart (recursion_from_All (λ d. d.placed.node.0 < length numbers) sorted level_known) j some_draft h
+    new_number : (j : ℕ) → j < length sorted → number_of new_numbers (draft_at j).node ≡ length done + j
+    new_number j h = number_at (length done) sorted numbers apart (recursion_from_All (λ d. d.node.0 < length numbers) sorted level_known) j some_draft h
 
     abbrev HasNumber : Placed → ℕ → Type 0
     HasNumber p n = (n < length new_done) × (placed_at new_done n ≡ p)
 
     -- each placed node has its number
-    of_draft : (k : ℕ) → k < length drafts → (j : ℕ) × (j < length sorted) × ((draft_at j).placed ≡ placed_at placed (start + k))
+    of_draft : (k : ℕ) → k < length drafts → (j : ℕ) × (j < length sorted) × (placed_as height (draft_at j) ≡ placed_at placed (start + k))
     of_draft k h =
         let x = get_or drafts k some_draft in
         let v = Contains-permutation drafts sorted x by.same (k, h, get_or_default drafts k x some_draft h) in
-        (v.0, v.1, ap (λ (d : Draft). d.placed) (get_or_default sorted v.0 some_draft x v.1 ∙ v.2) ∙ node_of k h some_draft)
+        (v.0, v.1, ap (placed_as height) (get_or_default sorted v.0 some_draft x v.1 ∙ v.2) ∙ node_of k h x (level.each k some_draft h))
 
     new_all : (k : ℕ) → k < start + length drafts → HasNumber (placed_at placed k) (number_of new_numbers (placed_at placed k).node)
     new_all k h = ⊎_elim
@@ -270,7 +292,7 @@ module _ (w : World) (names : List (List ℕ)) (params : List (Name × Kind)) (p
         let same : start + (k - start) ≡ k = omega arith in
         let v = of_draft (k - start) (omega arith) in
         let wide = wide_now in
-        let p : (draft_at v.0).placed ≡ placed_at placed k = v.2 ∙ ap (placed_at placed) same in
+        let p : placed_as height (draft_at v.0) ≡ placed_at placed k = v.2 ∙ ap (placed_at placed) same in
         let number : number_of new_numbers (placed_at placed k).node ≡ length done + v.0 = ap (λ (p : Placed). number_of new_numbers p.node) (sym p) ∙ new_number v.0 v.1 in
         subst (HasNumber (placed_at placed k)) (sym number) (omega (arith, v.1), new_right v.0 v.1 ∙ p))
         (cases_lt k start)
@@ -300,7 +322,7 @@ module _ (w : World) (names : List (List ℕ)) (params : List (Name × Kind)) (p
         let u = level_of r.0 r.1 in
         let now = still_listed (start + u.0) (draft_at r.0).row (place_within u.0 u.1) (omega (arith, level.level u.0 u.1)) u.2.listed in
         subst (λ n. IsRowHere (placed_at new_done n) (row_at new_rows n)) r.2
-        (subst (λ row. IsRowHere (placed_at new_done (length done + r.0)) row) (sym (rows_right r.0 r.1)) (subst (λ p. IsRowHere p (draft_at r.0).row) (sym u.2.placed ∙ sym (new_right r.0 r.1)) now)))
+        (subst (λ row. IsRowHere (placed_at new_done (length done + r.0)) row) (sym (rows_right r.0 r.1)) (subst (λ p. IsRowHere p (draft_at r.0).row) (sym (node_of u.0 u.1 (draft_at r.0) u.2) ∙ sym (new_right r.0 r.1)) now)))
         (old_or_new i h)
 
     -- ---- the order of the rows
@@ -309,10 +331,9 @@ module _ (w : World) (names : List (List ℕ)) (params : List (Name × Kind)) (p
 
     key_right : (j : ℕ) → j < length sorted → key_at names new_done new_rows (length done + j) ≡ ((placed_at placed start).height, (draft_at j).text.items)
     key_right j h =
-        let u = level_of j h in
-        let height : (placed_at new_done (length done + j)).height ≡ (placed_at placed start).height = ap (λ (p : Placed). p.height) (new_right j h) ∙ level_height (draft_at j) u in
-        let text : row_text names (row_at new_rows (length done + j)) ≡ (draft_at j).text.items = ap (row_text names) (rows_right j h) ∙ sym u.2.text in
-        λ t. (height t, text t)
+        let place = new_right j h in
+        let text : row_text names (row_at new_rows (length done + j)) ≡ (draft_at j).text.items = ap (row_text names) (rows_right j h) ∙ sym (level_of j h).2.text in
+        λ t. ((place t).height, text t)
 
     abbrev Rises : ℕ × List ℕ → ℕ × List ℕ → Type 0
     Rises before key = comes_after (Some before) key ≡ true
@@ -359,7 +380,7 @@ module _ (w : World) (names : List (List ℕ)) (params : List (Name × Kind)) (p
         strict_from : (a b c : ℕ) → a ≡ b → b ≤ c → (c ≡ b → ⊥) → a < c
         strict_from a b c e l n = omega arith
 
-    pub level_numbered : length new_done ≤ 4294967294 → IsNumbered w names params placed (start + length drafts) new_done new_rows new_numbers
+    level_numbered : length new_done ≤ 4294967294 → IsNumbered w names params placed (start + length drafts) new_done new_rows new_numbers
     level_numbered few = record {
       count = omega (arith, wide_now, length-append rows (map (λ (d : Draft). d.row) sorted), length-map sorted (λ (d : Draft). d.row), is.count);
       most = few;
@@ -372,22 +393,16 @@ module _ (w : World) (names : List (List ℕ)) (params : List (Name × Kind)) (p
       whole = new_whole;
     }
 
-  -- what the function that numbers a level leaves
-  pub level_done : HaveOneText names params → IsInterface names params → are_params names [] params ≡ true → are_marked params ≡ true → (drafts sorted : List Draft) → AreDrafts w names params numbers placed start drafts → AreSorted drafts sorted
-      → (old new : Numbering) → old.placed.items ≡ done → old.rows ≡ rows → old.numbers.items ≡ numbers → ArePlaced old new sorted → (end : ℕ) → end ≡ start + length drafts → IsLevelDone w names params placed start end new
-  level_done distinct interface good marked drafts sorted level by old new e f g are end at =
-      let some : 0 < length drafts = level.some in
-      let within : start + length drafts ≤ length placed = level.within in
-      let new_placed : new.placed.items ≡ done ++ map (λ (d : Draft). d.placed) sorted = are.placed ∙ ap (λ l. l ++ map (λ (d : Draft). d.placed) sorted) e in
-      let new_rows_are : new.rows ≡ rows ++ map (λ (d : Draft). d.row) sorted = are.rows ∙ ap (λ l. l ++ map (λ (d : Draft). d.row) sorted) f in
-      let new_numbers_are : new.numbers.items ≡ numbered_from (length done) sorted numbers = are.numbers ∙ (λ i. numbered_from (length (e i)) sorted (g i)) in
-      let few : length (done ++ map (λ (d : Draft). d.placed) sorted) ≤ 4294967294 = subst (λ (l : List Placed). length l ≤ 4294967294) new_placed (are.most (subst (λ (l : List Placed). length l ≤ 4294967294) (sym e) is.most)) in
-      let numbered = level_numbered distinct interface good marked drafts sorted level by few in
-      record {
-        more = omega (arith, at);
-        within = omega (arith, at);
-        numbered = subst (λ n. IsNumbered w names params placed n new.placed.items new.rows new.numbers.items) (sym at)
-            (subst (λ l. IsNumbered w names params placed (start + length drafts) l new.rows new.numbers.items) (sym new_placed)
-            (subst (λ l. IsNumbered w names params placed (start + length drafts) (done ++ map (λ (d : Draft). d.placed) sorted) l new.numbers.items) (sym new_rows_are)
-            (subst (λ l. IsNumbered w names params placed (start + length drafts) (done ++ map (λ (d : Draft). d.placed) sorted) (rows ++ map (λ (d : Draft). d.row) sorted) l) (sym new_numbers_are) numbered)));
-      }
+    -- the drafts have become the next rows
+    pub level_done : (new : Numbering) → new.rows ≡ new_rows → new.numbers.items ≡ numbered_from (length rows) sorted numbers → (length rows ≤ 4294967294 → length new.rows ≤ 4294967294) → (end : ℕ) → end ≡ start + length drafts
+        → IsNumbering w names params placed end new
+    level_done new rows_are numbers_are most end at =
+        let most_rows : length new.rows ≤ 4294967294 = most (omega (arith, is.count, is.most)) in
+        let few : length new_done ≤ 4294967294 = omega (arith, most_rows, ap length rows_are, wide_now, length-append rows (map (λ (d : Draft). d.row) sorted), length-map sorted (λ (d : Draft). d.row), is.count) in
+        let same : new.numbers.items ≡ new_numbers = numbers_are ∙ ap (λ n. numbered_from n sorted numbers) is.count in
+        record {
+          done = new_done;
+          numbered = subst (λ n. IsNumbered w names params placed n new_done new.rows new.numbers.items) (sym at)
+              (subst (λ l. IsNumbered w names params placed (start + length drafts) new_done l new.numbers.items) (sym rows_are)
+              (subst (λ l. IsNumbered w names params placed (start + length drafts) new_done new_rows l) (sym same) (level_numbered few)));
+        }

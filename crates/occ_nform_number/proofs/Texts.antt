@@ -1,7 +1,7 @@
 -- Two rows of one text are the same: where there are parameters since no text stands twice in a table of names, and else
 -- since no name is written.
-use Rattle.std.proofs.Common.{◌≡◌, ◌≤◌, ◌<◌, ◌^◌, ◌++◌, ℕ, true, List, [], ◌∷◌, Some, None, codes, refl, sym, ap, ◌∙◌, subst, ⊎_elim, arith}
-use Rattle.std.proofs.lemmas.Bool.{and_parts}
+use Rattle.std.proofs.Common.{◌≡◌, ◌≤◌, ◌<◌, ◌^◌, ◌&&◌, ◌++◌, ℕ, true, List, [], ◌∷◌, Some, None, length, codes, refl, sym, ap, ◌∙◌, subst, arith}
+use Rattle.std.proofs.lemmas.Bool.{and_parts, and_from}
 use Rattle.std.specs.List.{list_all, AllByRecursion}
 use Rattle.occ_base.specs.Names.{IsDistinct}
 use Rattle.occ_base.specs.declared.event.Event.{Event}
@@ -11,12 +11,23 @@ use Rattle.occ_syntax.specs.Scopes.{environment, in_interface}
 use Rattle.occ_behaviour.specs.Texts.{set_text}
 use Rattle.occ_nform_table.specs.declared.table.TableRow.{TableRow}
 use Rattle.occ_nform_table.specs.Judging.{ends_text, accepts_text, offers_text, row_text}
-use Rattle.occ_nform_table.specs.Lines.{is_rising}
-use Rattle.occ_nform_table.specs.Tables.{are_params, IsInterface, IsRowOf}
+use Rattle.occ_nform_table.specs.Lines.{can_follow, is_param_name, is_rising, text_of}
+use Rattle.occ_nform_table.specs.Tables.{are_params, is_marked, IsInterface, IsRowOf}
+use Rattle.occ_nform_rows.specs.Listed.{are_marked}
 use Rattle.occ_nform_text.proofs.Rows.{one_row}
-use Rattle.occ_nform_number.specs.Numbering.{HaveOneText}
 use Rattle.occ_nform_table.proofs.Named.{event_named}
 
+-- ---- parameters of a normal text are marked
+pub marked_params : (names : List (List ℕ)) (before params : List (Name × Kind)) → are_params names before params ≡ true → are_marked params ≡ true
+unfolding are_params
+marked_params names before [] h = refl
+marked_params names before (p ∷ params) h =
+    let q = and_parts (is_param_name (text_of names p.0) && is_marked p.1 && can_follow names before (text_of names p.0, p.1)) (are_params names (before ++ p ∷ []) params) h in
+    let r = and_parts (is_param_name (text_of names p.0) && is_marked p.1) (can_follow names before (text_of names p.0, p.1)) q.0 in
+    let s = and_parts (is_param_name (text_of names p.0)) (is_marked p.1) r.0 in
+    and_from (is_marked p.1) (are_marked params) s.1 (marked_params names (before ++ p ∷ []) params q.1)
+
+-- ---- rows without parameters
 no_event : (e : Event) → in_interface (environment []) e ≡ true → ⊥
 no_event e h = let none : e.chan.0 < 0 = event_named 0 [] tt e h in omega arith
 
@@ -49,15 +60,11 @@ no_params : are_params [] [] [] ≡ true
 unfolding are_params
 no_params = refl
 
-bare_row : (names : List (List ℕ)) (params : List (Name × Kind)) → params ≡ [] → (n : ℕ) (one two : TableRow) → n ≤ 10 ^ 64 → IsRowOf params n one → IsRowOf params n two → row_text names one ≡ row_text names two → one ≡ two
-bare_row names params none n one two few h g e =
-    let first : IsRowOf [] n one = subst (λ ps. IsRowOf ps n one) none h in
-    let second : IsRowOf [] n two = subst (λ ps. IsRowOf ps n two) none g in
-    one_row [] [] n n one two (λ i j text a b. let f : None ≡ Some text = a in cc) no_interface no_params few few first second (sym (bare_text names n one first) ∙ e ∙ bare_text names n two second)
+bare_row : (names : List (List ℕ)) (n : ℕ) (one two : TableRow) → n ≤ 10 ^ 64 → IsRowOf [] n one → IsRowOf [] n two → row_text names one ≡ row_text names two → one ≡ two
+bare_row names n one two few h g e =
+    one_row [] [] n n one two (λ i j text a b. let f : None ≡ Some text = a in cc) no_interface no_params few few h g (sym (bare_text names n one h) ∙ e ∙ bare_text names n two g)
 
-pub one_text : (names : List (List ℕ)) (params : List (Name × Kind)) → HaveOneText names params → IsInterface names params → are_params names [] params ≡ true → (n : ℕ) (one two : TableRow) → n ≤ 10 ^ 64
+pub one_text : (names : List (List ℕ)) (params : List (Name × Kind)) → (0 < length params → IsDistinct names) → IsInterface names params → are_params names [] params ≡ true → (n : ℕ) (one two : TableRow) → n ≤ 10 ^ 64
     → IsRowOf params n one → IsRowOf params n two → row_text names one ≡ row_text names two → one ≡ two
-one_text names params distinct interface good n one two few h g e = ⊎_elim
-    (λ (none : params ≡ []). bare_row names params none n one two few h g e)
-    (λ (d : IsDistinct names). one_row names params n n one two d interface good few few h g e)
-    distinct
+one_text names [] distinct interface good n one two few h g e = bare_row names n one two few h g e
+one_text names (p ∷ params) distinct interface good n one two few h g e = one_row names (p ∷ params) n n one two (distinct (omega arith)) interface good few few h g e

@@ -4,7 +4,6 @@ use Rattle.std.specs.List.{All, AllByRecursion, Contains, IsDistinct, list_any}
 use Rattle.std.specs.List.Sorted.{IsPermutation, IsSortedBy}
 use Rattle.std.specs.Cmp.Lexicographic.{slice_cmp}
 use Rattle.std.specs.Ordering.{is_lt, nat_cmp}
-use Rattle.occ_base.specs.Names.{IsDistinct as AreDistinct}
 use Rattle.occ_base.specs.declared.event.Event.{Event}
 use Rattle.occ_base.specs.declared.names.Name.{Name}
 use Rattle.occ_syntax.specs.declared.scope.Kind.{Kind}
@@ -86,6 +85,14 @@ pub record AreOrdered (marks : List Bool) (heights : List ℕ) (placed : List Pl
   pub apart : (i j : ℕ) → i < length placed → j < length placed → (placed_at placed i).node.0 ≡ (placed_at placed j).node.0 → i ≡ j
   pub sorted : (i j : ℕ) → i ≤ j → j < length placed → (placed_at placed i).height ≤ (placed_at placed j).height
 
+-- the nodes that are reached from some nodes, each once, by height
+pub record AreReached (w : World) (starts : List NodeId) (placed : List Placed) : Type 0 where
+  pub marks : List Bool
+  pub heights : List ℕ
+  pub marked : AreMarks w starts marks
+  pub high : AreHeights w heights
+  pub order : AreOrdered marks heights placed
+
 -- the node is one of the placed ones, and lower than the height
 abbrev pub IsLower : List Placed → ℕ → NodeId → Type 0
 IsLower placed height b = (j : ℕ) × (j < length placed) × ((placed_at placed j).node ≡ b) × ((placed_at placed j).height < height)
@@ -99,10 +106,6 @@ pub record IsGraph (w : World) (params : List (Name × Kind)) (placed : List Pla
   pub sorted : (i j : ℕ) → i ≤ j → j < length placed → (placed_at placed i).height ≤ (placed_at placed j).height
 
 -- ---- numbers
--- no text stands twice in the table of names, which is known where a parameter has a name
-abbrev pub HaveOneText : List (List ℕ) → List (Name × Kind) → Type 0
-HaveOneText names params = (params ≡ []) ⊎ AreDistinct names
-
 -- each node that the node offers has a number below a bound
 pub record IsReady (w : World) (params : List (Name × Kind)) (numbers : List ℕ) (a : NodeId) : Type 0 where
   pub bound : ℕ
@@ -111,10 +114,10 @@ pub record IsReady (w : World) (params : List (Name × Kind)) (numbers : List �
   pub wide : are_below (length numbers) (row_of w a).offers ≡ true
   pub lower : AllByRecursion (λ (o : Event × NodeId). number_of numbers o.1 < bound) (row_of w a).offers
 
--- the row of a placed node, with its text
-pub record IsDraft (w : World) (names : List (List ℕ)) (params : List (Name × Kind)) (numbers : List ℕ) (place : Placed) (draft : Draft) : Type 0 where
-  pub placed : draft.placed ≡ place
-  pub listed : IsListed w params numbers place.node draft.row
+-- the row of a node, with its text
+pub record IsDraft (w : World) (names : List (List ℕ)) (params : List (Name × Kind)) (numbers : List ℕ) (a : NodeId) (draft : Draft) : Type 0 where
+  pub node : draft.node ≡ a
+  pub listed : IsListed w params numbers a draft.row
   pub text : draft.text.items ≡ row_text names draft.row
 
 -- the nodes of the same height as the one at start are ready
@@ -125,7 +128,7 @@ AreReady w params numbers placed start = (k : ℕ) → start ≤ k → k < lengt
 pub record AreDrafts (w : World) (names : List (List ℕ)) (params : List (Name × Kind)) (numbers : List ℕ) (placed : List Placed) (start : ℕ) (drafts : List Draft) : Type 0 where
   pub some : 0 < length drafts
   pub within : start + length drafts ≤ length placed
-  pub each : (k : ℕ) (d : Draft) → k < length drafts → IsDraft w names params numbers (placed_at placed (start + k)) (get_or drafts k d)
+  pub each : (k : ℕ) (d : Draft) → k < length drafts → IsDraft w names params numbers (placed_at placed (start + k)).node (get_or drafts k d)
   pub level : (k : ℕ) → k < length drafts → (placed_at placed (start + k)).height ≡ (placed_at placed start).height
   pub end : start + length drafts < length placed → (placed_at placed (start + length drafts)).height ≡ (placed_at placed start).height → ⊥
 
@@ -139,22 +142,20 @@ pub record AreSorted (drafts list : List Draft) : Type 0 where
 
 -- the draft has become the next row
 pub record IsPlaced (old new : Numbering) (draft : Draft) : Type 0 where
-  pub placed : new.placed.items ≡ old.placed.items ++ draft.placed ∷ []
   pub rows : new.rows ≡ old.rows ++ draft.row ∷ []
-  pub numbers : new.numbers.items ≡ set old.numbers.items draft.placed.node.0 (length old.placed.items)
-  pub most : length old.placed.items < 4294967294
+  pub numbers : new.numbers.items ≡ set old.numbers.items draft.node.0 (length old.rows)
+  pub most : length old.rows < 4294967294
 
 -- the numbers with those of some drafts, from n on
 abbrev pub numbered_from : ℕ → List Draft → List ℕ → List ℕ
 numbered_from n [] numbers = numbers
-numbered_from n (d ∷ drafts) numbers = numbered_from (n + 1) drafts (set numbers d.placed.node.0 n)
+numbered_from n (d ∷ drafts) numbers = numbered_from (n + 1) drafts (set numbers d.node.0 n)
 
 -- the drafts have become the next rows
 pub record ArePlaced (old new : Numbering) (drafts : List Draft) : Type 0 where
-  pub placed : new.placed.items ≡ old.placed.items ++ map (λ (d : Draft). d.placed) drafts
   pub rows : new.rows ≡ old.rows ++ map (λ (d : Draft). d.row) drafts
-  pub numbers : new.numbers.items ≡ numbered_from (length old.placed.items) drafts old.numbers.items
-  pub most : length old.placed.items ≤ 4294967294 → length new.placed.items ≤ 4294967294
+  pub numbers : new.numbers.items ≡ numbered_from (length old.rows) drafts old.numbers.items
+  pub most : length old.rows ≤ 4294967294 → length new.rows ≤ 4294967294
 
 -- a row's height and its text
 abbrev pub key_at : List (List ℕ) → List Placed → List TableRow → ℕ → ℕ × List ℕ
@@ -173,12 +174,7 @@ pub record IsNumbered (w : World) (names : List (List ℕ)) (params : List (Name
   pub rising : (i : ℕ) → suc i < length done → comes_after (Some (key_at names done rows i)) (key_at names done rows (suc i)) ≡ true
   pub whole : (k : ℕ) → k < start → start < length placed → (placed_at placed k).height < (placed_at placed start).height
 
--- a level is numbered: the nodes in front of end have their rows
-pub record IsLevelDone (w : World) (names : List (List ℕ)) (params : List (Name × Kind)) (placed : List Placed) (start end : ℕ) (numbering : Numbering) : Type 0 where
-  pub more : start < end
-  pub within : end ≤ length placed
-  pub numbered : IsNumbered w names params placed end numbering.placed.items numbering.rows numbering.numbers.items
-
--- all placed nodes are numbered
-abbrev pub AllNumbered : World → List (List ℕ) → List (Name × Kind) → List Placed → Numbering → Type 0
-AllNumbered w names params placed numbering = IsNumbered w names params placed (length placed) numbering.placed.items numbering.rows numbering.numbers.items
+-- the same, where it is known of some order
+pub record IsNumbering (w : World) (names : List (List ℕ)) (params : List (Name × Kind)) (placed : List Placed) (start : ℕ) (numbering : Numbering) : Type 0 where
+  pub done : List Placed
+  pub numbered : IsNumbered w names params placed start done numbering.rows numbering.numbers.items

@@ -1,4 +1,4 @@
-ghost use Rattle.std.specs.Prelude.{◌≡◌, ◌<◌, ◌≤◌, ◌+◌, ◌^◌, ℕ, length, slice_index, IfOk};
+ghost use Rattle.std.specs.Prelude.{◌≡◌, ◌<◌, ◌≤◌, ◌+◌, ℕ, length, slice_index, IfOk};
 ghost use Rattle.std.specs.List.{All};
 ghost use Rattle.occ_base.specs.declared.event.Event.{Event};
 ghost use Rattle.occ_node.specs.declared.node.NodeId.{NodeId};

@@ -95,7 +95,7 @@ module _ (s : Store) (a : SetId) where
           (cases_lt d.bit n)
 
 -- ---- the places of the members
-pub double : (n : ℕ) → 2 ^ suc n ≡ 2 ^ n + 2 ^ n
+double : (n : ℕ) → 2 ^ suc n ≡ 2 ^ n + 2 ^ n
 double n = pow-suc 2 n ∙ omega arith
 
 low_within : (n x : ℕ) → x < 2 ^ n → x < 2 ^ suc n

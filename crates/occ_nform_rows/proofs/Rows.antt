@@ -21,7 +21,7 @@ use Rattle.occ_accept.proofs.Strict.{tied, tied_same, all_at, all_each}
 use Rattle.occ_accept.proofs.Events.{cmp_total, event_exact, sets_total, set_exact}
 use Rattle.occ_node.specs.Offers.{next_in, is_offered}
 use Rattle.occ_node.specs.Rows.{IsRow}
-use Rattle.occ_node.specs.World.{IsNode, row_of, ends}
+use Rattle.occ_node.specs.World.{IsNode, row_of}
 use Rattle.occ_node.specs.declared.node.NodeId.{NodeId}
 use Rattle.occ_node.specs.declared.world.World.{World}
 use Rattle.occ_node.proofs.Behaviours.{ends_nil}

@@ -3,10 +3,11 @@
 #![tactic(auto)]
 
 mod ends;
+mod lister;
 mod members;
 mod offers;
 mod places;
 mod row;
 mod sets;
 
-pub use row::listed_row;
+pub use lister::Lister;

@@ -1,13 +1,48 @@
-ghost use Rattle.std.specs.Prelude.{◌≡◌, ◌≤◌, ◌<◌, ◌+◌, ◌^◌, ◌++◌, OnOk, IfOk};
+ghost use Rattle.std.specs.Prelude.{◌≡◌, ◌≤◌, ◌<◌, ◌+◌, ◌-◌, ◌^◌, ◌++◌, OnOk, IfOk};
 ghost use Rattle.std.specs.Bool.{OnTrue};
 ghost use Rattle.occ_dd.specs.Store.{IsKnown, IsEmpty, Keeps, depth, has};
 ghost use Rattle.occ_nform_rows.specs.Ends.{AreHalves, places_of};
-ghost use Rattle.occ_syntax.specs.Counts.{bits_of_scope};
 
-use crate::places::{place, size};
-use occ_base::{Memory, Name};
+use crate::Lister;
+use crate::places::size;
+use occ_base::Memory;
 use occ_dd::{SetId, Store};
-use occ_syntax::Kind;
+
+// The assignments that begin with `first`: so many of the lowest bits are free in them, and these are 0 in the first.
+#[derive(Clone, Copy)]
+pub(crate) struct Cube {
+    pub first: u32,
+    pub free: u32,
+    pub ghost few: { free ≤ 16 },
+    pub ghost room: { first + 2 ^ free ≤ 2 ^ 16 },
+}
+
+impl Cube {
+    // The lower half, in which the greatest free bit is 0.
+    fn low(self) -> Cube
+        requires { 0 < self.free }
+        ensures first { result.first ≡ self.first }
+        ensures free { result.free ≡ self.free - 1 }
+    {
+        Cube {
+            first: self.first,
+            free: self.free - 1,
+        }
+    }
+
+    // The upper half, in which that bit is 1.
+    fn high(self) -> Cube
+        requires { 0 < self.free }
+        ensures first { result.first ≡ self.first + 2 ^ (self.free - 1) }
+        ensures free { result.free ≡ self.free - 1 }
+    {
+        let free = self.free - 1;
+        Cube {
+            first: self.first + size(free),
+            free,
+        }
+    }
+}
 
 // Whether a set is the empty one.
 fn is_empty(store: &Store, set: SetId) -> bool
@@ -35,47 +70,40 @@ fn halves(store: &mut Store, set: SetId, bit: u32) -> Result<(SetId, SetId), Mem
     }
 }
 
-// Adds the place of one assignment, where it is a member.
-fn add_member(
-    params: &[(Name, Kind)],
-    member: bool,
-    assignment: u32,
-    found: &mut Vec<u32>,
-) -> Result<(), Memory>
-    requires { bits_of_scope params.now ≤ 16 }
-    ensures { OnOk result (found.new.items ≡ found.old.items ++ places_of params.now (λ x. member) 0 assignment) }
-{
-    if member {
-        found.push(place(params, assignment))?;
+impl Lister<'_> {
+    // Adds the place of one assignment, where it is a member.
+    fn add_member(&self, member: bool, assignment: u32, found: &mut Vec<u32>) -> Result<(), Memory>
+        ensures { OnOk result (found.new.items ≡ found.old.items ++ places_of self.now.params.now (λ x. member) 0 assignment) }
+    {
+        if member {
+            found.push(self.place(assignment))?;
+        }
+        Ok(())
     }
-    Ok(())
-}
 
-// Adds the places of the assignments that begin with `first` and end in a member of a set of so many bits.
-pub(crate) fn add_members(
-    store: &mut Store,
-    params: &[(Name, Kind)],
-    set: SetId,
-    level: u32,
-    first: u32,
-    found: &mut Vec<u32>,
-) -> Result<(), Memory>
-    requires set { IsKnown store.old set }
-    requires deep { depth store.old set ≤ level }
-    requires few { bits_of_scope params.now ≤ 16 }
-    requires small { level ≤ 16 }
-    requires first { first + 2 ^ level ≤ 2 ^ 16 }
-    ensures keeps { Keeps store.old store.new }
-    ensures found { OnOk result (found.new.items ≡ found.old.items ++ places_of params.now (has store.old set) level first) }
-{
-    if is_empty(store, set) {
-        return Ok(());
+    // Adds the places of the assignments of a cube whose free bits are a member of a set.
+    pub(crate) fn add_members(
+        &self,
+        store: &mut Store,
+        set: SetId,
+        cube: Cube,
+        found: &mut Vec<u32>,
+    ) -> Result<(), Memory>
+        requires set { IsKnown store.old set }
+        requires deep { depth store.old set ≤ cube.free }
+        ensures keeps { Keeps store.old store.new }
+        ensures found { OnOk result
+            (found.new.items ≡ found.old.items ++ places_of self.now.params.now (has store.old set) cube.free cube.first) }
+    {
+        if is_empty(store, set) {
+            return Ok(());
+        }
+        let level = cube.free;
+        if level == 0 {
+            return self.add_member(store.has(set, 0), cube.first, found);
+        }
+        let parts = halves(store, set, level - 1)?;
+        self.add_members(store, parts.0, cube.low(), found)?;
+        self.add_members(store, parts.1, cube.high(), found)
     }
-    if level == 0 {
-        return add_member(params, store.has(set, 0), first, found);
-    }
-    let bit = level - 1;
-    let parts = halves(store, set, bit)?;
-    add_members(store, params, parts.0, bit, first, found)?;
-    add_members(store, params, parts.1, bit, first + size(bit), found)
 }

@@ -1,4 +1,4 @@
-ghost use Rattle.std.specs.Prelude.{◌≡◌, ◌<◌, ◌++◌, ℕ, [], true, length, MatchOption, OnOk, IfOk};
+ghost use Rattle.std.specs.Prelude.{◌≡◌, ◌<◌, ◌++◌, [], true, length, MatchOption, OnOk, IfOk};
 ghost use Rattle.occ_accept.specs.Order.{strict};
 ghost use Rattle.occ_nform_rows.specs.Lists.{AreOffers, with_number};
 ghost use Rattle.occ_node.specs.Offers.{are_below, offer_cmp};

@@ -1,12 +1,11 @@
 ghost use Rattle.std.specs.Prelude.{◌≡◌, ◌≤◌, ◌^◌, IfOk};
 ghost use Rattle.occ_compare.specs.Places.{number_in};
 ghost use Rattle.occ_nform_rows.specs.Ends.{byte_state_at};
-ghost use Rattle.occ_syntax.specs.Counts.{bits_of_scope};
 
-use occ_base::{Memory, Name, State};
+use crate::Lister;
+use occ_base::{Memory, State};
 use occ_behaviour::interface_bits;
 use occ_syntax::Kind;
-use std::alloc::Global;
 
 // How many values so many bits have.
 pub(crate) fn size(bits: u32) -> u32
@@ -16,37 +15,37 @@ pub(crate) fn size(bits: u32) -> u32
     1 << bits
 }
 
-// The place of an assignment's state among the states in their order.
-pub(crate) fn place(params: &[(Name, Kind)], assignment: u32) -> u32
-    requires { bits_of_scope params.now ≤ 16 }
-    ensures { result ≡ number_in params.now assignment }
-{
-    let mut place: u32 = 0;
-    let mut rest = assignment;
-    for (_, kind) in params {
-        let bits = u32::from(kind.bits());
-        let values = size(bits);
-        place = place * values + rest % values;
-        rest /= values;
-    }
-    place
-}
-
-// The state that has a place, each value by its lowest eight bits.
-pub(crate) fn state_at(alloc: Global, params: &[(Name, Kind)], place: u32) -> Result<State, Memory>
-    requires { bits_of_scope params.now ≤ 16 }
-    ensures { IfOk result (λ state. state ≡ byte_state_at params.now place) }
-{
-    let mut state = State::new(alloc);
-    let mut left = interface_bits(params);
-    let mut rest = place;
-    for (name, kind) in params {
-        if let Kind::Var(width) = kind {
-            left -= u32::from(width.bits());
-            let size = size(left);
-            state.push((*name, (rest / size % 256) as u8))?;
-            rest %= size;
+impl Lister<'_> {
+    // The place of an assignment's state among the states in their order.
+    pub(crate) fn place(&self, assignment: u32) -> u32
+        ensures { result ≡ number_in self.now.params.now assignment }
+    {
+        let mut place: u32 = 0;
+        let mut rest = assignment;
+        for (_, kind) in self.params {
+            let bits = u32::from(kind.bits());
+            let values = size(bits);
+            place = place * values + rest % values;
+            rest /= values;
         }
+        place
     }
-    Ok(state)
+
+    // The state that has a place, each value by its lowest eight bits.
+    pub(crate) fn state_at(&self, place: u32) -> Result<State, Memory>
+        ensures { IfOk result (λ state. state ≡ byte_state_at self.now.params.now place) }
+    {
+        let mut state = State::new(self.alloc);
+        let mut left = interface_bits(self.params);
+        let mut rest = place;
+        for (name, kind) in self.params {
+            if let Kind::Var(width) = kind {
+                left -= u32::from(width.bits());
+                let size = size(left);
+                state.push((*name, (rest / size % 256) as u8))?;
+                rest %= size;
+            }
+        }
+        Ok(state)
+    }
 }

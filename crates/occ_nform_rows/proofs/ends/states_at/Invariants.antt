@@ -1,6 +1,0 @@
-use Rattle.std.proofs.Common.{◌≡◌, take, map}
-use Rattle.occ_nform_rows.specs.Ends.{byte_state_at}
-use Rattle.occ_nform_rows.proofs.ends.states_at.Given as goal
-
-abbrev pub invariant-loop-place : goal.invariant-loop-place
-invariant-loop-place l = l.states ≡ map (byte_state_at l.params) (take l.place-index l.places)
