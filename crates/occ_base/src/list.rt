@@ -28,6 +28,18 @@ impl<T> List<T> {
         }
     }
 
+    // Makes room for one more item where there is none. A short list has room for one, two or four items, since many lists have so few.
+    fn make_room(&mut self) -> Result<(), Memory>
+        ensures { self.new ≡ self.old }
+    {
+        let len = self.items.len();
+        if 4 <= len || len < self.items.capacity() {
+            return Ok(());
+        }
+        self.items.reserve_exact(len.max(1))?;
+        Ok(())
+    }
+
     /// Adds an item at the end. After want of memory the list is as before.
     pub fn push(&mut self, item: T) -> Result<(), Memory>
     where
@@ -35,6 +47,7 @@ impl<T> List<T> {
         ensures ok { OnOk result (self.new ≡ self.old ++ item ∷ []) }
         ensures err { OnErr result (self.new ≡ self.old) }
     {
+        self.make_room()?;
         self.items.push(item)?;
         Ok(())
     }
