@@ -52,7 +52,7 @@ impl Antichain {
     pub fn copy(&self, alloc: Global) -> Result<Antichain, Memory>
         ensures { IfOk result (λ r. r ≡ self.now) }
     {
-        let mut sets = Vec::new(alloc);
+        let mut sets = Vec::with_capacity(alloc, self.sets.len())?;
         for set in self.items() {
             sets.push(set.copy(alloc)?)?;
         }
