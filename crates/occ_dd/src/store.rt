@@ -52,6 +52,14 @@ impl Store {
         })
     }
 
+    /// Gives back the room of the results that are remembered. All sets stay.
+    pub fn forget(&mut self, alloc: Global)
+        ensures { Keeps self.old self.new }
+    {
+        self.choices = Memo::new(alloc);
+        self.unions = Memo::new(alloc);
+    }
+
     /// How many sets the store has given numbers to. It takes no memory.
     pub fn sets(&self) -> usize
         ensures { result ≡ sets_of self.now }

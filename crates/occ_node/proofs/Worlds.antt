@@ -2,7 +2,7 @@ use Rattle.std.proofs.Common.{◌≡◌, ◌<◌, ℕ, Some, length, slice_get, 
 use Rattle.occ_dd.specs.Store.{Keeps}
 use Rattle.occ_accept.specs.Accept.{IsAntichain}
 use Rattle.occ_node.specs.Rows.{IsRow, row_at}
-use Rattle.occ_node.specs.World.{nodes_of, IsNode, row_of, fails, ends, Leads, IsFit, IsMade}
+use Rattle.occ_node.specs.World.{nodes_of, IsNode, row_of, fails, ends, Grows, Leads, IsFit, IsMade}
 use Rattle.occ_node.specs.declared.node.NodeId.{NodeId}
 use Rattle.occ_node.specs.declared.row.Row.{Row}
 use Rattle.occ_node.specs.declared.world.World.{World}
@@ -27,18 +27,22 @@ pub read_row : (w : World) (a : NodeId) (r : Row) → slice_get w.rows.keys a.0 
 unfolding row_of
 read_row w a r e = sym (row_is w.rows.keys a r e)
 
-module _ (old new : World) (keeps : Keeps old.store new.store) (holds : Holds old.rows.keys new.rows.keys) (maps : new.maps ≡ old.maps) where
+module _ (old new : World) (keeps : Keeps old.store new.store) (holds : Holds old.rows.keys new.rows.keys) where
   -- a world whose store and table have grown
-  pub leads_from : Leads old new
+  pub grows_from : Grows old new
   unfolding nodes_of row_of fails ends
-  leads_from = record {
+  grows_from = record {
     stored = keeps;
     more = holds.more;
     kept = λ a h. row-holds old.store old.rows.keys old.right new.rows.keys holds a h;
     same_fails = λ a t X h. fails-holds old.store old.rows.keys old.right new.rows.keys holds t a X h;
     same_ends = λ a t x h. ends-holds old.store old.rows.keys old.right new.rows.keys holds new.store keeps t a x h;
-    maps = maps;
   }
+
+  pub leads_from : new.maps ≡ old.maps → Leads old new
+  leads_from maps =
+      let k = grows_from in
+      record { stored = k.stored; more = k.more; kept = k.kept; same_fails = k.same_fails; same_ends = k.same_ends; maps = maps }
 
 -- a row that fits is right behind the last one
 pub fit_row : (w : World) (r : Row) → IsFit w r → IsAntichain r.accepts → IsRow w.store (length w.rows.keys) r

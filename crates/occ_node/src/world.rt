@@ -36,7 +36,7 @@ fn intern(rows: &mut IndexSet<Row>, row: Row) -> Result<usize, Memory>
 impl World {
     ghost use Rattle.occ_dd.specs.Store.{IsSet, sets_of};
     ghost use Rattle.occ_mdd.specs.Maps.{maps_of};
-    ghost use Rattle.occ_node.specs.World.{IsFit, IsMade, IsNode, Leads, nodes_of, row_of, fails, ends};
+    ghost use Rattle.occ_node.specs.World.{Grows, IsFit, IsMade, IsNode, Leads, nodes_of, row_of, fails, ends};
 
     /// A world without nodes and maps, whose store has the empty and the full set.
     pub fn new(alloc: Global) -> Result<World, Memory>
@@ -73,6 +73,14 @@ impl World {
     {
         let _sets = row.accepts.items();
         Ok(NodeId(intern(&mut self.rows, row)?))
+    }
+
+    /// Gives up all maps, and the results that the store remembers. All nodes and sets stay.
+    pub fn forget(&mut self, alloc: Global)
+        ensures { Grows self.old self.new }
+    {
+        self.store.forget(alloc);
+        self.maps = Maps::new(alloc);
     }
 
     /// The row of a node. It takes no memory.
