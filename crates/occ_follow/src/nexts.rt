@@ -12,14 +12,13 @@ use occ_node::{NodeId, World};
 use std::alloc::Global;
 
 /// The nodes with which the map goes on where a node has ended before any event, each once.
-pub fn nexts_of(world: &mut World, node: NodeId, map: MapId) -> Result<Vec<NodeId>, Memory>
-    requires node { IsNode world.old node }
-    requires map { HasNodes world.old map }
-    ensures leads { Leads world.old world.new }
-    ensures nexts { IfOk result (λ r. AreNexts world.old node map r.items) }
+pub fn nexts_of(world: &World, node: NodeId, map: MapId) -> Result<Vec<NodeId>, Memory>
+    requires node { IsNode world.now node }
+    requires map { HasNodes world.now map }
+    ensures { IfOk result (λ r. AreNexts world.now node map r.items) }
 {
     let ends = world.row(node).ends;
-    world.maps.leaves_under(&mut world.store, map, ends)
+    world.maps.leaves_under(&world.store, map, ends)
 }
 
 /// The union of one node and others.

@@ -174,25 +174,19 @@ chosen_joined ns s call low high bit l h r asked top below above lows highs spli
 }
 
 -- a choice that is split, and what both sides come to, one after the other
-module _ {T : Type 0} {ls : List (Node T)} {r s : Store} (k₀ : Keeps r s) (g : IsDiagram ls) {call low high : Call} {bit : ℕ} (asked : IsAsked ls r call) (split : IsSplit ls s call bit low high) where
-  still_asked : IsAsked ls s call
-  still_asked = asked-keeps (grown_store ls k₀) g call asked
-
-  top_at_first : bit + 1 ≤ greatest_depth ls r call
-  top_at_first = subst (λ n. bit + 1 ≤ n) (greatest-keeps (grown_store ls k₀) g call asked) split.top
-
+module _ {T : Type 0} {ls : List (Node T)} {s : Store} (g : IsDiagram ls) {call low high : Call} {bit : ℕ} (asked : IsAsked ls s call) (split : IsSplit ls s call bit low high) where
   pub low_asked : IsAsked ls s low
   low_asked = side_asked split.low_side
 
-  pub low_smaller : greatest_depth ls s low < greatest_depth ls r call
-  low_smaller = at_most_below (greatest_depth ls s low) bit (greatest_depth ls r call) (side_le split.low_side) top_at_first
+  pub low_smaller : greatest_depth ls s low < greatest_depth ls s call
+  low_smaller = at_most_below (greatest_depth ls s low) bit (greatest_depth ls s call) (side_le split.low_side) split.top
 
   module _ {ms : List (Node T)} {t : Store} (k₁ : Grown ls ms s t) where
     pub high_asked : IsAsked ms t high
     high_asked = asked-keeps k₁ g high (side_asked split.high_side)
 
-    pub high_smaller : greatest_depth ms t high < greatest_depth ls r call
-    high_smaller = at_most_below (greatest_depth ms t high) bit (greatest_depth ls r call) (subst (λ n. n ≤ bit) (sym (greatest-keeps k₁ g high (side_asked split.high_side))) (side_le split.high_side)) top_at_first
+    pub high_smaller : greatest_depth ms t high < greatest_depth ls s call
+    high_smaller = at_most_below (greatest_depth ms t high) bit (greatest_depth ls s call) (subst (λ n. n ≤ bit) (sym (greatest-keeps k₁ g high (side_asked split.high_side))) (side_le split.high_side)) split.top
 
     module _ {ns : List (Node T)} {u : Store} (k₂ : Grown ms ns t u) where
       pub low_under : (l : ℕ) → IsChosen ms t low l → (l < length ns) × (depth_of ns l ≤ bit)
@@ -205,8 +199,8 @@ module _ {T : Type 0} {ls : List (Node T)} {r s : Store} (k₀ : Keeps r s) (g :
       joined {os} k₃ g₁ g₂ l h r lows highs branch =
           let last : Grown ns os u u = grown_table u k₃ in
           let whole : Grown ls os s u = grown_trans (grown_trans k₁ k₂) last in
-          chosen_joined os u call low high bit l h r (asked-keeps whole g call still_asked) (subst (λ n. bit + 1 ≤ n) (sym (greatest-keeps whole g call still_asked)) split.top)
-          (side-keeps whole g low call bit 0 still_asked split.low_side) (side-keeps whole g high call bit 1 still_asked split.high_side)
+          chosen_joined os u call low high bit l h r (asked-keeps whole g call asked) (subst (λ n. bit + 1 ≤ n) (sym (greatest-keeps whole g call asked)) split.top)
+          (side-keeps whole g low call bit 0 asked split.low_side) (side-keeps whole g high call bit 1 asked split.high_side)
           (chosen-keeps (grown_trans k₂ last) g₁ low l lows) (chosen-keeps last g₂ high h highs) branch
 
 pub no_chosen : {T : Type 0} (ns : List (Node T)) (s : Store) (memo : Memo) → ((k : Call) → recalled memo k ≡ None) → AreChosen ns s memo

@@ -50,23 +50,17 @@ fn is_full(store: &Store, set: SetId) -> bool
 
 // The choice itself, where its set is empty or full, and else the choices on the two sides of the greatest bit
 // that matters to it.
-fn halve<L: Label>(
-    table: &Table<Option<L>>,
-    store: &mut Store,
-    call: Call,
-) -> Result<Choice, Memory>
-    requires asked { IsAsked (nodes_of table.now) store.old call }
-    ensures keeps { KeepsSets store.old store.new }
-    ensures choice { IfOk result (IsHalved (nodes_of table.now) store.new call) }
+fn halve<L: Label>(table: &Table<Option<L>>, store: &Store, call: Call) -> Choice
+    requires asked { IsAsked (nodes_of table.now) store.now call }
+    ensures { IsHalved (nodes_of table.now) store.now call result }
 {
     let set = SetId(call.first);
-    let parts = store.split(set)?;
-    let Some(split) = parts else {
-        return Ok(if is_full(store, set) {
+    let Some(split) = store.split(set) else {
+        return if is_full(store, set) {
             Choice::Made(call.second)
         } else {
             Choice::Made(call.third)
-        });
+        };
     };
     let bit = top_bit(table, split.0, call.second, call.third);
     let (set_low, set_high) = sides(store, set, split, bit);
@@ -82,7 +76,7 @@ fn halve<L: Label>(
         second: a_high,
         third: b_high,
     };
-    Ok(Choice::Split(bit, low, high))
+    Choice::Split(bit, low, high)
 }
 
 // The function that is the call's second on the set that is its first, and its third elsewhere.
@@ -104,8 +98,7 @@ pub fn choose<L: Label>(
     if let Some(chosen) = memo.get(call) {
         return Ok(chosen);
     }
-    let choice = halve(table, store, call)?;
-    match choice {
+    match halve(table, store, call) {
         Choice::Made(chosen) => Ok(chosen),
         Choice::Split(bit, low_call, high_call) => {
             let low = choose(table, store, low_call, memo)?;

@@ -49,55 +49,48 @@ fn note<L: Label>(label: Option<L>, found: &mut Vec<L>) -> Result<(), Memory>
 }
 
 // The halves of a set and a function at the greatest bit that matters to one of them.
-fn halve<L: Label>(
-    table: &Table<Option<L>>,
-    store: &mut Store,
-    set: SetId,
-    a: usize,
-) -> Result<Halves, Memory>
-    requires set { IsKnown store.old set }
+fn halve<L: Label>(table: &Table<Option<L>>, store: &Store, set: SetId, a: usize) -> Halves
+    requires set { IsKnown store.now set }
     requires a { a < length (nodes_of table.now) }
     requires deep { 0 < depth_of (nodes_of table.now) a }
-    ensures keeps { Keeps store.old store.new }
-    ensures halves { IfOk result (AreHalves (nodes_of table.now) store.new set a) }
+    ensures { AreHalves (nodes_of table.now) store.now set a result }
 {
-    let parts = store.split(set)?;
-    let Some(split) = parts else {
+    let Some(split) = store.split(set) else {
         let bit = table.depth(a) - 1;
         let (low, high) = table.parts(a, bit);
-        return Ok(Halves {
+        return Halves {
             bit,
             set_low: set,
             set_high: set,
             low,
             high,
-        });
+        };
     };
     let bit = top_bit(table, split.0, a, a);
     let (set_low, set_high) = sides(store, set, split, bit);
     let (low, high) = table.parts(a, bit);
-    Ok(Halves {
+    Halves {
         bit,
         set_low,
         set_high,
         low,
         high,
-    })
+    }
 }
 
 // Adds the labels that a function has on a set. A pair that was visited adds none.
 pub fn collect<L: Label>(
     table: &Table<Option<L>>,
-    store: &mut Store,
+    store: &Store,
     set: SetId,
     a: usize,
     found: &mut Found<L>,
 ) -> Result<(), Memory>
-    requires set { IsKnown store.old set }
+    requires set { IsKnown store.now set }
     requires a { a < length (nodes_of table.now) }
-    requires right { AreSeen (nodes_of table.now) store.old found.old.labels.items found.old.seen }
-    ensures after { Visits (nodes_of table.now) store.old store.new found.old.labels.items found.new.labels.items found.new.seen set.0 a }
-    ensures all { OnOk result (IsSeen (nodes_of table.now) store.new found.new.labels.items set.0 a) }
+    requires right { AreSeen (nodes_of table.now) store.now found.old.labels.items found.old.seen }
+    ensures after { Visits (nodes_of table.now) store.now store.now found.old.labels.items found.new.labels.items found.new.seen set.0 a }
+    ensures all { OnOk result (IsSeen (nodes_of table.now) store.now found.new.labels.items set.0 a) }
 {
     if is_empty(store, set) {
         return Ok(());
@@ -115,7 +108,7 @@ pub fn collect<L: Label>(
         found.seen.insert(call, 0)?;
         return Ok(());
     }
-    let halves = halve(table, store, set, a)?;
+    let halves = halve(table, store, set, a);
     collect(table, store, halves.set_low, halves.low, found)?;
     collect(table, store, halves.set_high, halves.high, found)?;
     found.seen.insert(call, 0)?;

@@ -118,12 +118,11 @@ impl<L: Label> Maps<L> {
     }
 
     /// The labels that the function has on the set, each once, in increasing order. Where its value is
-    /// None it has no label. After want of memory too, the store has only grown.
-    pub fn leaves_under(&self, store: &mut Store, a: MapId, set: SetId) -> Result<Vec<L>, Memory>
+    /// None it has no label.
+    pub fn leaves_under(&self, store: &Store, a: MapId, set: SetId) -> Result<Vec<L>, Memory>
         requires a { IsKnown self.now a }
-        requires set { IsSetKnown store.old set }
-        ensures sets { KeepsSets store.old store.new }
-        ensures labels { IfOk result (λ labels. AreLabelsOn self.now a store.old set L.cmp labels.items) }
+        requires set { IsSetKnown store.now set }
+        ensures { IfOk result (λ labels. AreLabelsOn self.now a store.now set L.cmp labels.items) }
     {
         let labels = Vec::new(self.alloc);
         let seen = Memo::new(self.alloc);

@@ -29,17 +29,15 @@ impl Store {
 
     /// The greatest bit on which membership depends, with the set of the assignments that are members
     /// once that bit is made 0 and the set of those that are members once it is made 1. None where the
-    /// set is empty or full.
-    pub fn split(&mut self, a: SetId) -> Result<Option<(u32, SetId, SetId)>, Memory>
-        requires { IsKnown self.old a }
-        ensures keeps { Keeps self.old self.new }
-        ensures split { IfOk result (λ r. MatchOption r (IsConstant self.new a)
-            (λ parts. Splits self.new a parts.0 parts.1 parts.2)) }
+    /// set is empty or full. It takes no memory.
+    pub fn split(&self, a: SetId) -> Option<(u32, SetId, SetId)>
+        requires { IsKnown self.now a }
+        ensures { MatchOption result (IsConstant self.now a) (λ parts. Splits self.now a parts.0 parts.1 parts.2) }
     {
-        Ok(match self.table.node(a.0) {
+        match self.table.node(a.0) {
             Node::Leaf(_) => None,
             Node::Branch(branch) => Some((branch.bit, SetId(branch.low), SetId(branch.high))),
-        })
+        }
     }
 
     /// The least member, or None where the set is empty. It takes no memory.

@@ -10,7 +10,7 @@ fn two_bits_make_a_set(rt: HostRuntime) -> Result<(), Memory> {
     assert!(rt; store.has(both, 3));
     assert!(rt; !store.has(both, 1));
     assert_eq!(rt; store.pick(both), Some(3));
-    assert_eq!(rt; store.split(both)?, Some((1, store.empty(), low)));
+    assert_eq!(rt; store.split(both), Some((1, store.empty(), low)));
     Ok(())
 }
 

@@ -1,5 +1,6 @@
 use Rattle.std.proofs.Common.{◌∙◌, sym}
 use Rattle.std.proofs.lemmas.Bool.{OnFalse_at}
+use Rattle.occ_dd.proofs.Callers.{keeps_refl}
 use Rattle.occ_mdd.proofs.Collecting.{visits_flat, visits_noted, seen_flat, visits_first, visits_second, visits_both, seen_both}
 use Rattle.occ_mdd.proofs.collect.+collect.Goals as goal
 
@@ -22,20 +23,20 @@ returns-then-depth-eq0-clause-all g t c = seen_flat _ c.args.table.now.diagram _
 
 -- ---- both halves
 pub returns-in_err-collect-clause-after : goal.returns-in_err-collect-clause-after
-returns-in_err-collect-clause-after g t c = visits_first _ c.args.table.now.diagram _ _ _ c.halve.ensures.keeps c.args.set c.args.a c.in_ok-halves.halves c.requires.set c.in_ok-halves.ensures.halves _ _ _ c.collect.ensures.after
+returns-in_err-collect-clause-after g t c = visits_first _ c.args.table.now.diagram _ _ _ (keeps_refl c.args.store.now) c.args.set c.args.a c.halve-halves.result c.requires.set c.halve-halves.ensures _ _ _ c.collect.ensures.after
 
 pub returns-in_err-collect-2-clause-after : goal.returns-in_err-collect-2-clause-after
-returns-in_err-collect-2-clause-after g t c = visits_second _ c.args.table.now.diagram _ _ _ c.halve.ensures.keeps c.args.set c.args.a c.in_ok-halves.halves c.requires.set c.in_ok-halves.ensures.halves _ _ _ c.collect.ensures.after
+returns-in_err-collect-2-clause-after g t c = visits_second _ c.args.table.now.diagram _ _ _ (keeps_refl c.args.store.now) c.args.set c.args.a c.halve-halves.result c.requires.set c.halve-halves.ensures _ _ _ c.collect.ensures.after
     _ _ _ c.collect-2.ensures.after
 
 pub returns-in_err-insert-2-clause-after : goal.returns-in_err-insert-2-clause-after
-returns-in_err-insert-2-clause-after g t c = visits_both _ c.args.table.now.diagram _ _ _ c.halve.ensures.keeps c.args.set c.args.a c.in_ok-halves.halves c.requires.set c.in_ok-halves.ensures.halves _ _ _ c.collect.ensures.after
+returns-in_err-insert-2-clause-after g t c = visits_both _ c.args.table.now.diagram _ _ _ (keeps_refl c.args.store.now) c.args.set c.args.a c.halve-halves.result c.requires.set c.halve-halves.ensures _ _ _ c.collect.ensures.after
     _ _ _ _ c.requires.a c.collect-2.ensures.after c.in_ok-collect.ensures.all c.in_ok-collect-2.ensures.all c.insert-2.ensures
 
 pub returns-clause-after : goal.returns-clause-after
-returns-clause-after g t c = visits_both _ c.args.table.now.diagram _ _ _ c.halve.ensures.keeps c.args.set c.args.a c.in_ok-halves.halves c.requires.set c.in_ok-halves.ensures.halves _ _ _ c.collect.ensures.after
+returns-clause-after g t c = visits_both _ c.args.table.now.diagram _ _ _ (keeps_refl c.args.store.now) c.args.set c.args.a c.halve-halves.result c.requires.set c.halve-halves.ensures _ _ _ c.collect.ensures.after
     _ _ _ _ c.requires.a c.collect-2.ensures.after c.in_ok-collect.ensures.all c.in_ok-collect-2.ensures.all c.insert-2.ensures
 
 pub returns-clause-all : goal.returns-clause-all
-returns-clause-all g t c = seen_both _ c.args.table.now.diagram _ _ _ c.halve.ensures.keeps c.args.set c.args.a c.in_ok-halves.halves c.requires.set c.in_ok-halves.ensures.halves _ _ _ c.collect.ensures.after
+returns-clause-all g t c = seen_both _ c.args.table.now.diagram _ _ _ (keeps_refl c.args.store.now) c.args.set c.args.a c.halve-halves.result c.requires.set c.halve-halves.ensures _ _ _ c.collect.ensures.after
     _ _ _ c.requires.a c.collect-2.ensures.after c.in_ok-collect.ensures.all c.in_ok-collect-2.ensures.all

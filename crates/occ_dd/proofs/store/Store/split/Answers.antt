@@ -4,8 +4,8 @@ use Rattle.occ_dd.proofs.store.Store.split.Goals as goal
 pub node-requires : goal.node-requires
 node-requires c = known_size c.args.self.now c.args.a c.requires
 
-pub returns-in-Leaf-clause-split : goal.returns-in-Leaf-clause-split
-returns-in-Leaf-clause-split c = leaf_constant c.args.self.now c.args.a _ c.in-Leaf.ensures
+pub returns-in-Leaf : goal.returns-in-Leaf
+returns-in-Leaf c = leaf_constant c.args.self.now c.args.a _ c.in-Leaf.ensures
 
-pub returns-in-Branch-clause-split : goal.returns-in-Branch-clause-split
-returns-in-Branch-clause-split c = branch_splits c.args.self.now c.args.a c.in-Branch.branch c.in-Branch.ensures
+pub returns-in-Branch : goal.returns-in-Branch
+returns-in-Branch c = branch_splits c.args.self.now c.args.a c.in-Branch.branch c.in-Branch.ensures
