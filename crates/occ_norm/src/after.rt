@@ -13,17 +13,15 @@ ghost use Rattle.occ_norm.specs.Parts.{IsAfterIn};
 use occ_base::Memory;
 use occ_dd::SetId;
 use occ_mdd::MapId;
-use occ_node::World;
 use occ_norm_alt::{Alternation, Alternative, Get, Put, input, output};
 use occ_norm_assign::{Assignment, assigned};
 use occ_norm_ending::ending;
 use occ_norm_frame::{Frame, freed, holds};
-use occ_norm_maps::{choose, stop};
+use occ_norm_maps::Normaliser;
 use occ_norm_par::{Sides, side_frame};
-use occ_norm_reached::{all_states, both, limited, states_between, states_left};
+use occ_norm_reached::{all_states, limited, states_between, states_left};
 use occ_norm_transfer::straight;
 use occ_syntax::{Expr, Guard, Proc};
-use std::alloc::Global;
 
 // The states in which a part begins, and the map of what follows it.
 #[derive(Clone, Copy)]
@@ -35,8 +33,7 @@ struct Span {
 /// The map of a part and then what another map has.
 #[cycle(after)]
 pub fn after(
-    alloc: Global,
-    world: &mut World,
+    world: &mut Normaliser,
     frame: &Frame,
     part: &Proc,
     rest: MapId,
@@ -49,19 +46,13 @@ pub fn after(
     ensures after { IfOk result (IsAfterIn world.new frame.now.vars frame.now.layout frame.now.keep frame.now.closed.items (tree part.now) rest) }
 {
     let from = all_states(world, frame);
-    front(alloc, world, frame, part, Span { from, rest })
+    front(world, frame, part, Span { from, rest })
 }
 
 // The same in the states of a set alone: a part in a SEQ or an IF need not say what it does in those that can't be reached there.
 // The declarations round a process are a loop, since there may be thousands. A set of outside says nothing of what they declare.
 #[cycle(after)]
-fn front(
-    alloc: Global,
-    world: &mut World,
-    frame: &Frame,
-    part: &Proc,
-    span: Span,
-) -> Result<MapId, Memory>
+fn front(world: &mut Normaliser, frame: &Frame, part: &Proc, span: Span) -> Result<MapId, Memory>
     requires part { Fits frame.now.vars (tree part.now) }
     requires usage { KeepsUsage (tree part.now) }
     requires span { IsSpan world.old frame.now span }
@@ -69,21 +60,21 @@ fn front(
     ensures over { IfOk result (IsOver world.new frame.now.bits) }
     ensures front { IfOk result (IsFront world.new frame.now span.from (tree part.now) span.rest) }
 {
+    let alloc = world.alloc();
     let mut inner = frame.copy(alloc)?;
     let mut body = part;
     while let Some((name, kind, inside)) = body.declared() {
         inner.declare(alloc, name, kind)?;
         body = inside;
     }
-    let map = undeclared(alloc, world, &inner, body, span)?;
-    freed(alloc, world, frame.bits, inner.bits, map)
+    let map = undeclared(world, &inner, body, span)?;
+    freed(world, frame.bits, inner.bits, map)
 }
 
 #[tactic(auto, unfolding(occ_syntax::specs::View::tree))]
 #[cycle(after)]
 fn undeclared(
-    alloc: Global,
-    world: &mut World,
+    world: &mut Normaliser,
     frame: &Frame,
     part: &Proc,
     span: Span,
@@ -99,20 +90,18 @@ fn undeclared(
     let rest = span.rest;
     match part {
         Proc::Skip => Ok(rest),
-        Proc::Stop => stop(alloc, world),
+        Proc::Stop => world.stop(),
         Proc::Assign { vars, values } => {
             let vars = vars.items();
             let values = values.items();
-            assigned(alloc, world, frame, &Assignment { vars, values }, rest)
+            assigned(world, frame, &Assignment { vars, values }, rest)
         }
-        &Proc::Input { chan, var } => input(alloc, world, frame, Get { chan, var }, rest),
-        Proc::Output { chan, value } => {
-            output(alloc, world, frame, &Put { chan: *chan, value }, rest)
-        }
-        Proc::Seq(parts) => in_turn(alloc, world, frame, parts.items(), span),
-        Proc::Par(parts) => at_once(alloc, world, frame, parts.items(), rest),
-        Proc::If(choices) => first_choice(alloc, world, frame, choices.items(), span),
-        Proc::Alt(alternatives) => alternated(alloc, world, frame, alternatives.items(), rest),
+        &Proc::Input { chan, var } => input(world, frame, Get { chan, var }, rest),
+        Proc::Output { chan, value } => output(world, frame, &Put { chan: *chan, value }, rest),
+        Proc::Seq(parts) => in_turn(world, frame, parts.items(), span),
+        Proc::Par(parts) => at_once(world, frame, parts.items(), rest),
+        Proc::If(choices) => first_choice(world, frame, choices.items(), span),
+        Proc::Alt(alternatives) => alternated(world, frame, alternatives.items(), rest),
         Proc::Var { .. } | Proc::Chan { .. } => unreachable!(),
     }
 }
@@ -121,8 +110,7 @@ fn undeclared(
 // straight parts in a row are gone through at once.
 #[cycle(after)]
 fn in_turn(
-    alloc: Global,
-    world: &mut World,
+    world: &mut Normaliser,
     frame: &Frame,
     parts: &[Proc],
     span: Span,
@@ -134,19 +122,19 @@ fn in_turn(
     ensures over { IfOk result (IsOver world.new frame.now.bits) }
     ensures front { IfOk result (IsFront world.new frame.now span.from (seq (trees parts.now)) span.rest) }
 {
-    let sets = states_between(alloc, world, frame, parts, span.from)?;
+    let sets = states_between(world, frame, parts, span.from)?;
     let mut map = span.rest;
     let mut left = parts.len();
     while left > 0 {
-        let rest = limited(alloc, world, frame, sets[left], map)?;
-        if let Some((start, made)) = straight(alloc, world, frame, &parts[..left], rest)? {
+        let rest = limited(world, frame, sets[left], map)?;
+        if let Some((start, made)) = straight(world, frame, &parts[..left], rest)? {
             left = start;
             map = made;
             continue;
         }
         left -= 1;
         let from = sets[left];
-        let next = front(alloc, world, frame, &parts[left], Span { from, rest })?;
+        let next = front(world, frame, &parts[left], Span { from, rest })?;
         map = next;
     }
     Ok(map)
@@ -155,8 +143,7 @@ fn in_turn(
 // The choices of an IF, and then what another map has. Each begins where its condition is TRUE and none in front of it is.
 #[cycle(after)]
 fn first_choice(
-    alloc: Global,
-    world: &mut World,
+    world: &mut Normaliser,
     frame: &Frame,
     choices: &[(Expr, Proc)],
     span: Span,
@@ -169,16 +156,17 @@ fn first_choice(
     ensures front { IfOk result (IsFront world.new frame.now span.from (select (cases choices.now)) span.rest) }
 {
     let rest = span.rest;
-    let sets = states_left(alloc, world, frame, choices, span.from)?;
-    let mut map = stop(alloc, world)?;
+    let alloc = world.alloc();
+    let sets = states_left(world, frame, choices, span.from)?;
+    let mut map = world.stop()?;
     let mut left = choices.len();
     while left > 0 {
         left -= 1;
         let choice = &choices[left];
         let set = holds(alloc, world, frame, &choice.0)?;
-        let from = both(world, sets[left], set)?;
-        let chosen = front(alloc, world, frame, &choice.1, Span { from, rest })?;
-        let next = choose(world, set, chosen, map)?;
+        let from = world.within(sets[left], set)?;
+        let chosen = front(world, frame, &choice.1, Span { from, rest })?;
+        let next = world.choose(set, chosen, map)?;
         map = next;
     }
     Ok(map)
@@ -187,8 +175,7 @@ fn first_choice(
 // The alternatives of an ALT, and then what another map has.
 #[cycle(after)]
 fn alternated(
-    alloc: Global,
-    world: &mut World,
+    world: &mut Normaliser,
     frame: &Frame,
     alternatives: &[(Guard, Proc)],
     rest: MapId,
@@ -200,12 +187,13 @@ fn alternated(
     ensures nodes { IfOk result (HasNodes world.new) }
     ensures after { IfOk result (IsAfterIn world.new frame.now.vars frame.now.layout frame.now.keep frame.now.closed.items (alt (branches alternatives.now)) rest) }
 {
-    let mut alternation = Alternation::none(alloc, world)?;
+    let alloc = world.alloc();
+    let mut alternation = Alternation::none(world)?;
     let mut left = alternatives.len();
     while left > 0 {
         left -= 1;
         let alternative = &alternatives[left];
-        let next = after(alloc, world, frame, &alternative.1, rest)?;
+        let next = after(world, frame, &alternative.1, rest)?;
         let guard = &alternative.0;
         let enabled = holds(alloc, world, frame, &guard.condition)?;
         let wait = &guard.wait;
@@ -214,17 +202,16 @@ fn alternated(
             wait,
             next,
         };
-        let more = alternation.and(alloc, world, frame, &added)?;
+        let more = alternation.and(world, frame, &added)?;
         alternation = more;
     }
-    alternation.map(alloc, world)
+    alternation.map(world)
 }
 
 // The parts of a PAR, and then what another map has.
 #[cycle(after)]
 fn at_once(
-    alloc: Global,
-    world: &mut World,
+    world: &mut Normaliser,
     frame: &Frame,
     parts: &[Proc],
     rest: MapId,
@@ -241,14 +228,15 @@ fn at_once(
         return Ok(rest);
     }
     if parts.len() == 1 {
-        return after(alloc, world, frame, &parts[0], rest);
+        return after(world, frame, &parts[0], rest);
     }
-    let sides = Sides::of(alloc, world, frame, parts, rest)?;
+    let alloc = world.alloc();
+    let sides = Sides::of(world, frame, parts, rest)?;
     let mut maps = Vec::new(alloc);
     for place in 0..parts.len() {
         let inner = side_frame(alloc, frame, &sides, place)?;
-        let ended = ending(alloc, world, sides.all, inner.keep)?;
-        let map = after(alloc, world, &inner, &parts[place], ended)?;
+        let ended = ending(world, sides.all, inner.keep)?;
+        let map = after(world, &inner, &parts[place], ended)?;
         maps.push(map)?;
     }
     let map = sides.joined(world, maps.as_slice())?;

@@ -5,6 +5,7 @@ ghost use Rattle.occ_syntax.specs.Counts.{bits_of_scope, most_bits};
 ghost use Rattle.occ_syntax.specs.View.{tree};
 ghost use Rattle.occ_usage.specs.Accepted.{KeepsRules};
 ghost use Rattle.occ_norm_flatten.specs.Flat.{IsFlat};
+ghost use Rattle.occ_norm_maps.specs.Maps.{Extends};
 ghost use Rattle.occ_norm.specs.Root.{IsRoot};
 
 use crate::after::after;
@@ -14,10 +15,12 @@ use occ_node::{Root, World};
 use occ_norm_ending::{ending, except};
 use occ_norm_flatten::flattened;
 use occ_norm_frame::{Frame, rebased};
+use occ_norm_maps::Normaliser;
 use occ_norm_par::written_bits;
 use occ_syntax::{Proc, Program};
 use occ_usage::{Accepted, keeps};
 use std::alloc::Global;
+use std::mem;
 
 // The frame of a program's body where the bits that the body never writes matter as changes, and the others as values.
 fn unwritten_frame(alloc: Global, whole: &Frame, body: &Proc) -> Result<Frame, Memory>
@@ -30,7 +33,24 @@ fn unwritten_frame(alloc: Global, whole: &Frame, body: &Proc) -> Result<Frame, M
 }
 
 // The map of a program whose rules and limits are kept.
-fn states_of(alloc: Global, program: &Program, world: &mut World) -> Result<MapId, Memory>
+fn states_of(program: &Program, world: &mut Normaliser) -> Result<MapId, Memory>
+    requires rules { KeepsRules program.now }
+    requires interface { bits_of_scope program.now.params ≤ 16 }
+    requires state { most_bits (tree program.now.body) (bits_of_scope program.now.params) ≤ 24 }
+    ensures extends { Extends world.old world.new }
+    ensures root { IfOk result (IsRoot world.new program.now.params (tree program.now.body)) }
+{
+    let alloc = world.alloc();
+    let whole = Frame::of(alloc, program)?;
+    let frame = unwritten_frame(alloc, &whole, &program.body)?;
+    let ended = ending(world, whole.keep, frame.keep)?;
+    let changes = after(world, &frame, &program.body, ended)?;
+    let states = rebased(world, frame.keep, changes)?;
+    Ok(states)
+}
+
+// The same in a world that is an owner's as long as this takes.
+fn states_in(alloc: Global, program: &Program, world: &mut World) -> Result<MapId, Memory>
     requires rules { KeepsRules program.now }
     requires interface { bits_of_scope program.now.params ≤ 16 }
     requires state { most_bits (tree program.now.body) (bits_of_scope program.now.params) ≤ 24 }
@@ -38,12 +58,11 @@ fn states_of(alloc: Global, program: &Program, world: &mut World) -> Result<MapI
     ensures maps { Keeps world.old.maps world.new.maps }
     ensures root { IfOk result (IsRoot world.new program.now.params (tree program.now.body)) }
 {
-    let whole = Frame::of(alloc, program)?;
-    let frame = unwritten_frame(alloc, &whole, &program.body)?;
-    let ended = ending(alloc, world, whole.keep, frame.keep)?;
-    let changes = after(alloc, world, &frame, &program.body, ended)?;
-    let states = rebased(alloc, world, frame.keep, changes)?;
-    Ok(states)
+    let empty = World::new(alloc)?;
+    let mut owner = Normaliser::new(alloc, mem::replace(world, empty));
+    let states = states_of(program, &mut owner);
+    *world = owner.into_world();
+    states
 }
 
 // The program with flat PARs, if it has others and keeps the rules with them too. Types are kept by the contract of `flattened`;
@@ -81,8 +100,8 @@ pub fn normalise(alloc: Global, accepted: &Accepted, world: &mut World) -> Resul
     let program = accepted.program();
     let flat = flat_program(alloc, program)?;
     let states = match &flat {
-        Some(flat) => states_of(alloc, flat, world)?,
-        None => states_of(alloc, program, world)?,
+        Some(flat) => states_in(alloc, flat, world)?,
+        None => states_in(alloc, program, world)?,
     };
     Ok(Root {
         params: program.params.copy(alloc)?,

@@ -27,13 +27,9 @@ use occ_base::{Dir, Event, Memory, Name};
 use occ_bits::WordBits;
 use occ_dd::SetId;
 use occ_mdd::MapId;
-use occ_node::World;
-use occ_norm_frame::{Frame, bits_from, digits, node_count, rebased, within, without};
-use occ_norm_maps::{
-    choose, cofactor, constant, finished, merged, prefixed, shifted, stop, united,
-};
+use occ_norm_frame::{Frame, bits_from, digits, rebased};
+use occ_norm_maps::Normaliser;
 use occ_syntax::{Expr, Wait};
-use std::alloc::Global;
 
 /// An ALT so far: what its events lead to, and what its ready guards lead to, if there is one.
 #[derive(Clone, Copy)]
@@ -74,32 +70,25 @@ struct Outputs {
 }
 
 // The map of the input of a value, and then what the map has.
-fn input_of(
-    alloc: Global,
-    world: &mut World,
-    inputs: Inputs,
-    value: u8,
-    next: MapId,
-) -> Result<MapId, Memory>
+fn input_of(world: &mut Normaliser, inputs: Inputs, value: u8, next: MapId) -> Result<MapId, Memory>
     requires { HasNodes world.old next }
     ensures extends { Extends world.old world.new }
     ensures nodes { IfOk result (HasNodes world.new) }
     ensures inputs { IfOk result (AreInputs world.new inputs.chan inputs.first 0 inputs.keep value next) }
 {
     let change = (u64::from(value) << inputs.first) & inputs.keep;
-    let there = shifted(alloc, world, next, change)?;
+    let there = world.shifted(next, change)?;
     let event = Event {
         chan: inputs.chan,
         dir: Dir::Input,
         value,
     };
-    prefixed(alloc, world, there, event)
+    world.prefixed(there, event)
 }
 
 // The map of the inputs of the values of a block, and then what the map has.
 fn input_from(
-    alloc: Global,
-    world: &mut World,
+    world: &mut Normaliser,
     inputs: Inputs,
     block: Block,
     next: MapId,
@@ -111,31 +100,30 @@ fn input_from(
     ensures inputs { IfOk result (AreInputs world.new inputs.chan inputs.first block.left inputs.keep block.base next) }
 {
     if block.left == 0 {
-        return input_of(alloc, world, inputs, block.base, next);
+        return input_of(world, inputs, block.base, next);
     }
     let lower = block.low();
     let upper = block.high();
     let bit = inputs.first + lower.left;
-    let zero = cofactor(world, next, bit, false)?;
-    let one = cofactor(world, next, bit, true)?;
-    let low = input_from(alloc, world, inputs, lower, zero)?;
-    let high = input_from(alloc, world, inputs, upper, one)?;
-    merged(alloc, world, low, high)
+    let zero = world.cofactor(next, bit, false)?;
+    let one = world.cofactor(next, bit, true)?;
+    let low = input_from(world, inputs, lower, zero)?;
+    let high = input_from(world, inputs, upper, one)?;
+    world.merged(low, high)
 }
 
 // Whether a map differs at two states by a bit: where no other bit is 1, or where all are.
-fn shows_bit(world: &World, map: MapId, bit: u32) -> bool
+fn shows_bit(world: &Normaliser, map: MapId, bit: u32) -> bool
     requires bit { bit < 64 }
     requires map { IsKnown world.now.maps map }
 {
     let one: u64 = 1 << bit;
-    let maps = &world.maps;
-    maps.get(map, 0) != maps.get(map, one)
-        || maps.get(map, u64::MAX) != maps.get(map, u64::MAX ^ one)
+    world.get(map, 0) != world.get(map, one)
+        || world.get(map, u64::MAX) != world.get(map, u64::MAX ^ one)
 }
 
 // How many bits of a frame outside a variable a map shows.
-fn bits_shown(world: &World, frame: &Frame, inputs: Inputs, map: MapId) -> u32
+fn bits_shown(world: &Normaliser, frame: &Frame, inputs: Inputs, map: MapId) -> u32
     requires bits { frame.now.bits ≤ 16 }
     requires map { IsKnown world.now.maps map }
     ensures { result ≤ 16 }
@@ -152,13 +140,12 @@ fn bits_shown(world: &World, frame: &Frame, inputs: Inputs, map: MapId) -> u32
 // Whether the states should be gone through one by one: there are few of them, what follows differs by them and has many nodes for so
 // few, and the bits of the variable aren't told as changes.
 fn is_by_states(
-    world: &mut World,
+    world: &Normaliser,
     frame: &Frame,
     inputs: Inputs,
     next: MapId,
 ) -> Result<bool, Memory>
-    requires { IsKnown world.old.maps next }
-    ensures extends { Extends world.old world.new }
+    requires { IsKnown world.now.maps next }
     ensures unkept { IfOk result (λ r. OnTrue r (inputs.keep ≡ 0)) }
     ensures few { IfOk result (λ r. OnTrue r (frame.now.bits ≤ 16)) }
 {
@@ -169,14 +156,13 @@ fn is_by_states(
     if shown == 0 {
         return Ok(false);
     }
-    let nodes = node_count(world, next)?;
+    let nodes = world.node_count(next)?;
     Ok(nodes >> shown > 0)
 }
 
 // The map of the inputs of all values, and then what the map has: by going through the states, or by halves of the values.
 fn all_inputs(
-    alloc: Global,
-    world: &mut World,
+    world: &mut Normaliser,
     frame: &Frame,
     inputs: Inputs,
     next: MapId,
@@ -189,19 +175,13 @@ fn all_inputs(
     let by_states = is_by_states(world, frame, inputs, next)?;
     if by_states {
         let rows = Rows { inputs, next };
-        return rows.map(alloc, world, frame.bits, 0);
+        return rows.map(world, frame.bits, 0);
     }
-    input_from(alloc, world, inputs, Block::of(inputs.bits), next)
+    input_from(world, inputs, Block::of(inputs.bits), next)
 }
 
 /// The map of an input and then what another map has.
-pub fn input(
-    alloc: Global,
-    world: &mut World,
-    frame: &Frame,
-    get: Get,
-    next: MapId,
-) -> Result<MapId, Memory>
+pub fn input(world: &mut Normaliser, frame: &Frame, get: Get, next: MapId) -> Result<MapId, Memory>
     requires var { IsSome (variable_width (environment_in frame.now.layout) get.var.0) }
     requires next { IsOver world.old frame.now.bits next }
     ensures extends { Extends world.old world.new }
@@ -212,7 +192,7 @@ pub fn input(
         → IsAfter world.new frame.now.layout frame.now.keep frame.now.closed.items Γ (receive get.chan.0 get.var.0) next r) }
 {
     if frame.is_closed(get.chan) {
-        return stop(alloc, world);
+        return world.stop();
     }
     let (width, first) = frame.slot(get.var);
     let bits = width.bits();
@@ -223,19 +203,13 @@ pub fn input(
         bits: u32::from(bits),
         keep,
     };
-    let map = all_inputs(alloc, world, frame, inputs, next)?;
-    rebased(alloc, world, keep, map)
+    let map = all_inputs(world, frame, inputs, next)?;
+    rebased(world, keep, map)
 }
 
 impl Outputs {
     // The map of the output of a value on a set of states, and then what the map has. Elsewhere it says nothing.
-    fn of_value(
-        &self,
-        alloc: Global,
-        world: &mut World,
-        set: SetId,
-        value: u8,
-    ) -> Result<MapId, Memory>
+    fn of_value(&self, world: &mut Normaliser, set: SetId, value: u8) -> Result<MapId, Memory>
         requires set { IsSetKnown world.old.store set }
         requires next { HasNodes world.old self.now.next }
         ensures extends { Extends world.old world.new }
@@ -248,23 +222,17 @@ impl Outputs {
             value,
         };
         if !self.several {
-            return prefixed(alloc, world, self.next, event);
+            return world.prefixed(self.next, event);
         }
-        let stopped = stop(alloc, world)?;
-        let there = choose(world, set, self.next, stopped)?;
-        let map = prefixed(alloc, world, there, event)?;
+        let stopped = world.stop()?;
+        let there = world.choose(set, self.next, stopped)?;
+        let map = world.prefixed(there, event)?;
         Ok(map)
     }
 
     // The map of the outputs of the values of a block, on the set of states in which the value is one of them, and then what the map
     // has. Elsewhere it says nothing.
-    fn of_block(
-        &self,
-        alloc: Global,
-        world: &mut World,
-        block: Block,
-        set: SetId,
-    ) -> Result<MapId, Memory>
+    fn of_block(&self, world: &mut Normaliser, block: Block, set: SetId) -> Result<MapId, Memory>
         requires left { block.left ≤ length self.now.digits }
         requires digits { All (IsSetKnown world.old.store) self.now.digits }
         requires set { IsSetKnown world.old.store set }
@@ -274,27 +242,26 @@ impl Outputs {
         ensures outputs { IfOk result (AreOutputs world.new self.now.chan (has world.old.store set)
             (λ x. block.base + number_at world.old.store (take block.left self.now.digits) x) self.now.next) }
     {
-        if set == world.store.empty() {
-            return stop(alloc, world);
+        if set == world.empty() {
+            return world.stop();
         }
         if block.left == 0 {
-            return self.of_value(alloc, world, set, block.base);
+            return self.of_value(world, set, block.base);
         }
         let lower = block.low();
         let upper = block.high();
         let digit = self.digits.bits()[lower.left as usize];
-        let with = within(world, set, digit)?;
-        let outside = without(world, set, digit)?;
-        let high = self.of_block(alloc, world, upper, with)?;
-        let low = self.of_block(alloc, world, lower, outside)?;
-        choose(world, digit, high, low)
+        let with = world.within(set, digit)?;
+        let outside = world.without(set, digit)?;
+        let high = self.of_block(world, upper, with)?;
+        let low = self.of_block(world, lower, outside)?;
+        world.choose(digit, high, low)
     }
 }
 
 /// The map of an output and then what another map has.
 pub fn output(
-    alloc: Global,
-    world: &mut World,
+    world: &mut Normaliser,
     frame: &Frame,
     put: &Put<'_>,
     next: MapId,
@@ -314,11 +281,11 @@ pub fn output(
 {
     let closed = frame.is_closed(put.chan);
     if closed {
-        return stop(alloc, world);
+        return world.stop();
     }
-    let several = node_count(world, next)? > 1;
-    let digits = digits(alloc, world, frame, put.value)?;
-    let full = world.store.full();
+    let several = world.node_count(next)? > 1;
+    let digits = digits(world.alloc(), world, frame, put.value)?;
+    let full = world.full();
     let count = digits.bits().len() as u32;
     let outputs = Outputs {
         chan: put.chan,
@@ -326,27 +293,26 @@ pub fn output(
         next,
         several,
     };
-    outputs.of_block(alloc, world, Block::of(count), full)
+    outputs.of_block(world, Block::of(count), full)
 }
 
 impl Alternation {
     /// The ALT without guards.
-    pub fn none(alloc: Global, world: &mut World) -> Result<Alternation, Memory>
+    pub fn none(world: &mut Normaliser) -> Result<Alternation, Memory>
         ensures extends { Extends world.old world.new }
         ensures maps { IfOk result (λ r. AreHeld world.new r.waiting r.ready) }
         ensures none { IfOk result (λ r. (layout : List (Name × Width × ℕ)) (keep : ℕ) (closed : List Name) (Γ : Environment) (rest : MapId)
             → IsAlternation world.new layout keep closed Γ no_branch rest r.waiting r.ready) }
     {
-        let waiting = stop(alloc, world)?;
-        let ready = constant(world, None)?;
+        let waiting = world.stop()?;
+        let ready = world.constant(None)?;
         Ok(Alternation { waiting, ready })
     }
 
     /// The ALT with one more guard in front, and what comes after it.
     pub fn and(
         self,
-        alloc: Global,
-        world: &mut World,
+        world: &mut Normaliser,
         frame: &Frame,
         more: &Alternative<'_>,
     ) -> Result<Alternation, Memory>
@@ -365,15 +331,15 @@ impl Alternation {
             (and_branch e (waiting more.now.wait.now) p bs) rest r.waiting r.ready) }
     {
         match more.wait {
-            Wait::Skip => self.going(alloc, world, more.enabled, more.next),
+            Wait::Skip => self.going(world, more.enabled, more.next),
             &Wait::Get { chan, var } => {
-                let offered = input(alloc, world, frame, Get { chan, var }, more.next)?;
-                self.offering(alloc, world, more.enabled, offered)
+                let offered = input(world, frame, Get { chan, var }, more.next)?;
+                self.offering(world, more.enabled, offered)
             }
             Wait::Put { chan, value } => {
                 let put = Put { chan: *chan, value };
-                let offered = output(alloc, world, frame, &put, more.next)?;
-                self.offering(alloc, world, more.enabled, offered)
+                let offered = output(world, frame, &put, more.next)?;
+                self.offering(world, more.enabled, offered)
             }
         }
     }
@@ -381,8 +347,7 @@ impl Alternation {
     // The ALT with a ready guard on a set of states.
     fn going(
         self,
-        alloc: Global,
-        world: &mut World,
+        world: &mut Normaliser,
         enabled: SetId,
         next: MapId,
     ) -> Result<Alternation, Memory>
@@ -393,9 +358,9 @@ impl Alternation {
         ensures maps { IfOk result (λ r. AreHeld world.new r.waiting r.ready) }
         ensures united { IfOk result (λ r. (r.waiting ≡ self.waiting) × IsUnited world.new (has world.old.store enabled) self.ready next r.ready) }
     {
-        let nothing = constant(world, None)?;
-        let there = choose(world, enabled, next, nothing)?;
-        let ready = united(alloc, world, self.ready, there)?;
+        let nothing = world.constant(None)?;
+        let there = world.choose(enabled, next, nothing)?;
+        let ready = world.united(self.ready, there)?;
         Ok(Alternation {
             waiting: self.waiting,
             ready,
@@ -405,8 +370,7 @@ impl Alternation {
     // The ALT with what is offered on a set of states.
     fn offering(
         self,
-        alloc: Global,
-        world: &mut World,
+        world: &mut Normaliser,
         enabled: SetId,
         offered: MapId,
     ) -> Result<Alternation, Memory>
@@ -417,9 +381,9 @@ impl Alternation {
         ensures maps { IfOk result (λ r. AreHeld world.new r.waiting r.ready) }
         ensures offered { IfOk result (λ r. (r.ready ≡ self.ready) × IsOffered world.new (has world.old.store enabled) self.waiting offered r.waiting) }
     {
-        let stopped = stop(alloc, world)?;
-        let there = choose(world, enabled, offered, stopped)?;
-        let waiting = merged(alloc, world, self.waiting, there)?;
+        let stopped = world.stop()?;
+        let there = world.choose(enabled, offered, stopped)?;
+        let waiting = world.merged(self.waiting, there)?;
         Ok(Alternation {
             waiting,
             ready: self.ready,
@@ -427,7 +391,7 @@ impl Alternation {
     }
 
     /// The map of the ALT.
-    pub fn map(self, alloc: Global, world: &mut World) -> Result<MapId, Memory>
+    pub fn map(self, world: &mut Normaliser) -> Result<MapId, Memory>
         requires { AreHeld world.old self.waiting self.ready }
         ensures extends { Extends world.old world.new }
         ensures nodes { IfOk result (HasNodes world.new) }
@@ -435,6 +399,6 @@ impl Alternation {
             → IsAlternation world.old layout keep closed Γ bs rest self.waiting self.ready
             → IsAfter world.new layout keep closed Γ (alt bs) rest r) }
     {
-        finished(alloc, world, self.waiting, self.ready)
+        world.finished(self.waiting, self.ready)
     }
 }

@@ -7,10 +7,9 @@ use crate::values::Inputs;
 use occ_base::Memory;
 use occ_choice::prefix_in;
 use occ_mdd::MapId;
-use occ_node::{NodeId, World};
-use occ_norm_frame::{bit_set, has_bit, node_at, with_bit};
-use occ_norm_maps::{choose, constant};
-use std::alloc::Global;
+use occ_node::NodeId;
+use occ_norm_frame::{has_bit, node_at, with_bit};
+use occ_norm_maps::Normaliser;
 
 /// What the rows of inputs are made of, one for each state: the inputs, and the map of what follows.
 #[derive(Clone, Copy)]
@@ -33,12 +32,12 @@ fn with_input(inputs: Inputs, number: u64, state: u64) -> u64
 
 impl Rows {
     // The nodes behind the inputs of all numbers from a state.
-    fn nexts(self, alloc: Global, world: &World, state: u64) -> Result<Vec<NodeId>, Memory>
+    fn nexts(self, world: &Normaliser, state: u64) -> Result<Vec<NodeId>, Memory>
         requires { HasNodes world.now self.next }
         ensures { IfOk result (λ r. AreNexts world.now self.inputs.first self.inputs.bits self.next state r.items) }
     {
         let size: usize = 1 << self.inputs.bits;
-        let mut nodes = Vec::with_capacity(alloc, size)?;
+        let mut nodes = Vec::with_capacity(world.alloc(), size)?;
         for number in 0..size {
             let there = with_input(self.inputs, number as u64, state);
             nodes.push(node_at(world, self.next, there))?;
@@ -47,43 +46,38 @@ impl Rows {
     }
 
     // The node that waits for the inputs from a state.
-    fn row_at(self, alloc: Global, world: &mut World, state: u64) -> Result<NodeId, Memory>
+    fn row_at(self, world: &mut Normaliser, state: u64) -> Result<NodeId, Memory>
         requires { HasNodes world.old self.next }
         ensures extends { Extends world.old world.new }
         ensures row { IfOk result (AreInputsAt world.new self.inputs.chan self.inputs.first self.inputs.bits 0 0 self.next state) }
     {
-        let nodes = self.nexts(alloc, world, state)?;
-        prefix_in(alloc, world, self.inputs.chan, &nodes)
+        let nodes = self.nexts(world, state)?;
+        let weaver = &mut world.lifting.weaver;
+        prefix_in(weaver.alloc, &mut weaver.world, self.inputs.chan, &nodes)
     }
 
     /// The map that waits at each state for the inputs, where it is told for the lowest bits of a state, so many, with the others as
     /// in this one.
-    pub fn map(
-        self,
-        alloc: Global,
-        world: &mut World,
-        left: u32,
-        state: u64,
-    ) -> Result<MapId, Memory>
+    pub fn map(self, world: &mut Normaliser, left: u32, state: u64) -> Result<MapId, Memory>
         requires left { left ≤ 64 }
         requires next { HasNodes world.old self.next }
         ensures extends { Extends world.old world.new }
         ensures rows { IfOk result (AreRows world.new self.inputs.chan self.inputs.first self.inputs.bits self.next left state) }
     {
         if left == 0 {
-            let node = self.row_at(alloc, world, state)?;
-            return constant(world, Some(node));
+            let node = self.row_at(world, state)?;
+            return world.constant(Some(node));
         }
         let bit = left - 1;
         if self.inputs.has(bit) {
-            return self.map(alloc, world, bit, state);
+            return self.map(world, bit, state);
         }
         let zero = with_bit(state, bit, false);
         let one = with_bit(state, bit, true);
-        let low = self.map(alloc, world, bit, zero)?;
-        let high = self.map(alloc, world, bit, one)?;
-        let set = bit_set(world, bit)?;
-        let map = choose(world, set, high, low)?;
+        let low = self.map(world, bit, zero)?;
+        let high = self.map(world, bit, one)?;
+        let set = world.bit(bit)?;
+        let map = world.choose(set, high, low)?;
         Ok(map)
     }
 }

@@ -36,6 +36,12 @@ onto_below s [] are x y h = h
 onto_below s (w ∷ writes) are x y h = onto_below s writes (λ i d l. are (suc i) d (omega arith)) x (with_bit y w.bit (digit s w.set x)) (with_bit_lt y w.bit (digit s w.set x) 64 (are 0 w (omega arith)).within h)
 
 -- ---- as the world grows
+pub extends_four : (u a b c d : World) → Extends u a → Extends a b → Extends b c → Extends c d → Extends u d
+extends_four u a b c d k l m n = extends_trans u c d (extends_trans u b c (extends_trans u a b k l) m) n
+
+pub extends_five : (u a b c d w : World) → Extends u a → Extends a b → Extends b c → Extends c d → Extends d w → Extends u w
+extends_five u a b c d w k l m n o = extends_trans u d w (extends_four u a b c d k l m n) o
+
 pub substituted-extends : (v w : World) → Extends v w → (writes : List Write) → AreWrites v.store writes → (left : ℕ) (map r : MapId) → IsSubstituted v writes left map r → IsSubstituted w writes left map r
 substituted-extends v w k writes are left map r is = record {
   known = map-keeps v w k.maps map is.known;
@@ -44,19 +50,23 @@ substituted-extends v w k writes are left map r is = record {
       ∙ ap (value w.maps map) (sym (onto-keeps v.store w.store k.grows.stored (take left writes) (All-take (IsWrite v.store) left writes are) x x));
 }
 
-pub keep_substituted-extends : (v w : World) → Extends v w → (writes : List Write) → AreWrites v.store writes → (memo : Memo) → KeepSubstituted v writes memo → KeepSubstituted w writes memo
-keep_substituted-extends v w k writes are memo keep = record { each = λ call r e. substituted-extends v w k writes are call.first (map_id call.second) (map_id r) (keep.each call r e) }
+pub keep_substituted-extends : (v w : World) → Extends v w → (writes : List Write) (memo : Memo) → KeepSubstituted v writes memo → KeepSubstituted w writes memo
+keep_substituted-extends v w k writes memo keep = record {
+  known = writes-extend v w k writes keep.known;
+  each = λ call r e. substituted-extends v w k writes keep.known call.first (map_id call.second) (map_id r) (keep.each call r e);
+}
 
 pub keep_substituted_learnt : (w : World) (writes : List Write) (old new : Memo) (call : Call) (r : MapId) → KeepSubstituted w writes old → IsSubstituted w writes call.first (map_id call.second) r → Learns old new call r.0 → KeepSubstituted w writes new
 keep_substituted_learnt w writes old new call r keep is learns = record {
+  known = keep.known;
   each = λ k n e. ⊎_elim
       (λ (h : recalled old k ≡ Some n). keep.each k n h)
       (λ (h : (k ≡ call) × (n ≡ r.0)). subst (λ (c : Call). IsSubstituted w writes c.first (map_id c.second) (map_id n)) (sym h.0) (subst (λ m. IsSubstituted w writes call.first (map_id call.second) (map_id m)) (sym h.1) is))
       (learns k n e);
 }
 
-pub keep_substituted_none : (w : World) (writes : List Write) (memo : Memo) → ((k : Call) → recalled memo k ≡ None) → KeepSubstituted w writes memo
-keep_substituted_none w writes memo none = record { each = λ k r e. absurd (let f : None ≡ Some r = sym (none k) ∙ e in cc) }
+pub keep_substituted_none : (w : World) (writes : List Write) (memo : Memo) → AreWrites w.store writes → ((k : Call) → recalled memo k ≡ None) → KeepSubstituted w writes memo
+keep_substituted_none w writes memo are none = record { known = are; each = λ k r e. absurd (let f : None ≡ Some r = sym (none k) ∙ e in cc) }
 
 -- ---- one write more
 pub cofactor_later : (u v w : World) → Extends u v → Extends v w → (map r : MapId) (b d : ℕ) → IsKnown u.maps map → IsMap v.maps r (λ x. value u.maps map (with_bit x b d)) → (x : ℕ) → value w.maps r x ≡ value w.maps map (with_bit x b d)

@@ -137,6 +137,7 @@ pub record IsSubstituted (w : World) (writes : List Write) (left : ℕ) (map r :
   pub has : HasNodes w r
   pub values : (x : ℕ) → value w.maps r x ≡ value w.maps map (onto w.store (take left writes) x x)
 
--- each remembered number is that of such a map
+-- the writes are of the world, and each remembered number is that of such a map
 pub record KeepSubstituted (w : World) (writes : List Write) (memo : Memo) : Type 0 where
+  pub known : AreWrites w.store writes
   pub each : (k : Call) (r : ℕ) → recalled memo k ≡ Some r → IsSubstituted w writes k.first (map_id k.second) (map_id r)

@@ -19,11 +19,9 @@ use occ_base::{Memory, Name};
 use occ_dd::SetId;
 use occ_diagram::{Call, Memo};
 use occ_mdd::MapId;
-use occ_node::World;
-use occ_norm_frame::{Frame, changed, digits, has_bit, is_free, is_full, turned_on};
-use occ_norm_maps::{choose, cofactor, flip, shifted, stop};
+use occ_norm_frame::{Frame, digits, has_bit, is_full, turned_on};
+use occ_norm_maps::Normaliser;
 use occ_syntax::Expr;
-use std::alloc::Global;
 
 /// A bit that is assigned, with the set of the states in which it becomes 1.
 #[derive(Clone, Copy)]
@@ -50,7 +48,6 @@ struct Parts {
 // Writes that are made all at once, and the map that stands outside each part.
 #[derive(Drop)]
 struct Exchange<'a> {
-    alloc: Global,
     keep: u64,
     writes: &'a [Write],
     other: MapId,
@@ -75,8 +72,7 @@ fn add_digits(sets: &[SetId], first: u32, writes: &mut Vec<Write>) -> Result<(),
 
 /// The bits that an assignment writes.
 pub fn writes_of(
-    alloc: Global,
-    world: &mut World,
+    world: &mut Normaliser,
     frame: &Frame,
     vars: &[Name],
     values: &[Expr],
@@ -88,9 +84,9 @@ pub fn writes_of(
     ensures assigned { IfOk result (λ r. AreAssigned world.new.store frame.now.layout
         (numbers vars.now) (exps values.now) r.items) }
 {
-    let mut writes = Vec::new(alloc);
+    let mut writes = Vec::new(world.alloc());
     for place in 0..vars.len() {
-        let word = digits(alloc, world, frame, &values[place])?;
+        let word = digits(world.alloc(), world, frame, &values[place])?;
         let (_, first) = frame.slot(vars[place]);
         add_digits(word.bits(), first, &mut writes)?;
     }
@@ -99,14 +95,13 @@ pub fn writes_of(
 
 // The map whose value at a state is this one's at the state that the first writes, so many, make of it.
 fn substituted(
-    world: &mut World,
+    world: &mut Normaliser,
     writes: &[Write],
     left: usize,
     map: MapId,
     memo: &mut Memo,
 ) -> Result<MapId, Memory>
     requires left { left ≤ length writes.now }
-    requires writes { AreWrites world.old.store writes.now }
     requires map { HasNodes world.old map }
     requires memo { KeepSubstituted world.old writes.now memo.old }
     ensures extends { Extends world.old world.new }
@@ -126,23 +121,17 @@ fn substituted(
     }
     let place = left - 1;
     let write = writes[place];
-    let zero = cofactor(world, map, write.bit, false)?;
-    let one = cofactor(world, map, write.bit, true)?;
+    let zero = world.cofactor(map, write.bit, false)?;
+    let one = world.cofactor(map, write.bit, true)?;
     let low = substituted(world, writes, place, zero, memo)?;
     let high = substituted(world, writes, place, one, memo)?;
-    let made = choose(world, write.set, high, low)?;
+    let made = world.choose(write.set, high, low)?;
     memo.insert(call, made.0)?;
     Ok(made)
 }
 
 // The map of a write and then what another map has, as to final states.
-fn written(
-    alloc: Global,
-    world: &mut World,
-    keep: u64,
-    write: Write,
-    map: MapId,
-) -> Result<MapId, Memory>
+fn written(world: &mut Normaliser, keep: u64, write: Write, map: MapId) -> Result<MapId, Memory>
     requires write { IsWrite world.old.store write }
     requires map { HasNodes world.old map }
     ensures extends { Extends world.old world.new }
@@ -152,18 +141,18 @@ fn written(
     if !has_bit(keep, write.bit) {
         return Ok(map);
     }
-    let changed = changed(world, write.set, write.bit)?;
-    turned_on(alloc, world, changed, write.bit, map)
+    let changed = world.changed(write.set, write.bit)?;
+    turned_on(world, changed, write.bit, map)
 }
 
 // Whether a set has the same states whatever the bits below a bit are.
-fn is_above(world: &mut World, set: SetId, bit: u32) -> Result<bool, Memory>
+fn is_above(world: &mut Normaliser, set: SetId, bit: u32) -> Result<bool, Memory>
     requires set { IsSetKnown world.old.store set }
     requires bit { bit ≤ 64 }
     ensures { Extends world.old world.new }
 {
     for below in 0..bit {
-        let free = is_free(world, set, below)?;
+        let free = world.is_free(set, below)?;
         if !free {
             return Ok(false);
         }
@@ -173,19 +162,19 @@ fn is_above(world: &mut World, set: SetId, bit: u32) -> Result<bool, Memory>
 
 // Whether what a write changes doesn't depend on the bits of some writes, nor on any bit below its own: parting a map by it
 // is quick then.
-fn is_apart(world: &mut World, write: Write, others: &[Write]) -> Result<bool, Memory>
+fn is_apart(world: &mut Normaliser, write: Write, others: &[Write]) -> Result<bool, Memory>
     requires write { IsWrite world.old.store write }
     requires others { AreWrites world.old.store others.now }
     ensures extends { Extends world.old world.new }
     ensures free { IfOk result (λ answer. answer ≡ true → IsFree world.old.store write others.now) }
 {
-    let set = changed(world, write.set, write.bit)?;
+    let set = world.changed(write.set, write.bit)?;
     let above = is_above(world, set, write.bit)?;
     if !above {
         return Ok(false);
     }
     for place in 0..others.len() {
-        let free = is_free(world, set, others[place].bit)?;
+        let free = world.is_free(set, others[place].bit)?;
         if !free {
             return Ok(false);
         }
@@ -194,7 +183,7 @@ fn is_apart(world: &mut World, write: Write, others: &[Write]) -> Result<bool, M
 }
 
 // Whether what each write changes doesn't depend on the bits of those before it.
-fn are_apart(world: &mut World, writes: &[Write]) -> Result<bool, Memory>
+fn are_apart(world: &mut Normaliser, writes: &[Write]) -> Result<bool, Memory>
     requires writes { AreWrites world.old.store writes.now }
     ensures extends { Extends world.old world.new }
     ensures free { IfOk result (λ answer. answer ≡ true → AreFree world.old.store writes.now (length writes.now)) }
@@ -209,7 +198,7 @@ fn are_apart(world: &mut World, writes: &[Write]) -> Result<bool, Memory>
 }
 
 // Whether writes can be made all at once, and the map has so many nodes that this takes less time.
-fn are_joint(world: &mut World, writes: &[Write], map: MapId) -> Result<bool, Memory>
+fn are_joint(world: &mut Normaliser, writes: &[Write], map: MapId) -> Result<bool, Memory>
     requires writes { AreWrites world.old.store writes.now }
     requires map { HasNodes world.old map }
     ensures extends { Extends world.old world.new }
@@ -226,17 +215,17 @@ fn are_joint(world: &mut World, writes: &[Write], map: MapId) -> Result<bool, Me
 }
 
 // The parts of a map by what a write changes, each with the other map elsewhere.
-fn parted(world: &mut World, write: Write, map: MapId, other: MapId) -> Result<Parts, Memory>
+fn parted(world: &mut Normaliser, write: Write, map: MapId, other: MapId) -> Result<Parts, Memory>
     requires write { IsWrite world.old.store write }
     requires map { HasNodes world.old map }
     requires other { HasNodes world.old other }
     ensures extends { Extends world.old world.new }
     ensures parts { IfOk result (AreParts world.new write map other) }
 {
-    let turns = changed(world, write.set, write.bit)?;
-    let there = flip(world, map, write.bit)?;
-    let on = choose(world, turns, there, other)?;
-    let off = choose(world, turns, other, map)?;
+    let turns = world.changed(write.set, write.bit)?;
+    let there = world.flip(map, write.bit)?;
+    let on = world.choose(turns, there, other)?;
+    let off = world.choose(turns, other, map)?;
     Ok(Parts { turns, on, off })
 }
 
@@ -244,7 +233,13 @@ impl Exchange<'_> {
     // The map of the first writes, so many, and then what a map has, where some more bits of final states are turned. What each
     // write changes doesn't depend on the bits of those before it. So the states are parted by what is changed, and in each part
     // those bits of the states are exchanged and all nodes turned once.
-    fn map(&self, world: &mut World, left: usize, change: u64, map: MapId) -> Result<MapId, Memory>
+    fn map(
+        &self,
+        world: &mut Normaliser,
+        left: usize,
+        change: u64,
+        map: MapId,
+    ) -> Result<MapId, Memory>
         requires left { left ≤ length self.now.writes.now }
         requires exchange { CanExchange world.old self.now.writes.now self.now.other }
         requires map { HasNodes world.old map }
@@ -253,7 +248,7 @@ impl Exchange<'_> {
         ensures exchanged { IfOk result (IsExchanged world.new self.now.writes.now self.now.keep left change map) }
     {
         if left == 0 {
-            return shifted(self.alloc, world, map, change);
+            return world.shifted(map, change);
         }
         let place = left - 1;
         let write = self.writes[place];
@@ -261,14 +256,13 @@ impl Exchange<'_> {
         let more = change ^ (self.keep & (1 << write.bit));
         let high = self.map(world, place, more, parts.on)?;
         let low = self.map(world, place, change, parts.off)?;
-        choose(world, parts.turns, high, low)
+        world.choose(parts.turns, high, low)
     }
 }
 
 /// The map where some writes are made, and then what another map has.
 pub fn applied(
-    alloc: Global,
-    world: &mut World,
+    world: &mut Normaliser,
     keep: u64,
     writes: &[Write],
     rest: MapId,
@@ -282,19 +276,18 @@ pub fn applied(
 {
     let joint = are_joint(world, writes, rest)?;
     if joint {
-        let other = stop(alloc, world)?;
+        let other = world.stop()?;
         let exchange = Exchange {
-            alloc,
             keep,
             writes,
             other,
         };
         return exchange.map(world, writes.len(), 0, rest);
     }
-    let mut memo = Memo::new(alloc);
+    let mut memo = Memo::new(world.alloc());
     let mut map = substituted(world, writes, writes.len(), rest, &mut memo)?;
     for write in writes {
-        let next = written(alloc, world, keep, *write, map)?;
+        let next = written(world, keep, *write, map)?;
         map = next;
     }
     Ok(map)
@@ -302,8 +295,7 @@ pub fn applied(
 
 /// The map of an assignment and then what another map has.
 pub fn assigned(
-    alloc: Global,
-    world: &mut World,
+    world: &mut Normaliser,
     frame: &Frame,
     assignment: &Assignment<'_>,
     rest: MapId,
@@ -317,6 +309,6 @@ pub fn assigned(
         → IsAfter world.new frame.now.layout frame.now.keep frame.now.closed.items Γ
         (assign (numbers assignment.now.vars.now) (exps assignment.now.values.now)) rest r) }
 {
-    let writes = writes_of(alloc, world, frame, assignment.vars, assignment.values)?;
-    applied(alloc, world, frame.keep, &writes, rest)
+    let writes = writes_of(world, frame, assignment.vars, assignment.values)?;
+    applied(world, frame.keep, &writes, rest)
 }

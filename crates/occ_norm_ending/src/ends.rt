@@ -5,10 +5,8 @@ ghost use Rattle.occ_norm_maps.specs.Maps.{Extends};
 
 use occ_base::Memory;
 use occ_mdd::MapId;
-use occ_node::World;
 use occ_norm_frame::rebased;
-use occ_norm_maps::skip;
-use std::alloc::Global;
+use occ_norm_maps::Normaliser;
 
 /// Some bits without others.
 pub fn except(bits: u64, others: u64) -> u64
@@ -19,13 +17,13 @@ pub fn except(bits: u64, others: u64) -> u64
 
 /// The map whose node at every state has ended. Of the bits of `all`, its ends have those of `keep` as changes, so 0, and the
 /// others as they are in the state.
-pub fn ending(alloc: Global, world: &mut World, all: u64, keep: u64) -> Result<MapId, Memory>
+pub fn ending(world: &mut Normaliser, all: u64, keep: u64) -> Result<MapId, Memory>
     ensures extends { Extends world.old world.new }
     ensures nodes { IfOk result (HasNodes world.new) }
     ensures ending { IfOk result (IsEnding world.new all keep) }
 {
-    let ended = skip(alloc, world, all)?;
+    let ended = world.skip(all)?;
     let values = except(all, keep);
-    let ending = rebased(alloc, world, values, ended)?;
+    let ending = rebased(world, values, ended)?;
     Ok(ending)
 }

@@ -6,23 +6,13 @@ ghost use Rattle.occ_norm_maps.specs.Maps.{Extends};
 ghost use Rattle.occ_norm_frame.specs.Changes.{IsChanged, IsFreed, IsSupport};
 
 use crate::frame::has_bit;
-use crate::nodes::node_count;
-use crate::sets::bit_set;
 use occ_base::Memory;
 use occ_dd::SetId;
 use occ_mdd::MapId;
-use occ_node::World;
-use occ_norm_maps::{choose, cofactor, depends, shifted, united};
-use std::alloc::Global;
+use occ_norm_maps::Normaliser;
 
 /// The map where, at the states of the set, a bit of all final states is turned.
-pub fn turned_on(
-    alloc: Global,
-    world: &mut World,
-    set: SetId,
-    bit: u32,
-    map: MapId,
-) -> Result<MapId, Memory>
+pub fn turned_on(world: &mut Normaliser, set: SetId, bit: u32, map: MapId) -> Result<MapId, Memory>
     requires set { IsSetKnown world.old.store set }
     requires bit { bit < 64 }
     requires map { HasNodes world.old map }
@@ -30,18 +20,12 @@ pub fn turned_on(
     ensures nodes { IfOk result (HasNodes world.new) }
     ensures changed { IfOk result (IsChanged world.new (λ x. if has world.old.store set x then 2 ^ bit else 0) map) }
 {
-    let turned = shifted(alloc, world, map, 1 << bit)?;
-    choose(world, set, turned, map)
+    let turned = world.shifted(map, 1 << bit)?;
+    world.choose(set, turned, map)
 }
 
 // The same where the bit is 1, if it is one of some bits.
-fn rebased_at(
-    alloc: Global,
-    world: &mut World,
-    bits: u64,
-    bit: u32,
-    map: MapId,
-) -> Result<MapId, Memory>
+fn rebased_at(world: &mut Normaliser, bits: u64, bit: u32, map: MapId) -> Result<MapId, Memory>
     requires bit { bit < 64 }
     requires map { HasNodes world.old map }
     ensures extends { Extends world.old world.new }
@@ -51,8 +35,8 @@ fn rebased_at(
     if !has_bit(bits, bit) {
         return Ok(map);
     }
-    let set = bit_set(world, bit)?;
-    turned_on(alloc, world, set, bit, map)
+    let set = world.bit(bit)?;
+    turned_on(world, set, bit, map)
 }
 
 // Those of some bits that don't stand below a bit.
@@ -64,13 +48,13 @@ fn not_below(bits: u64, bit: u32) -> u64
 }
 
 /// One more than the highest bit on which a map depends, or 0 where it depends on none.
-pub fn depth(world: &mut World, map: MapId) -> Result<u32, Memory>
+pub fn depth(world: &mut Normaliser, map: MapId) -> Result<u32, Memory>
     requires { IsKnown world.old.maps map }
     ensures { Extends world.old world.new }
 {
     for place in 0..64 {
         let bit = 63 - place;
-        let matters = depends(world, map, bit)?;
+        let matters = world.depends(map, bit)?;
         if matters {
             return Ok(bit + 1);
         }
@@ -79,7 +63,7 @@ pub fn depth(world: &mut World, map: MapId) -> Result<u32, Memory>
 }
 
 /// Whether a map has a node of its own for each fourth assignment of its bits, or of so many bits.
-pub fn is_full(world: &mut World, bits: u32, map: MapId) -> Result<bool, Memory>
+pub fn is_full(world: &mut Normaliser, bits: u32, map: MapId) -> Result<bool, Memory>
     requires { IsKnown world.old.maps map }
     ensures { Extends world.old world.new }
 {
@@ -87,7 +71,7 @@ pub fn is_full(world: &mut World, bits: u32, map: MapId) -> Result<bool, Memory>
     if 24 < deep {
         return Ok(false);
     }
-    let nodes = node_count(world, map)?;
+    let nodes = world.node_count(map)?;
     Ok(nodes >> (deep - 2) > 0)
 }
 
@@ -95,7 +79,7 @@ pub fn is_full(world: &mut World, bits: u32, map: MapId) -> Result<bool, Memory>
 // itself: so where it has about as many nodes as there are states, or half as many and more with each bit. `before` is how
 // many it had before the last bit, and becomes how many it has.
 fn is_quicker_at_once(
-    world: &mut World,
+    world: &mut Normaliser,
     bits: u64,
     bit: u32,
     before: &mut usize,
@@ -113,7 +97,7 @@ fn is_quicker_at_once(
     if 24 < deep {
         return Ok(false);
     }
-    let nodes = node_count(world, map)?;
+    let nodes = world.node_count(map)?;
     let was = *before;
     *before = nodes;
     let grows = 0 < was && was / 2 <= nodes / 3;
@@ -124,7 +108,6 @@ fn is_quicker_at_once(
 // Turns in the final states of each state those of some bits that are 1 in the state.
 #[derive(Clone, Copy)]
 struct Turning {
-    alloc: Global,
     bits: u64,
 }
 
@@ -133,7 +116,7 @@ impl Turning {
     // each state's node is turned once, by all of them together.
     fn turned_by(
         &self,
-        world: &mut World,
+        world: &mut Normaliser,
         left: u32,
         change: u64,
         map: MapId,
@@ -146,25 +129,25 @@ impl Turning {
             (λ x. bit_xor change (bit_and x (bit_and self.now.bits (2 ^ left - 1)))) map) }
     {
         if left == 0 {
-            return shifted(self.alloc, world, map, change);
+            return world.shifted(map, change);
         }
         let bit = left - 1;
         if !has_bit(self.bits, bit) {
             return self.turned_by(world, bit, change, map);
         }
-        let zero = cofactor(world, map, bit, false)?;
-        let one = cofactor(world, map, bit, true)?;
+        let zero = world.cofactor(map, bit, false)?;
+        let one = world.cofactor(map, bit, true)?;
         let low = self.turned_by(world, bit, change, zero)?;
         let high = self.turned_by(world, bit, change ^ (1 << bit), one)?;
-        let set = bit_set(world, bit)?;
-        choose(world, set, high, low)
+        let set = world.bit(bit)?;
+        world.choose(set, high, low)
     }
 }
 
 /// The map where each of some bits is turned in all final states of the states in which it is 1: what was a change of these
 /// bits is then their final value, and what was their final value a change.
 // Bit by bit while the map is small, since many states can have one node then; each state by all that are left once it is large.
-pub fn rebased(alloc: Global, world: &mut World, bits: u64, map: MapId) -> Result<MapId, Memory>
+pub fn rebased(world: &mut Normaliser, bits: u64, map: MapId) -> Result<MapId, Memory>
     requires { HasNodes world.old map }
     ensures extends { Extends world.old world.new }
     ensures nodes { IfOk result (HasNodes world.new) }
@@ -176,40 +159,34 @@ pub fn rebased(alloc: Global, world: &mut World, bits: u64, map: MapId) -> Resul
         let rest = not_below(bits, bit);
         let together = is_quicker_at_once(world, rest, bit, &mut before, rebased)?;
         if together {
-            let turning = Turning { alloc, bits: rest };
+            let turning = Turning { bits: rest };
             return turning.turned_by(world, 64, 0, rebased);
         }
-        let next = rebased_at(alloc, world, bits, bit, rebased)?;
+        let next = rebased_at(world, bits, bit, rebased)?;
         rebased = next;
     }
     Ok(rebased)
 }
 
 // The map in which a bit has any value.
-fn freed_at(alloc: Global, world: &mut World, bit: u32, map: MapId) -> Result<MapId, Memory>
+fn freed_at(world: &mut Normaliser, bit: u32, map: MapId) -> Result<MapId, Memory>
     requires bit { bit < 64 }
     requires map { HasNodes world.old map }
     ensures extends { Extends world.old world.new }
     ensures nodes { IfOk result (HasNodes world.new) }
     ensures freed { IfOk result (IsFreed world.new bit (bit + 1) map) }
 {
-    let matters = depends(world, map, bit)?;
+    let matters = world.depends(map, bit)?;
     if !matters {
         return Ok(map);
     }
-    let zero = cofactor(world, map, bit, false)?;
-    let one = cofactor(world, map, bit, true)?;
-    united(alloc, world, zero, one)
+    let zero = world.cofactor(map, bit, false)?;
+    let one = world.cofactor(map, bit, true)?;
+    world.united(zero, one)
 }
 
 /// The map in which the bits from `first` on, up to the bit `end`, have any values.
-pub fn freed(
-    alloc: Global,
-    world: &mut World,
-    first: u32,
-    end: u32,
-    map: MapId,
-) -> Result<MapId, Memory>
+pub fn freed(world: &mut Normaliser, first: u32, end: u32, map: MapId) -> Result<MapId, Memory>
     requires order { first ≤ end }
     requires end { end ≤ 24 }
     requires map { HasNodes world.old map }
@@ -219,14 +196,14 @@ pub fn freed(
 {
     let mut freed = map;
     for bit in first..end {
-        let next = freed_at(alloc, world, bit, freed)?;
+        let next = freed_at(world, bit, freed)?;
         freed = next;
     }
     Ok(freed)
 }
 
 /// Those of the lowest bits, so many, on which a map depends.
-pub fn support(world: &mut World, count: u32, map: MapId) -> Result<u64, Memory>
+pub fn support(world: &mut Normaliser, count: u32, map: MapId) -> Result<u64, Memory>
     requires count { count ≤ 24 }
     requires map { HasNodes world.old map }
     ensures extends { Extends world.old world.new }
@@ -234,7 +211,7 @@ pub fn support(world: &mut World, count: u32, map: MapId) -> Result<u64, Memory>
 {
     let mut bits: u64 = 0;
     for bit in 0..count {
-        let matters = depends(world, map, bit)?;
+        let matters = world.depends(map, bit)?;
         bits |= u64::from(matters) << bit;
     }
     Ok(bits)

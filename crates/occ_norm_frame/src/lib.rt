@@ -9,5 +9,5 @@ mod sets;
 
 pub use changes::{depth, freed, is_full, rebased, support, turned_on};
 pub use frame::{Frame, bits_from, has_bit, lowest, with_bit};
-pub use nodes::{node_at, node_count};
-pub use sets::{bit_set, changed, digits, holds, is_free, within, without};
+pub use nodes::node_at;
+pub use sets::{digits, holds};

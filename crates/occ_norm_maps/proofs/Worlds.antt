@@ -1,5 +1,5 @@
 -- Worlds whose maps are taken out, put back or added to, and what is done to their nodes.
-use Rattle.std.proofs.Common.{◌≡◌, ◌<◌, ◌≤◌, ◌^◌, ◌==◌, ◌++◌, ℕ, Bool, true, false, not, cond, ◌&&◌, ◌+◌, zero, suc, List, [], ◌∷◌, Option, Some, None, ⊎_elim, length, refl, sym, ap, ◌∙◌, subst, arith, lit<}
+use Rattle.std.proofs.Common.{◌≡◌, ◌<◌, ◌≤◌, ◌^◌, ◌==◌, ◌++◌, ℕ, Bool, true, false, not, cond, ◌&&◌, ◌||◌, ◌+◌, zero, suc, List, [], ◌∷◌, Option, Some, None, ⊎_elim, length, refl, sym, ap, ◌∙◌, subst, arith, lit<}
 use Rattle.std.proofs.lemmas.Bool.{eqb-true, eqb-false, false≢true, true≢false}
 use Rattle.std.specs.Int.{bit_at}
 use Rattle.std.specs.Int.Bits.{xor_zero_r}
@@ -23,26 +23,28 @@ use Rattle.occ_node.specs.Offers.{are_below, next_in, offer_cmp}
 use Rattle.occ_node.specs.Rows.{goes_on}
 use Rattle.occ_node.specs.World.{Grows, IsFit, IsMade, Leads, IsNode, nodes_of, row_of, fails, ends, row_fails}
 use Rattle.occ_node.specs.declared.node.NodeId.{NodeId}
+use Rattle.occ_node.specs.declared.row.Row.{Row}
 use Rattle.occ_node.specs.declared.world.World.{World}
-use Rattle.occ_node.proofs.Behaviours.{alive_ends, ends_made, fails_made, grows_leads, grows_refl, grows_trans, within_offers}
+use Rattle.occ_node.proofs.Behaviours.{alive_ends, ends_made, fails_made, grows_leads, grows_refl, grows_trans, leads_store, leads_trans, node-leads, within_offers}
 use Rattle.occ_node.proofs.Table.{Holds, holds_refl, row-holds, fails-holds, ends-holds}
-use Rattle.occ_choice.specs.Branches.{AreBranches, IsAlt, IsBeside}
+use Rattle.occ_choice.specs.Branches.{AreBranches, IsAlt, IsBeside, waits}
 use Rattle.occ_choice.specs.Joined.{IsSound}
 use Rattle.occ_choice.specs.Union.{AreUnions, IsAdded}
 use Rattle.occ_choice.specs.declared.branch.Branch.{Branch}
 use Rattle.occ_choice.proofs.Choosing.{beside_added, beside_sound}
-use Rattle.occ_choice.proofs.Uniting.{sound_row}
-use Rattle.occ_follow.specs.Sequence.{HasNodes}
-use Rattle.occ_scope.specs.Tables.{KeepShifted}
+use Rattle.occ_choice.proofs.Uniting.{sound_row, unions-lead}
+use Rattle.occ_follow.specs.Sequence.{HasNodes, IsFollowed}
+use Rattle.occ_follow.proofs.Continuing.{followed_from, has_later, sequence_later, sequence_now}
 use Rattle.occ_choice.specs.declared.unions.Unions.{Unions}
 use Rattle.occ_scope.proofs.Keeping.{shifts-lead}
+use Rattle.occ_weave.specs.declared.manner.Manner.{Manner}
 use Rattle.occ_weave.proofs.Keeping.{remembers-lead}
 use Rattle.occ_norm_maps.specs.Lifted.{Finished, IsEither, IsFinished, IsLifted, IsMerged, IsTurned, IsWovenOf, OnOne, OnTwo, branches_of}
 use Rattle.occ_norm_maps.specs.Lifting.{Accepts, Goes, IsRight, Relates}
 use Rattle.occ_norm_maps.specs.Maps.{Extends, IsSkip, Lifts, MayHaveNodes, are_zero, is_clear}
 use Rattle.occ_norm_maps.specs.declared.lifting.Lifting.{Lifting}
 use Rattle.occ_norm_maps.specs.declared.step.Step.{Step}
-use Rattle.occ_norm_maps.specs.Growth.{alt_now, beside_now, both_branches, node_grow, lifted_grow, rows_grow, some_grow}
+use Rattle.occ_norm_maps.specs.Growth.{all_ends, all_fails, alt_now, beside_now, both_branches, node_grow, lifted_grow, rows_grow, some_grow}
 
 pub map-keeps : (v w : World) → Keeps v.maps w.maps → (m : MapId) → IsKnown v.maps m → IsKnown w.maps m
 map-keeps v w k m h = let more : maps_of v.maps ≤ maps_of w.maps = k.more in omega arith
@@ -181,24 +183,24 @@ pub goes_world : (f : Lifting) (w : World) (unions : Unions) → Leads f.weaver.
 goes_world f w unions leads are = record {
   leads = leads;
   step = refl;
-  right = λ right. remembers-lead _ _ f.weaver w unions leads (are right.unions) right;
-  shifts = shifts-lead f.weaver.world w f.shifts leads;
+  manner = refl;
+  right = λ right. (remembers-lead _ _ f.weaver w unions leads (are right.0.unions) right.0, shifts-lead f.weaver.world w f.shifts leads right.1);
 }
 
 -- ---- a world whose maps are taken out and put back
-pub labels : {e : _} {h : _} (v : World) (m : Maps NodeId e h) (f : Lifting) (a : MapId) → ((x : ℕ) → value m a x ≡ value v.maps a x) → nodes_of v ≤ nodes_of f.weaver.world → IsRight f → KeepShifted f.weaver.world f.shifts
+pub labels : {e : _} {h : _} (v : World) (m : Maps NodeId e h) (f : Lifting) (a : MapId) → ((x : ℕ) → value m a x ≡ value v.maps a x) → nodes_of v ≤ nodes_of f.weaver.world → IsRight f
     → MayHaveNodes v a → (x : ℕ) → x < 2 ^ 64 → IfSome (value m a x) (Accepts f)
-labels v m f a same more right shifts has x h = subst (λ o. IfSome o (Accepts f)) (sym (same x)) (by (value v.maps a x) (has.nodes x h))
+labels v m f a same more right has x h = subst (λ o. IfSome o (Accepts f)) (sym (same x)) (by (value v.maps a x) (has.nodes x h))
   where
     by : (o : Option NodeId) → IfSome o (IsNode v) → IfSome o (Accepts f)
     by None k = tt
-    by (Some n) k = record { node = omega (arith, more, k); right = right; shifts = shifts }
+    by (Some n) k = record { node = omega (arith, more, k); right = right }
 
 pub nodes_rows : (v w : World) → w.rows ≡ v.rows → nodes_of v ≤ nodes_of w
 unfolding nodes_of
 nodes_rows v w rows = let e : length w.rows.keys ≡ length v.rows.keys = ap (λ r. length r.keys) rows in omega arith
 
-store_keeps : (s t : Store) → t ≡ s → KeepsSets s t
+pub store_keeps : (s t : Store) → t ≡ s → KeepsSets s t
 store_keeps s t e = subst (λ r. KeepsSets s r) (sym e) (keeps_refl s)
 
 pub put_back : (v u w z : World) → u.store ≡ v.store → u.rows ≡ v.rows → Leads u w → z.store ≡ w.store → z.rows ≡ w.rows → Keeps v.maps z.maps → Extends v z
@@ -208,14 +210,15 @@ put_back v u w z s r k t q maps = record {
 }
 
 pub lifted_back : (f g : Lifting) → Goes f g → (v z : World) → z.store ≡ g.weaver.world.store → z.rows ≡ g.weaver.world.rows → Keeps v.maps z.maps
-    → (a b r : MapId) → IsKnown v.maps a → IsKnown v.maps b → IsRelated v.maps z.maps a b r (Relates g) → Lifts z a b r (IsLifted f.step z)
+    → (a b r : MapId) → IsKnown v.maps a → IsKnown v.maps b → IsRelated v.maps z.maps a b r (Relates g) → Lifts z a b r (IsLifted f.manner f.step z)
 lifted_back f g k v z s q keeps a b r ha hb is = record {
   known = is.known;
   related = λ x h.
-      subst (λ o. IsLifted f.step z o (value z.maps b x) (value z.maps r x)) (sym (keeps.same a x ha))
-      (subst (λ o. IsLifted f.step z (value v.maps a x) o (value z.maps r x)) (sym (keeps.same b x hb))
-      (lifted_grow g.weaver.world z (grows_rows g.weaver.world z (store_keeps g.weaver.world.store z.store s) q) f.step (value v.maps a x) (value v.maps b x) (value z.maps r x)
-      (subst (λ (t : Step). IsLifted t g.weaver.world (value v.maps a x) (value v.maps b x) (value z.maps r x)) k.step (is.related x))));
+      subst (λ o. IsLifted f.manner f.step z o (value z.maps b x) (value z.maps r x)) (sym (keeps.same a x ha))
+      (subst (λ o. IsLifted f.manner f.step z (value v.maps a x) o (value z.maps r x)) (sym (keeps.same b x hb))
+      (lifted_grow g.weaver.world z (grows_rows g.weaver.world z (store_keeps g.weaver.world.store z.store s) q) f.manner f.step (value v.maps a x) (value v.maps b x) (value z.maps r x)
+      (subst (λ (m : Manner). IsLifted m f.step g.weaver.world (value v.maps a x) (value v.maps b x) (value z.maps r x)) k.manner
+      (subst (λ (t : Step). IsLifted g.manner t g.weaver.world (value v.maps a x) (value v.maps b x) (value z.maps r x)) k.step (is.related x)))));
 }
 
 -- nodes side by side, by the bits and the channels of a manner
@@ -368,3 +371,72 @@ skip_is v w z k g n ended accepts offers keep is nothing none made r map = recor
     silent : (t : List Event) (X : Event → Bool) → row_fails w (record { ends = ended; accepts = accepts; offers = offers }) t X ≡ false
     silent [] X = nothing X
     silent (e ∷ t) X = ap (λ (os : List (Event × NodeId)). goes_on (next_in os e) (λ a. fails w a t X)) none
+
+-- ---- nodes and sets apart from the maps, which another world gives
+module _ (u v w : World) where
+  pub leads_with : Leads v w → Leads (record v { maps = u.maps }) (record w { maps = u.maps })
+  unfolding nodes_of row_of fails ends
+  leads_with k = record { stored = k.stored; more = k.more; kept = k.kept; same_fails = k.same_fails; same_ends = k.same_ends; maps = refl }
+
+module _ (u w : World) where
+  pub fit_without : (row : Row) → IsFit (record w { maps = u.maps }) row → IsFit w row
+  unfolding nodes_of
+  fit_without row is = record { known = is.known; increasing = is.increasing; there = is.there; offered = is.offered; alive = is.alive }
+
+  pub made_with : (r : NodeId) (row : Row) → IsMade w r row → IsMade (record w { maps = u.maps }) r row
+  unfolding nodes_of row_of
+  made_with r row is = record { known = is.known; row = is.row }
+
+  pub branches_without : (branches : List Branch) → AreBranches (record w { maps = u.maps }) branches → AreBranches w branches
+  unfolding nodes_of
+  branches_without branches are = are
+
+pub alt_with : (u v w : World) (branches : List Branch) (r : NodeId) → AreBranches (record v { maps = u.maps }) branches → IsAlt v w branches r → IsAlt (record v { maps = u.maps }) (record w { maps = u.maps }) branches r
+unfolding nodes_of fails ends
+alt_with u v w branches r known is =
+    let x = record v { maps = u.maps } in
+    let same = grows_rows x v (keeps_refl v.store) refl in
+    record {
+      known = is.known;
+      alt_fails = λ t X. is.alt_fails t X ∙ ap (λ c. waits branches t X || c) (all_fails x v same branches known t X);
+      alt_ends = λ t x. is.alt_ends t x ∙ all_ends (record v { maps = u.maps }) v same branches known t x;
+    }
+
+-- the tables of a world stay right as it grows
+pub right_lead : (f : Lifting) (w : World) → Leads f.weaver.world w → IsRight f → IsRight (record f { weaver = record f.weaver { world = w } })
+right_lead f w leads right = (remembers-lead _ _ f.weaver w f.weaver.unions leads (unions-lead f.weaver.world w f.weaver.unions leads right.0.unions) right.0, shifts-lead f.weaver.world w f.shifts leads right.1)
+
+-- so as its sets alone grow
+pub right_sets : (f : Lifting) (w : World) → KeepsSets f.weaver.world.store w.store → w.rows ≡ f.weaver.world.rows → w.maps ≡ f.weaver.world.maps → IsRight f → IsRight (record f { weaver = record f.weaver { world = w } })
+right_sets f w keeps rows maps right = right_lead f w (leads_store f.weaver.world w keeps rows maps) right
+
+-- another name for the earlier world
+pub extends_at : (u v z : World) → u ≡ v → Extends u z → Extends v z
+extends_at u v z e k = subst (λ w. Extends w z) e k
+
+-- so where its sets alone grow
+pub extends_sets : (u v z : World) → u ≡ v → KeepsSets u.store z.store → z.rows ≡ u.rows → z.maps ≡ u.maps → Extends v z
+extends_sets u v z e keeps rows maps = extends_at u v z e (extends_leads u z (leads_store u z keeps rows maps))
+
+pub leads_at : (u v z : World) → u ≡ v → Leads u z → Leads v z
+leads_at u v z e k = subst (λ w. Leads w z) e k
+
+-- ---- worlds of the same nodes and sets
+pub node_rows : (v w : World) → w.rows ≡ v.rows → (a : NodeId) → IsNode v a → IsNode w a
+node_rows v w rows a h = let more : nodes_of v ≤ nodes_of w = nodes_rows v w rows in omega (arith, more, h)
+
+leads_grows : (v w : World) → Grows v w → w.maps ≡ v.maps → Leads v w
+leads_grows v w g maps = record { stored = g.stored; more = g.more; kept = g.kept; same_fails = g.same_fails; same_ends = g.same_ends; maps = maps }
+
+pub leads_same : (v w : World) → w.store ≡ v.store → w.rows ≡ v.rows → w.maps ≡ v.maps → Leads v w
+leads_same v w s r maps = leads_grows v w (grows_rows v w (store_keeps v.store w.store s) r) maps
+
+-- one after another, where the maps are put in before and taken out afterwards
+pub leads_around : (v x w z : World) → x.store ≡ v.store → x.rows ≡ v.rows → Leads x w → z.store ≡ w.store → z.rows ≡ w.rows → z.maps ≡ v.maps → Leads v z
+leads_around v x w z s r k t q maps =
+    leads_grows v z (grows_trans v x z (grows_rows v x (store_keeps v.store x.store s) r) (grows_trans x w z (grows_leads x w k) (grows_rows w z (store_keeps w.store z.store t) q))) maps
+
+pub followed_around : (v x w z : World) → Leads v x → Leads x w → Leads w z → (p : NodeId) (map : MapId) (r : NodeId) → IsNode v p → HasNodes v map → IsFollowed x w p map r → IsFollowed v z p map r
+followed_around v x w z there k back p map r h has is =
+    followed_from v z (leads_trans v w z (leads_trans v x w there k) back) map p r h has
+    (sequence_later w z back map p r (sequence_now x w k map p r (node-leads v x there p h) (has_later v x there map has) is))

@@ -20,6 +20,7 @@ use Rattle.occ_choice.specs.declared.branch.Branch.{Branch}
 use Rattle.occ_choice.specs.declared.branch.Branch.TheVariants.{Skip, Event as Comm}
 use Rattle.occ_choice.proofs.Choosing.{any_among}
 use Rattle.occ_weave.specs.Weave.{BothFail, first_ended, second_ended, neither_ended, HoldsEvents, IsEventSet, IsWoven, WovenEnds, WovenFails}
+use Rattle.occ_weave.specs.declared.manner.Manner.{Manner}
 use Rattle.occ_weave.proofs.Growth.{trans_iff, iff_of_same, and_iff}
 use Rattle.occ_norm_maps.specs.Lifted.{Finished, IsEither, IsFinished, IsLifted, IsMerged, IsPrefixed, IsTurned, IsWovenOf, OnOne, OnTwo, branches_of}
 use Rattle.occ_norm_maps.specs.declared.step.Step.{Step}
@@ -88,10 +89,10 @@ module _ (v w : World) (g : Grows v w) where
   branch_ends-grow (Comm f n) h [] x = refl
   branch_ends-grow (Comm f n) h (e ∷ t) x = ap (λ c. eq_by_cmp event_cmp e f && c) (g.same_ends n t x h)
 
-  all_fails : (branches : List Branch) → AreBranches v branches → (t : List Event) (X : Event → Bool) → list_any (branch_fails w t X) branches ≡ list_any (branch_fails v t X) branches
+  pub all_fails : (branches : List Branch) → AreBranches v branches → (t : List Event) (X : Event → Bool) → list_any (branch_fails w t X) branches ≡ list_any (branch_fails v t X) branches
   all_fails branches known t X = any_among (branch_fails w t X) (branch_fails v t X) branches (λ i d h. branch_fails-grow (get_or branches i d) (known i d h) t X)
 
-  all_ends : (branches : List Branch) → AreBranches v branches → (t : List Event) (x : ℕ) → list_any (branch_ends w t x) branches ≡ list_any (branch_ends v t x) branches
+  pub all_ends : (branches : List Branch) → AreBranches v branches → (t : List Event) (x : ℕ) → list_any (branch_ends w t x) branches ≡ list_any (branch_ends v t x) branches
   all_ends branches known t x = any_among (branch_ends w t x) (branch_ends v t x) branches (λ i d h. branch_ends-grow (get_or branches i d) (known i d h) t x)
 
   -- the ALT of branches of the earlier world is that of these branches in the later one
@@ -221,10 +222,10 @@ module _ (v w : World) (g : Grows v w) where
   finish_grow (Some p) (Some q) None is = is
   finish_grow (Some p) (Some q) (Some r) is = finished_grow p q r is
 
-  pub lifted_grow : (step : Step) (a b r : Option NodeId) → IsLifted step v a b r → IsLifted step w a b r
-  lifted_grow Unite a b r is = either_grow a b r is
-  lifted_grow (Shift change) a b r is = one_grow (IsTurned v change) (IsTurned w change) (turned_grow change) a r is
-  lifted_grow (Prefix event) a b r is = one_grow (IsPrefixed v event) (IsPrefixed w event) (prefixed_grow event) a r is
-  lifted_grow Merge a b r is = two_grow (IsMerged v) (IsMerged w) merged_grow a b r is
-  lifted_grow Finish a b r is = finish_grow a b r is
-  lifted_grow (Weave manner) a b r is = two_grow (IsWovenOf v manner.written manner.closed.items) (IsWovenOf w manner.written manner.closed.items) (woven_of_grow manner.written manner.closed.items) a b r is
+  pub lifted_grow : (manner : Manner) (step : Step) (a b r : Option NodeId) → IsLifted manner step v a b r → IsLifted manner step w a b r
+  lifted_grow manner Unite a b r is = either_grow a b r is
+  lifted_grow manner (Shift change) a b r is = one_grow (IsTurned v change) (IsTurned w change) (turned_grow change) a r is
+  lifted_grow manner (Prefix event) a b r is = one_grow (IsPrefixed v event) (IsPrefixed w event) (prefixed_grow event) a r is
+  lifted_grow manner Merge a b r is = two_grow (IsMerged v) (IsMerged w) merged_grow a b r is
+  lifted_grow manner Finish a b r is = finish_grow a b r is
+  lifted_grow manner Weave a b r is = two_grow (IsWovenOf v manner.written manner.closed.items) (IsWovenOf w manner.written manner.closed.items) (woven_of_grow manner.written manner.closed.items) a b r is

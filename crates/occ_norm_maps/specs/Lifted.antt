@@ -11,6 +11,7 @@ use Rattle.occ_choice.specs.declared.branch.Branch.{Branch}
 use Rattle.occ_choice.specs.declared.branch.Branch.TheVariants.{Event as Comm}
 use Rattle.occ_scope.specs.Results.{IsShifted}
 use Rattle.occ_weave.specs.Weave.{IsWoven}
+use Rattle.occ_weave.specs.declared.manner.Manner.{Manner}
 use Rattle.occ_norm_maps.specs.declared.step.Step.{Step}
 use Rattle.occ_norm_maps.specs.declared.step.Step.TheVariants.{Unite, Shift, Prefix, Merge, Finish, Weave}
 
@@ -75,11 +76,11 @@ Finished w (Some p) None r = r ≡ Some p
 Finished w (Some p) (Some q) None = ⊥
 Finished w (Some p) (Some q) (Some r) = IsFinished w p q r
 
--- what a step makes of two nodes
-abbrev pub IsLifted : Step → World → Option NodeId → Option NodeId → Option NodeId → Type 0
-IsLifted Unite w a b r = IsEither w a b r
-IsLifted (Shift change) w a b r = OnOne (IsTurned w change) a r
-IsLifted (Prefix event) w a b r = OnOne (IsPrefixed w event) a r
-IsLifted Merge w a b r = OnTwo (IsMerged w) a b r
-IsLifted Finish w a b r = Finished w a b r
-IsLifted (Weave manner) w a b r = OnTwo (IsWovenOf w manner.written manner.closed.items) a b r
+-- what a step makes of two nodes, in some manner
+abbrev pub IsLifted : Manner → Step → World → Option NodeId → Option NodeId → Option NodeId → Type 0
+IsLifted manner Unite w a b r = IsEither w a b r
+IsLifted manner (Shift change) w a b r = OnOne (IsTurned w change) a r
+IsLifted manner (Prefix event) w a b r = OnOne (IsPrefixed w event) a r
+IsLifted manner Merge w a b r = OnTwo (IsMerged w) a b r
+IsLifted manner Finish w a b r = Finished w a b r
+IsLifted manner Weave w a b r = OnTwo (IsWovenOf w manner.written manner.closed.items) a b r

@@ -5,11 +5,11 @@ mod bits;
 mod calls;
 mod lifting;
 mod nodes;
+mod normaliser;
 mod sequel;
+mod sets;
 mod simple;
 mod step;
 
-pub use bits::{choose, cofactor, constant, depends, flip};
-pub use calls::{finished, merged, prefixed, shifted, united, woven};
-pub use sequel::followed;
-pub use simple::{skip, stop};
+pub use lifting::Lifting;
+pub use normaliser::Normaliser;

@@ -4,21 +4,21 @@ ghost use Rattle.occ_node.specs.World.{IsNode};
 ghost use Rattle.occ_follow.specs.Sequence.{HasNodes};
 ghost use Rattle.occ_norm_maps.specs.Maps.{Extends, IsSequel};
 
-use crate::constant;
+use crate::Normaliser;
 use occ_base::Memory;
-use occ_follow::follow;
 use occ_mdd::MapId;
-use occ_node::{NodeId, World};
-use std::alloc::Global;
+use occ_node::NodeId;
 
-/// The map that has, at every state, the node that goes on as the map's node of a state wherever it ends in that.
-pub fn followed(alloc: Global, world: &mut World, node: NodeId, map: MapId) -> Result<MapId, Memory>
-    requires node { IsNode world.old node }
-    requires map { HasNodes world.old map }
-    ensures extends { Extends world.old world.new }
-    ensures sequel { IfOk result (IsSequel world.old world.new node map) }
-    ensures nodes { IfOk result (HasNodes world.new) }
-{
-    let next = follow(alloc, world, node, map)?;
-    constant(world, Some(next))
+impl Normaliser {
+    /// The map that has, at every state, the node that goes on as the map's node of a state wherever it ends in that.
+    pub fn followed(&mut self, node: NodeId, map: MapId) -> Result<MapId, Memory>
+        requires node { IsNode self.old node }
+        requires map { HasNodes self.old map }
+        ensures extends { Extends self.old self.new }
+        ensures sequel { IfOk result (IsSequel self.old self.new node map) }
+        ensures nodes { IfOk result (HasNodes self.new) }
+    {
+        let next = self.follow(node, map)?;
+        self.constant(Some(next))
+    }
 }

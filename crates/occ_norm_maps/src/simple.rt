@@ -3,14 +3,12 @@ ghost use Rattle.occ_dd.specs.Store.{IsKnown, IsSet, Keeps, has};
 ghost use Rattle.occ_follow.specs.Sequence.{HasNodes};
 ghost use Rattle.occ_norm_maps.specs.Maps.{Extends, IsSkip, IsStop, are_zero, is_clear};
 
-use crate::constant;
+use crate::Normaliser;
 use occ_accept::least;
 use occ_base::Memory;
-use occ_choice::alt;
 use occ_dd::{SetId, Store};
 use occ_mdd::MapId;
-use occ_node::{NodeId, Offers, Row, World};
-use std::alloc::Global;
+use occ_node::{Offers, Row};
 
 // Those of a set in which a bit is 0, if it is one of some bits.
 fn with_zero(store: &mut Store, set: SetId, bits: u64, bit: u32) -> Result<SetId, Memory>
@@ -27,8 +25,8 @@ fn with_zero(store: &mut Store, set: SetId, bits: u64, bit: u32) -> Result<SetId
     store.and(zero, set)
 }
 
-// The assignments in which all of some bits are 0.
-fn zeros(store: &mut Store, bits: u64) -> Result<SetId, Memory>
+/// The assignments in which all of some bits are 0.
+pub(crate) fn zeros(store: &mut Store, bits: u64) -> Result<SetId, Memory>
     ensures keeps { Keeps store.old store.new }
     ensures zeros { IfOk result (λ r. IsSet store.new r (are_zero 64 bits)) }
 {
@@ -40,28 +38,31 @@ fn zeros(store: &mut Store, bits: u64) -> Result<SetId, Memory>
     Ok(zeros)
 }
 
-/// The map whose node at every state has ended, in all assignments in which the bits of `keep` are 0.
-pub fn skip(alloc: Global, world: &mut World, keep: u64) -> Result<MapId, Memory>
-    ensures extends { Extends world.old world.new }
-    ensures skip { IfOk result (IsSkip world.new keep) }
-    ensures nodes { IfOk result (HasNodes world.new) }
-{
-    let ends = zeros(&mut world.store, keep)?;
-    let accepts = least(alloc, &[])?;
-    let node = world.make(Row {
-        ends,
-        accepts,
-        offers: Offers::new(alloc),
-    })?;
-    constant(world, Some(node))
-}
+impl Normaliser {
+    /// The map whose node at every state has ended, in all assignments in which the bits of `keep` are 0.
+    pub fn skip(&mut self, keep: u64) -> Result<MapId, Memory>
+        ensures extends { Extends self.old self.new }
+        ensures skip { IfOk result (IsSkip self.new keep) }
+        ensures nodes { IfOk result (HasNodes self.new) }
+    {
+        let alloc = self.alloc();
+        let ends = self.zeros(keep)?;
+        let accepts = least(alloc, &[])?;
+        let node = self.make(Row {
+            ends,
+            accepts,
+            offers: Offers::new(alloc),
+        })?;
+        self.constant(Some(node))
+    }
 
-/// The map whose node at every state is stable, offers nothing and never ends.
-pub fn stop(alloc: Global, world: &mut World) -> Result<MapId, Memory>
-    ensures extends { Extends world.old world.new }
-    ensures stop { IfOk result (IsStop world.new) }
-    ensures nodes { IfOk result (HasNodes world.new) }
-{
-    let node = alt(alloc, world, &[])?;
-    constant(world, Some(node))
+    /// The map whose node at every state is stable, offers nothing and never ends.
+    pub fn stop(&mut self) -> Result<MapId, Memory>
+        ensures extends { Extends self.old self.new }
+        ensures stop { IfOk result (IsStop self.new) }
+        ensures nodes { IfOk result (HasNodes self.new) }
+    {
+        let node = self.alt(&[])?;
+        self.constant(Some(node))
+    }
 }

@@ -1,8 +1,7 @@
 use occ_base::Event;
-use occ_weave::Manner;
 
 /// What is done to the nodes that two maps have at a state.
-#[derive(Debug, Drop)]
+#[derive(Clone, Copy, Debug)]
 pub enum Step {
     /// Both are there together.
     Unite,
@@ -15,5 +14,5 @@ pub enum Step {
     /// What the first offers is offered beside the second.
     Finish,
     /// The two are side by side.
-    Weave(Manner),
+    Weave,
 }

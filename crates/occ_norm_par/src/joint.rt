@@ -10,11 +10,9 @@ use crate::parallel::Sides;
 use occ_base::Memory;
 use occ_diagram::{Call, Memo};
 use occ_mdd::MapId;
-use occ_node::World;
 use occ_norm_ending::{ending, except};
-use occ_norm_frame::{Frame, bit_set, has_bit, node_at, rebased};
-use occ_norm_maps::{choose, cofactor, followed};
-use std::alloc::Global;
+use occ_norm_frame::{Frame, has_bit, node_at, rebased};
+use occ_norm_maps::Normaliser;
 
 // The bits of the states: those that the processes before write, and those on which what follows depends.
 #[derive(Clone, Copy)]
@@ -26,7 +24,7 @@ struct Joint {
 // What follows, where a bit of the states has a value before the processes: by their ends, which have the bits that they
 // write, and not this bit where they don't write it.
 fn next_at(
-    world: &mut World,
+    world: &mut Normaliser,
     joint: Joint,
     bit: u32,
     one: bool,
@@ -43,18 +41,18 @@ fn next_at(
     if has_bit(joint.written, bit) {
         return Ok(next);
     }
-    cofactor(world, next, bit, one)
+    world.cofactor(next, bit, one)
 }
 
 // The map of processes that have one node everywhere, and of what follows.
-fn ended_sequel(alloc: Global, world: &mut World, map: MapId, next: MapId) -> Result<MapId, Memory>
+fn ended_sequel(world: &mut Normaliser, map: MapId, next: MapId) -> Result<MapId, Memory>
     requires map { IsOver world.old 0 map }
     requires next { HasNodes world.old next }
     ensures extends { Extends world.old world.new }
     ensures joint { IfOk result (AreJoint world.new map next) }
 {
     let node = node_at(world, map, 0);
-    followed(alloc, world, node, next)
+    world.followed(node, next)
 }
 
 // A map of processes and one of what follows, where the lowest bits, so many, aren't told yet.
@@ -68,7 +66,6 @@ struct Stage {
 // What is known of maps of processes and of what follows them.
 #[derive(Drop)]
 struct Known {
-    alloc: Global,
     memo: Memo,
 }
 
@@ -77,7 +74,7 @@ impl Known {
     #[cycle(sequel)]
     fn half(
         &mut self,
-        world: &mut World,
+        world: &mut Normaliser,
         joint: Joint,
         stage: Stage,
         one: bool,
@@ -91,7 +88,7 @@ impl Known {
         ensures half { IfOk result (IsHalf world.new joint stage.left (digit one) stage.map stage.next) }
     {
         let bit = stage.left;
-        let map = cofactor(world, stage.map, bit, one)?;
+        let map = world.cofactor(stage.map, bit, one)?;
         let next = next_at(world, joint, bit, one, stage.next)?;
         let told = Stage {
             left: bit,
@@ -103,7 +100,12 @@ impl Known {
 
     // The same, whatever that bit is.
     #[cycle(sequel)]
-    fn halves(&mut self, world: &mut World, joint: Joint, stage: Stage) -> Result<MapId, Memory>
+    fn halves(
+        &mut self,
+        world: &mut Normaliser,
+        joint: Joint,
+        stage: Stage,
+    ) -> Result<MapId, Memory>
         requires left { stage.left < 24 }
         requires map { IsOver world.old (stage.left + 1) stage.map }
         requires next { HasNodes world.old stage.next }
@@ -114,13 +116,18 @@ impl Known {
     {
         let low = self.half(world, joint, stage, false)?;
         let high = self.half(world, joint, stage, true)?;
-        let set = bit_set(world, stage.left)?;
-        choose(world, set, high, low)
+        let set = world.bit(stage.left)?;
+        world.choose(set, high, low)
     }
 
     // The map of processes and what follows, as to the bits that are left: all others have their values.
     #[cycle(sequel)]
-    fn sequel(&mut self, world: &mut World, joint: Joint, stage: Stage) -> Result<MapId, Memory>
+    fn sequel(
+        &mut self,
+        world: &mut Normaliser,
+        joint: Joint,
+        stage: Stage,
+    ) -> Result<MapId, Memory>
         requires left { stage.left ≤ 24 }
         requires map { IsOver world.old stage.left stage.map }
         requires next { HasNodes world.old stage.next }
@@ -130,7 +137,7 @@ impl Known {
         ensures joint { IfOk result (IsJoint world.new joint stage.left stage.map stage.next) }
     {
         if stage.left == 0 {
-            return ended_sequel(self.alloc, world, stage.map, stage.next);
+            return ended_sequel(world, stage.map, stage.next);
         }
         let call = Call {
             first: stage.left as usize,
@@ -153,8 +160,7 @@ impl Known {
 
 // Whether what follows processes is that they have ended, and all of their changes that matter are values.
 fn is_ended(
-    alloc: Global,
-    world: &mut World,
+    world: &mut Normaliser,
     frame: &Frame,
     joint: Joint,
     rest: MapId,
@@ -167,7 +173,7 @@ fn is_ended(
     if keep != frame.keep {
         return Ok(false);
     }
-    let ended = ending(alloc, world, all, keep)?;
+    let ended = ending(world, all, keep)?;
     Ok(rest == ended)
 }
 
@@ -177,7 +183,7 @@ impl Sides {
     /// follows.
     pub fn sequel(
         &self,
-        world: &mut World,
+        world: &mut Normaliser,
         frame: &Frame,
         together: MapId,
         rest: MapId,
@@ -193,15 +199,14 @@ impl Sides {
             written: self.written,
             needed: self.needed,
         };
-        let nothing = is_ended(self.alloc, world, frame, joint, rest)?;
+        let nothing = is_ended(world, frame, joint, rest)?;
         if nothing {
             return Ok(together);
         }
         let turned = frame.keep & self.written;
-        let next = rebased(self.alloc, world, turned, rest)?;
+        let next = rebased(world, turned, rest)?;
         let mut known = Known {
-            alloc: self.alloc,
-            memo: Memo::new(self.alloc),
+            memo: Memo::new(world.alloc()),
         };
         let stage = Stage {
             left: frame.bits,
@@ -209,6 +214,6 @@ impl Sides {
             next,
         };
         let map = known.sequel(world, joint, stage)?;
-        rebased(self.alloc, world, turned, map)
+        rebased(world, turned, map)
     }
 }

@@ -16,10 +16,9 @@ use crate::users::{Users, crossing, row_start, users_of, within};
 use occ_base::{Memory, Name, Width};
 use occ_mdd::MapId;
 use occ_names::written;
-use occ_node::World;
 use occ_norm_ending::except;
 use occ_norm_frame::{Frame, bits_from, support};
-use occ_norm_maps::woven;
+use occ_norm_maps::Normaliser;
 use occ_syntax::Proc;
 use std::alloc::Global;
 
@@ -35,7 +34,6 @@ struct Split {
 /// bits that each part writes, those that some part writes, and who uses the closed channels.
 #[derive(Drop)]
 pub struct Sides {
-    pub alloc: Global,
     pub needed: u64,
     pub all: u64,
     pub writes: Vec<u64>,
@@ -46,8 +44,7 @@ pub struct Sides {
 impl Sides {
     /// The parts of a PAR before what another map has.
     pub fn of(
-        alloc: Global,
-        world: &mut World,
+        world: &mut Normaliser,
         frame: &Frame,
         parts: &[Proc],
         rest: MapId,
@@ -60,13 +57,13 @@ impl Sides {
         ensures written { IfOk result (λ r. r.written ≡ bits_in r.writes.items 0 (length parts.now)) }
         ensures users { IfOk result (λ r. AreUsers (trees parts.now) frame.now.closed.items r.users.items) }
     {
+        let alloc = world.alloc();
         let needed = support(world, frame.bits, rest)?;
         let all = frame.keep | needed;
         let writes = writes_of(alloc, frame, parts)?;
         let written = bits_in(writes.as_slice(), 0, parts.len());
         let users = users_of(alloc, parts, frame.closed.as_slice())?;
         Ok(Sides {
-            alloc,
             needed,
             all,
             writes,
@@ -78,7 +75,7 @@ impl Sides {
     // Two neighbours side by side: the map of the parts of the first places, and that of the others.
     fn both(
         &self,
-        world: &mut World,
+        world: &mut Normaliser,
         split: Split,
         first: MapId,
         others: MapId,
@@ -92,13 +89,14 @@ impl Sides {
     {
         let Split { low, count, high } = split;
         let bits = bits_in(self.writes.as_slice(), low, count);
-        let closed = crossing(self.alloc, self.users.as_slice(), low, low + count, high)?;
-        woven(self.alloc, world, bits, closed.as_slice(), first, others)
+        let users = self.users.as_slice();
+        let closed = crossing(world.alloc(), users, low, low + count, high)?;
+        world.woven(bits, closed.as_slice(), first, others)
     }
 
     // Parts side by side, by the map of each, where the first of them stands in that place. The two halves are put side by side,
     // and so are theirs.
-    fn halves(&self, world: &mut World, place: usize, maps: &[MapId]) -> Result<MapId, Memory>
+    fn halves(&self, world: &mut Normaliser, place: usize, maps: &[MapId]) -> Result<MapId, Memory>
         requires some { 1 ≤ length maps.now }
         requires places { place + length maps.now ≤ length self.now.writes.items }
         requires nodes { HaveNodes world.old maps.now }
@@ -123,7 +121,7 @@ impl Sides {
     /// The parts of a PAR side by side, by the map of each. Parts that stand in a row and share a channel each with the next are
     /// put side by side half by half, and what comes of that is put beside what stands behind it: so that channels are closed
     /// soon, and the parts of a chain meet each other while they are small.
-    pub fn joined(&self, world: &mut World, maps: &[MapId]) -> Result<MapId, Memory>
+    pub fn joined(&self, world: &mut Normaliser, maps: &[MapId]) -> Result<MapId, Memory>
         requires some { 1 ≤ length maps.now }
         requires writes { length self.now.writes.items ≡ length maps.now }
         requires nodes { HaveNodes world.old maps.now }

@@ -6,6 +6,6 @@ mod forward;
 mod limits;
 mod sets;
 
-pub use choices::{both, states_left};
+pub use choices::states_left;
 pub use forward::{between, reached};
 pub use limits::{all_states, limited, states_between};

@@ -11,24 +11,21 @@ use crate::forward::between;
 use occ_base::Memory;
 use occ_dd::SetId;
 use occ_mdd::MapId;
-use occ_node::World;
 use occ_norm_frame::Frame;
-use occ_norm_maps::{choose, stop};
+use occ_norm_maps::Normaliser;
 use occ_syntax::Proc;
-use std::alloc::Global;
 
 /// The set of all states.
-pub fn all_states(world: &World, frame: &Frame) -> SetId
+pub fn all_states(world: &Normaliser, frame: &Frame) -> SetId
     ensures states { AreStates world.now.store frame.now.bits result }
     ensures all { (x : ℕ) → has world.now.store result x ≡ true }
 {
-    world.store.full()
+    world.full()
 }
 
 /// States in front of each part of a SEQ that begins in those of a set, and behind the last part.
 pub fn states_between(
-    alloc: Global,
-    world: &mut World,
+    world: &mut Normaliser,
     frame: &Frame,
     parts: &[Proc],
     from: SetId,
@@ -38,13 +35,14 @@ pub fn states_between(
     ensures extends { Extends world.old world.new }
     ensures between { IfOk result (λ r. AreBetween world.new.store frame.now.vars frame.now.layout frame.now.bits from parts.now r.items) }
 {
-    between(alloc, &mut world.store, frame, parts, from)
+    let alloc = world.alloc();
+    let store = &mut world.lifting.weaver.world.store;
+    between(alloc, store, frame, parts, from)
 }
 
 /// A map in the states of a set, and STOP elsewhere.
 pub fn limited(
-    alloc: Global,
-    world: &mut World,
+    world: &mut Normaliser,
     frame: &Frame,
     set: SetId,
     map: MapId,
@@ -55,9 +53,9 @@ pub fn limited(
     ensures over { IfOk result (IsOver world.new frame.now.bits) }
     ensures same { IfOk result (λ r. (x : ℕ) → has world.old.store set x ≡ true → value world.new.maps r x ≡ value world.old.maps map x) }
 {
-    if set == world.store.full() {
+    if set == world.full() {
         return Ok(map);
     }
-    let stopped = stop(alloc, world)?;
-    choose(world, set, map, stopped)
+    let stopped = world.stop()?;
+    world.choose(set, map, stopped)
 }

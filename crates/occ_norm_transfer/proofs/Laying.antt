@@ -15,7 +15,7 @@ use Rattle.occ_dd.specs.declared.set.SetId.{SetId}
 use Rattle.occ_follow.specs.Sequence.{HasNodes}
 use Rattle.occ_mdd.specs.Maps.{IsMap, value}
 use Rattle.occ_mdd.specs.declared.map.MapId.{MapId}
-use Rattle.occ_node.specs.World.{IsNode, Leads as Goes}
+use Rattle.occ_node.specs.World.{IsNode, Leads as Goes, nodes_of, fails, ends}
 use Rattle.occ_node.specs.declared.node.NodeId.{NodeId}
 use Rattle.occ_node.specs.declared.world.World.{World}
 use Rattle.occ_node.proofs.Behaviours.{node-leads}
@@ -52,6 +52,11 @@ turned_now v w k change n r there is = record {
     turned_end = λ t x h. is.turned_end t x h ∙ sym (k.grows.same_ends n t _ there);
   };
 }
+
+-- the same with maps that another world gives
+pub shifted_with : (u v w : World) (change : ℕ) (n r : NodeId) → IsShifted v w change n r → IsShifted (record v { maps = u.maps }) (record w { maps = u.maps }) change n r
+unfolding nodes_of fails ends
+shifted_with u v w change n r is = record { known = is.known; same_fail = is.same_fail; turned_end = is.turned_end }
 
 pub turned_leads : (v w : World) → Goes v w → (map : MapId) → HasNodes v map → (to change : ℕ) (n r : NodeId) → IsNode v n → value v.maps map to ≡ Some n → IsShifted v w change n r → Leads w map to change r
 turned_leads v w k map has to change n r there e is = record { m = n; leads = (extends_leads v w k).maps.same map to has.known ∙ e; turned = turned_now v w (extends_leads v w k) change n r there is }

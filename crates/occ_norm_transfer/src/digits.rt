@@ -6,20 +6,20 @@ ghost use Rattle.occ_norm_maps.specs.Maps.{Extends};
 use occ_base::Memory;
 use occ_dd::SetId;
 use occ_diagram::Memo;
-use occ_node::World;
-use std::alloc::Global;
+use occ_norm_maps::Normaliser;
 
 /// The digits of a state that stays as it is.
-pub(crate) fn identity(alloc: Global, world: &mut World) -> Result<Vec<SetId>, Memory>
+pub(crate) fn identity(world: &mut Normaliser) -> Result<Vec<SetId>, Memory>
     ensures extends { Extends world.old world.new }
     ensures identity { IfOk result (λ r. IsIdentity world.new.store r.items) }
 {
-    occ_digits::identity(alloc, &mut world.store)
+    let alloc = world.alloc();
+    occ_digits::identity(alloc, &mut world.lifting.weaver.world.store)
 }
 
 /// The assignments from which digits lead into a set.
 pub(crate) fn leading(
-    world: &mut World,
+    world: &mut Normaliser,
     digits: &[SetId],
     set: SetId,
     memo: &mut Memo,
@@ -31,13 +31,12 @@ pub(crate) fn leading(
     ensures memo { KeepComposed world.new.store digits.now memo.new }
     ensures composed { IfOk result (IsComposed world.new.store digits.now 64 set) }
 {
-    occ_digits::leading(&mut world.store, digits, set, memo)
+    occ_digits::leading(&mut world.lifting.weaver.world.store, digits, set, memo)
 }
 
 /// The digits that lead where the one list leads from members of a set, and where the other leads from others.
 pub(crate) fn either(
-    alloc: Global,
-    world: &mut World,
+    world: &mut Normaliser,
     set: SetId,
     yes: &[SetId],
     no: &[SetId],
@@ -48,5 +47,6 @@ pub(crate) fn either(
     ensures extends { Extends world.old world.new }
     ensures either { IfOk result (λ r. IsEither world.new.store set yes.now no.now r.items) }
 {
-    occ_digits::either(alloc, &mut world.store, set, yes, no)
+    let alloc = world.alloc();
+    occ_digits::either(alloc, &mut world.lifting.weaver.world.store, set, yes, no)
 }

@@ -4,43 +4,56 @@ ghost use Rattle.occ_node.specs.World.{IsNode};
 ghost use Rattle.occ_node.specs.declared.node.NodeId.{NodeId};
 ghost use Rattle.occ_node.specs.World.{Leads as Goes};
 ghost use Rattle.occ_norm_maps.specs.Maps.{Extends};
-ghost use Rattle.occ_scope.specs.Tables.{KeepShifted};
+ghost use Rattle.occ_scope.specs.Results.{IsShifted};
 ghost use Rattle.occ_norm_transfer.specs.Lists.{AreLed, AreStates, IsLaid, IsSpread};
 
 use occ_base::Memory;
 use occ_mdd::MapId;
-use occ_node::{NodeId, World};
-use occ_norm_frame::{Frame, bit_set, node_at};
-use occ_norm_maps::{choose, constant};
-use occ_scope::{Shifts, shift_with};
-use std::alloc::Global;
+use occ_node::NodeId;
+use occ_norm_frame::{Frame, node_at};
+use occ_norm_maps::Normaliser;
+use occ_scope::shift_with;
+
+// The node with those bits of its final states turned.
+fn turned(world: &mut Normaliser, node: NodeId, change: u64) -> Result<NodeId, Memory>
+    requires { IsNode world.old node }
+    ensures goes { Goes world.old world.new }
+    ensures turned { IfOk result (IsShifted world.old world.new change node) }
+{
+    let lifting = &mut world.lifting;
+    shift_with(
+        lifting.weaver.alloc,
+        &mut lifting.weaver.world,
+        &mut lifting.shifts,
+        node,
+        change,
+    )
+}
 
 // A node for each state of a list: what a map has where the state leads, turned by what changes of its bits.
-fn led(
-    alloc: Global,
-    world: &mut World,
-    keep: u64,
-    to: &[u64],
-    rest: MapId,
-) -> Result<Vec<NodeId>, Memory>
+fn led(world: &mut Normaliser, keep: u64, to: &[u64], rest: MapId) -> Result<Vec<NodeId>, Memory>
     requires { HasNodes world.old rest }
     ensures goes { Goes world.old world.new }
     ensures led { IfOk result (λ r. AreLed world.new keep to.now rest (length to.now) r.items) }
 {
-    let mut shifts = Shifts::new(alloc);
-    let mut nodes = Vec::with_capacity(alloc, to.len())?;
+    let mut nodes = Vec::with_capacity(world.alloc(), to.len())?;
     for place in 0..to.len() {
         let state = to[place];
         let change = (place as u64 ^ state) & keep;
         let there = node_at(world, rest, state);
-        let node = shift_with(alloc, world, &mut shifts, there, change)?;
+        let node = turned(world, there, change)?;
         nodes.push(node)?;
     }
     Ok(nodes)
 }
 
 // The map that has, at each assignment, the node at the place that its lowest bits say, so many, from a first place on.
-fn spread(world: &mut World, nodes: &[NodeId], left: u32, first: usize) -> Result<MapId, Memory>
+fn spread(
+    world: &mut Normaliser,
+    nodes: &[NodeId],
+    left: u32,
+    first: usize,
+) -> Result<MapId, Memory>
     requires left { left ≤ 16 }
     requires within { first + 2 ^ left ≤ length nodes.now }
     requires there { (i : ℕ) (a : NodeId) → slice_get nodes.now i ≡ Some a → IsNode world.old a }
@@ -48,21 +61,20 @@ fn spread(world: &mut World, nodes: &[NodeId], left: u32, first: usize) -> Resul
     ensures spread { IfOk result (IsSpread world.new nodes.now left first) }
 {
     if left == 0 {
-        return constant(world, Some(nodes[first]));
+        return world.constant(Some(nodes[first]));
     }
     let bit = left - 1;
     let low = spread(world, nodes, bit, first)?;
     let high = spread(world, nodes, bit, first + (1 << bit))?;
-    let set = bit_set(world, bit)?;
-    let map = choose(world, set, high, low)?;
+    let set = world.bit(bit)?;
+    let map = world.choose(set, high, low)?;
     Ok(map)
 }
 
 /// The map that has, at each assignment, what another map has where the list leads from its lowest bits, as many as the frame has,
 /// turned by what changes of those that the frame keeps.
 pub(crate) fn laid(
-    alloc: Global,
-    world: &mut World,
+    world: &mut Normaliser,
     frame: &Frame,
     to: &[u64],
     rest: MapId,
@@ -73,6 +85,6 @@ pub(crate) fn laid(
     ensures extends { Extends world.old world.new }
     ensures laid { IfOk result (IsLaid world.new frame.now.keep frame.now.bits to.now rest) }
 {
-    let nodes = led(alloc, world, frame.keep, to, rest)?;
+    let nodes = led(world, frame.keep, to, rest)?;
     spread(world, &nodes, frame.bits, 0)
 }

@@ -10,9 +10,9 @@ ghost use Rattle.occ_norm_transfer.specs.Lists.{ArePicked, ArePutOn, AreStates, 
 
 use occ_base::Memory;
 use occ_dd::SetId;
-use occ_node::World;
 use occ_norm_assign::{Write, writes_of};
-use occ_norm_frame::{Frame, holds, with_bit, without};
+use occ_norm_frame::{Frame, holds, with_bit};
+use occ_norm_maps::Normaliser;
 use occ_syntax::{Expr, Proc};
 use std::alloc::Global;
 
@@ -31,13 +31,13 @@ pub(crate) fn states(alloc: Global, bits: u32) -> Result<Vec<u64>, Memory>
 }
 
 // The state that writes make of a state.
-fn written(world: &World, writes: &[Write], state: u64) -> u64
+fn written(world: &Normaliser, writes: &[Write], state: u64) -> u64
     requires { AreWrites world.now.store writes.now }
     ensures { result ≡ onto world.now.store writes.now state state }
 {
     let mut made = state;
     for write in writes {
-        let one = world.store.has(write.set, state);
+        let one = world.has(write.set, state);
         made = with_bit(made, write.bit, one);
     }
     made
@@ -45,8 +45,7 @@ fn written(world: &World, writes: &[Write], state: u64) -> u64
 
 // The states where some states lead and then some writes.
 fn put_on(
-    alloc: Global,
-    world: &World,
+    world: &Normaliser,
     bits: u32,
     before: &[u64],
     writes: &[Write],
@@ -58,7 +57,7 @@ fn put_on(
     ensures put { IfOk result (λ r. ArePutOn world.now.store bits writes.now before.now r.items) }
 {
     let size: u64 = 1 << bits;
-    let mut after = Vec::with_capacity(alloc, before.len())?;
+    let mut after = Vec::with_capacity(world.alloc(), before.len())?;
     for place in 0..before.len() {
         let made = written(world, writes, before[place]);
         after.push(made % size)?;
@@ -67,7 +66,7 @@ fn put_on(
 }
 
 // Puts the states of a list into another one where some states are in a set.
-fn pick(world: &World, set: SetId, before: &[u64], there: &[u64], after: &mut Vec<u64>)
+fn pick(world: &Normaliser, set: SetId, before: &[u64], there: &[u64], after: &mut Vec<u64>)
     requires set { IsKnown world.now.store set }
     requires there { length there.now ≡ length before.now }
     requires after { length after.old.items ≡ length before.now }
@@ -75,7 +74,7 @@ fn pick(world: &World, set: SetId, before: &[u64], there: &[u64], after: &mut Ve
     ensures picked { ArePicked world.now.store set before.now there.now after.old.items after.new.items }
 {
     for place in 0..before.len() {
-        let leads = world.store.has(set, before[place]);
+        let leads = world.has(set, before[place]);
         if !leads {
             continue;
         }
@@ -86,8 +85,7 @@ fn pick(world: &World, set: SetId, before: &[u64], there: &[u64], after: &mut Ve
 // The states after the choices of an IF, by those before it, if all choices are straight and one of them is always taken.
 #[cycle(listed)]
 fn listed_choices(
-    alloc: Global,
-    world: &mut World,
+    world: &mut Normaliser,
     frame: &Frame,
     before: &[u64],
     choices: &[(Expr, Proc)],
@@ -99,21 +97,22 @@ fn listed_choices(
     ensures made { IfOk result (λ found. IfSome found
         (λ r. IsListed frame.now.vars frame.now.layout frame.now.bits (select (cases choices.now)) before.now r.items)) }
 {
+    let alloc = world.alloc();
     let mut after = Vec::from_slice(alloc, before)?;
-    let mut beyond = world.store.full();
+    let mut beyond = world.full();
     let mut left = choices.len();
     while left > 0 {
         left -= 1;
         let choice = &choices[left];
-        let Some(there) = listed(alloc, world, frame, before, &choice.1)? else {
+        let Some(there) = listed(world, frame, before, &choice.1)? else {
             return Ok(None);
         };
         let set = holds(alloc, world, frame, &choice.0)?;
-        let fewer = without(world, beyond, set)?;
+        let fewer = world.without(beyond, set)?;
         beyond = fewer;
         pick(world, set, before, &there, &mut after);
     }
-    if beyond.0 != world.store.empty().0 {
+    if beyond.0 != world.empty().0 {
         return Ok(None);
     }
     Ok(Some(after))
@@ -122,8 +121,7 @@ fn listed_choices(
 // The states after the parts of a SEQ, by those before it, if all parts are straight.
 #[cycle(listed)]
 pub(crate) fn listed_all(
-    alloc: Global,
-    world: &mut World,
+    world: &mut Normaliser,
     frame: &Frame,
     before: &[u64],
     parts: &[Proc],
@@ -135,9 +133,9 @@ pub(crate) fn listed_all(
     ensures made { IfOk result (λ found. IfSome found
         (λ r. IsListed frame.now.vars frame.now.layout frame.now.bits (seq (trees parts.now)) before.now r.items)) }
 {
-    let mut now = Vec::from_slice(alloc, before)?;
+    let mut now = Vec::from_slice(world.alloc(), before)?;
     for place in 0..parts.len() {
-        let Some(next) = listed(alloc, world, frame, &now, &parts[place])? else {
+        let Some(next) = listed(world, frame, &now, &parts[place])? else {
             return Ok(None);
         };
         now = next;
@@ -149,8 +147,7 @@ pub(crate) fn listed_all(
 #[tactic(auto, unfolding(occ_syntax::specs::View::tree))]
 #[cycle(listed)]
 fn listed(
-    alloc: Global,
-    world: &mut World,
+    world: &mut Normaliser,
     frame: &Frame,
     before: &[u64],
     part: &Proc,
@@ -163,14 +160,14 @@ fn listed(
         (λ r. IsListed frame.now.vars frame.now.layout frame.now.bits (tree part.now) before.now r.items)) }
 {
     match part {
-        Proc::Skip => Ok(Some(Vec::from_slice(alloc, before)?)),
+        Proc::Skip => Ok(Some(Vec::from_slice(world.alloc(), before)?)),
         Proc::Assign { vars, values } => {
-            let writes = writes_of(alloc, world, frame, vars.items(), values.items())?;
-            let after = put_on(alloc, world, frame.bits, before, &writes)?;
+            let writes = writes_of(world, frame, vars.items(), values.items())?;
+            let after = put_on(world, frame.bits, before, &writes)?;
             Ok(Some(after))
         }
-        Proc::Seq(parts) => listed_all(alloc, world, frame, before, parts.items()),
-        Proc::If(choices) => listed_choices(alloc, world, frame, before, choices.items()),
+        Proc::Seq(parts) => listed_all(world, frame, before, parts.items()),
+        Proc::If(choices) => listed_choices(world, frame, before, choices.items()),
         _ => Ok(None),
     }
 }

@@ -13,25 +13,20 @@ use crate::digits::{either, leading};
 use occ_base::Memory;
 use occ_dd::SetId;
 use occ_diagram::Memo;
-use occ_node::World;
 use occ_norm_assign::{Write, writes_of};
-use occ_norm_frame::{Frame, holds, without};
+use occ_norm_frame::{Frame, holds};
+use occ_norm_maps::Normaliser;
 use occ_syntax::{Expr, Proc};
-use std::alloc::Global;
 
 // The digits that lead where some digits lead and then some writes.
-fn put(
-    alloc: Global,
-    world: &mut World,
-    before: &[SetId],
-    writes: &[Write],
-) -> Result<Vec<SetId>, Memory>
+fn put(world: &mut Normaliser, before: &[SetId], writes: &[Write]) -> Result<Vec<SetId>, Memory>
     requires before { AreDigits world.old.store before.now }
     requires writes { AreWrites world.old.store writes.now }
     ensures extends { Extends world.old world.new }
     ensures are { IfOk result (λ r. AreDigits world.new.store r.items) }
     ensures put { IfOk result (λ r. ArePut world.new.store before.now writes.now r.items) }
 {
+    let alloc = world.alloc();
     let mut after = Vec::from_slice(alloc, before)?;
     let mut memo = Memo::new(alloc);
     for write in writes {
@@ -43,8 +38,7 @@ fn put(
 
 // The assignments from which some digits lead to states in which a condition is TRUE.
 fn held(
-    alloc: Global,
-    world: &mut World,
+    world: &mut Normaliser,
     frame: &Frame,
     before: &[SetId],
     expr: &Expr,
@@ -54,6 +48,7 @@ fn held(
     ensures extends { Extends world.old world.new }
     ensures held { IfOk result (IsCondition world.new frame.now.layout (exp expr.now) before.now) }
 {
+    let alloc = world.alloc();
     let set = holds(alloc, world, frame, expr)?;
     let mut memo = Memo::new(alloc);
     leading(world, before, set, &mut memo)
@@ -62,8 +57,7 @@ fn held(
 // The digits after the choices of an IF, by those before it, if all choices are straight and one of them is always taken.
 #[cycle(moved)]
 fn chosen(
-    alloc: Global,
-    world: &mut World,
+    world: &mut Normaliser,
     frame: &Frame,
     before: &[SetId],
     choices: &[(Expr, Proc)],
@@ -74,22 +68,22 @@ fn chosen(
     ensures made { IfOk result (λ found. IfSome found
         (λ r. IsMade world.new frame.now.vars frame.now.layout (select (cases choices.now)) before.now r.items)) }
 {
-    let mut after = Vec::from_slice(alloc, before)?;
-    let mut beyond = world.store.full();
+    let mut after = Vec::from_slice(world.alloc(), before)?;
+    let mut beyond = world.full();
     let mut left = choices.len();
     while left > 0 {
         left -= 1;
         let choice = &choices[left];
-        let Some(there) = moved(alloc, world, frame, before, &choice.1)? else {
+        let Some(there) = moved(world, frame, before, &choice.1)? else {
             return Ok(None);
         };
-        let set = held(alloc, world, frame, before, &choice.0)?;
-        let fewer = without(world, beyond, set)?;
+        let set = held(world, frame, before, &choice.0)?;
+        let fewer = world.without(beyond, set)?;
         beyond = fewer;
-        let next = either(alloc, world, set, &there, &after)?;
+        let next = either(world, set, &there, &after)?;
         after = next;
     }
-    if beyond.0 != world.store.empty().0 {
+    if beyond.0 != world.empty().0 {
         return Ok(None);
     }
     Ok(Some(after))
@@ -98,8 +92,7 @@ fn chosen(
 // The digits after the parts of a SEQ, by those before it, if all parts are straight.
 #[cycle(moved)]
 fn in_turn(
-    alloc: Global,
-    world: &mut World,
+    world: &mut Normaliser,
     frame: &Frame,
     before: &[SetId],
     parts: &[Proc],
@@ -110,9 +103,9 @@ fn in_turn(
     ensures made { IfOk result (λ found. IfSome found
         (λ r. IsMade world.new frame.now.vars frame.now.layout (seq (trees parts.now)) before.now r.items)) }
 {
-    let mut now = Vec::from_slice(alloc, before)?;
+    let mut now = Vec::from_slice(world.alloc(), before)?;
     for place in 0..parts.len() {
-        let Some(next) = moved(alloc, world, frame, &now, &parts[place])? else {
+        let Some(next) = moved(world, frame, &now, &parts[place])? else {
             return Ok(None);
         };
         now = next;
@@ -124,8 +117,7 @@ fn in_turn(
 #[tactic(auto, unfolding(occ_syntax::specs::View::tree))]
 #[cycle(moved)]
 pub(crate) fn moved(
-    alloc: Global,
-    world: &mut World,
+    world: &mut Normaliser,
     frame: &Frame,
     before: &[SetId],
     part: &Proc,
@@ -137,14 +129,14 @@ pub(crate) fn moved(
         (λ r. IsMade world.new frame.now.vars frame.now.layout (tree part.now) before.now r.items)) }
 {
     match part {
-        Proc::Skip => Ok(Some(Vec::from_slice(alloc, before)?)),
+        Proc::Skip => Ok(Some(Vec::from_slice(world.alloc(), before)?)),
         Proc::Assign { vars, values } => {
-            let writes = writes_of(alloc, world, frame, vars.items(), values.items())?;
-            let after = put(alloc, world, before, &writes)?;
+            let writes = writes_of(world, frame, vars.items(), values.items())?;
+            let after = put(world, before, &writes)?;
             Ok(Some(after))
         }
-        Proc::Seq(parts) => in_turn(alloc, world, frame, before, parts.items()),
-        Proc::If(choices) => chosen(alloc, world, frame, before, choices.items()),
+        Proc::Seq(parts) => in_turn(world, frame, before, parts.items()),
+        Proc::If(choices) => chosen(world, frame, before, choices.items()),
         _ => Ok(None),
     }
 }

@@ -16,12 +16,11 @@ use crate::moves::moved;
 use occ_base::Memory;
 use occ_dd::SetId;
 use occ_mdd::MapId;
-use occ_node::World;
 use occ_norm_assign::{Write, applied};
-use occ_norm_frame::{Frame, bit_set, is_full};
+use occ_norm_frame::{Frame, is_full};
+use occ_norm_maps::Normaliser;
 use occ_norm_straight::is_straight;
 use occ_syntax::Proc;
-use std::alloc::Global;
 
 // How many sets a function may take.
 const MOST_SETS: usize = 5000;
@@ -41,17 +40,17 @@ fn run_start(parts: &[Proc]) -> usize
 }
 
 // The bits that digits change, as writes.
-fn writes_made(alloc: Global, world: &mut World, digits: &[SetId]) -> Result<Vec<Write>, Memory>
+fn writes_made(world: &mut Normaliser, digits: &[SetId]) -> Result<Vec<Write>, Memory>
     requires digits { AreDigits world.old.store digits.now }
     ensures extends { Extends world.old world.new }
     ensures writes { IfOk result (λ r. AreWrites world.new.store r.items) }
     ensures distinct { IfOk result (λ r. AreDistinct r.items) }
     ensures same { IfOk result (λ r. SameWrites world.new.store digits.now r.items) }
 {
-    let mut writes = Vec::new(alloc);
+    let mut writes = Vec::new(world.alloc());
     for place in 0..digits.len() {
         let bit = place as u32;
-        let stays = bit_set(world, bit)?;
+        let stays = world.bit(bit)?;
         let set = digits[place];
         if set.0 == stays.0 {
             continue;
@@ -64,8 +63,7 @@ fn writes_made(alloc: Global, world: &mut World, digits: &[SetId]) -> Result<Vec
 // The digits behind the parts of a list, by those of each state as it is; None where a part isn't straight, or where the digits
 // take more sets than some.
 fn composed(
-    alloc: Global,
-    world: &mut World,
+    world: &mut Normaliser,
     frame: &Frame,
     parts: &[Proc],
 ) -> Result<Option<Vec<SetId>>, Memory>
@@ -74,15 +72,15 @@ fn composed(
     ensures function { IfOk result (λ found. IfSome found
         (λ r. IsFunction world.new frame.now.vars frame.now.layout (seq (trees parts.now)) r.items)) }
 {
-    let limit = world.store.sets().saturating_add(MOST_SETS);
-    let before = identity(alloc, world)?;
-    let mut now = Vec::from_slice(alloc, &before)?;
+    let limit = world.sets().saturating_add(MOST_SETS);
+    let before = identity(world)?;
+    let mut now = Vec::from_slice(world.alloc(), &before)?;
     for place in 0..parts.len() {
-        let Some(next) = moved(alloc, world, frame, &now, &parts[place])? else {
+        let Some(next) = moved(world, frame, &now, &parts[place])? else {
             return Ok(None);
         };
         now = next;
-        if world.store.sets() > limit {
+        if world.sets() > limit {
             return Ok(None);
         }
     }
@@ -92,8 +90,7 @@ fn composed(
 // The map of some parts and then what another map has, by their digits; None where these take many sets, or where the map has many
 // nodes, about as many as there are states that it tells apart.
 fn by_digits(
-    alloc: Global,
-    world: &mut World,
+    world: &mut Normaliser,
     frame: &Frame,
     parts: &[Proc],
     rest: MapId,
@@ -107,18 +104,17 @@ fn by_digits(
     if full {
         return Ok(None);
     }
-    let Some(digits) = composed(alloc, world, frame, parts)? else {
+    let Some(digits) = composed(world, frame, parts)? else {
         return Ok(None);
     };
-    let writes = writes_made(alloc, world, &digits)?;
-    let map = applied(alloc, world, frame.keep, &writes, rest)?;
+    let writes = writes_made(world, &digits)?;
+    let map = applied(world, frame.keep, &writes, rest)?;
     Ok(Some(map))
 }
 
 // The same by a list of where each state leads; None where there are too many states, or where a part isn't straight.
 fn by_states(
-    alloc: Global,
-    world: &mut World,
+    world: &mut Normaliser,
     frame: &Frame,
     parts: &[Proc],
     rest: MapId,
@@ -131,18 +127,17 @@ fn by_states(
     if frame.bits > 16 {
         return Ok(None);
     }
-    let before = states(alloc, frame.bits)?;
-    let Some(to) = listed_all(alloc, world, frame, &before, parts)? else {
+    let before = states(world.alloc(), frame.bits)?;
+    let Some(to) = listed_all(world, frame, &before, parts)? else {
         return Ok(None);
     };
-    let map = laid(alloc, world, frame, &to, rest)?;
+    let map = laid(world, frame, &to, rest)?;
     Ok(Some(map))
 }
 
 // The same by digits or by a list, as it comes; None where neither will do.
 fn behind(
-    alloc: Global,
-    world: &mut World,
+    world: &mut Normaliser,
     frame: &Frame,
     parts: &[Proc],
     rest: MapId,
@@ -152,18 +147,17 @@ fn behind(
     ensures extends { Extends world.old world.new }
     ensures after { IfOk result (λ found. IfSome found (IsMapOf world.new frame.now (seq (trees parts.now)) rest)) }
 {
-    let found = by_digits(alloc, world, frame, parts, rest)?;
+    let found = by_digits(world, frame, parts, rest)?;
     if found.is_some() {
         return Ok(found);
     }
-    by_states(alloc, world, frame, parts, rest)
+    by_states(world, frame, parts, rest)
 }
 
 /// Where two or more parts at the end of some don't communicate and always end in one state, and their function takes few sets or
 /// there are few states: the place of the first of them, and the map of them and then what another map has.
 pub fn straight(
-    alloc: Global,
-    world: &mut World,
+    world: &mut Normaliser,
     frame: &Frame,
     parts: &[Proc],
     rest: MapId,
@@ -177,7 +171,7 @@ pub fn straight(
     if parts.len() - start < 2 {
         return Ok(None);
     }
-    let Some(map) = behind(alloc, world, frame, &parts[start..], rest)? else {
+    let Some(map) = behind(world, frame, &parts[start..], rest)? else {
         return Ok(None);
     };
     Ok(Some((start, map)))

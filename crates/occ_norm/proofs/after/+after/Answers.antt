@@ -266,7 +266,7 @@ pub first_choice-loop-left-init : goal.first_choice-loop-left-init
 first_choice-loop-left-init t c =
     let frame = c.args.frame.now in
     let v = c.states_left.new.world in
-    let w = c.stop.new.world in
+    let w = c.stop.new.self in
     let sets = c.in_ok-sets.sets.items in
     let map = c.in_ok-map.map in
     let last = has w.store (set_at sets (length c.args.choices.now)) in
@@ -283,8 +283,8 @@ first_choice-loop-left-init t c =
 pub first_choice-holds-requires : goal.first_choice-holds-requires
 first_choice-holds-requires t c = case_condition c.args.frame.now.vars c.args.frame.now.layout c.args.frame.now.bits c.args.frame.now.kept c.args.choices.now (c.loop-left.left - 1) c.index-choices-left.result c.requires.choices (omega (arith, c.loop-left.invariant.below, c.loop-left-test.true)) c.index-choices-left.is
 
-pub first_choice-both-requires-clause-set : goal.first_choice-both-requires-clause-set
-first_choice-both-requires-clause-set t c =
+pub first_choice-within-requires-clause-set : goal.first_choice-within-requires-clause-set
+first_choice-within-requires-clause-set t c =
     let sets = c.in_ok-sets.sets.items in
     let count = c.loop-left.invariant.states.count in
     let here : c.loop-left.left - 1 < length sets = omega (arith, count, c.loop-left.invariant.below) in
@@ -299,8 +299,8 @@ first_choice-front-requires t c =
     let sets = c.in_ok-sets.sets.items in
     let v = c.loop-left.world in
     let u = c.holds.new.world in
-    let w = c.both.new.world in
-    let vw = extends_trans v u w c.holds.ensures.extends c.both.ensures.extends in
+    let w = c.within.new.self in
+    let vw = extends_trans v u w c.holds.ensures.extends c.within.ensures.extends in
     let count = c.loop-left.invariant.states.count in
     let here : c.loop-left.left - 1 < length sets = omega (arith, count, lt) in
     let at = c.index.ensures ∙ other_default sets (c.loop-left.left - 1) c.index.result.now (record { 0 = 0 }) here in
@@ -321,13 +321,13 @@ first_choice-front-requires t c =
 
 pub first_choice-choose-requires-clause-set : goal.first_choice-choose-requires-clause-set
 first_choice-choose-requires-clause-set t c =
-    let grow = extends_trans c.holds.new.world c.both.new.world c.front.new.world c.both.ensures.extends c.front.ensures.extends in
+    let grow = extends_trans c.holds.new.world c.within.new.self c.front.new.world c.within.ensures.extends c.front.ensures.extends in
     known-keeps c.holds.new.world.store c.front.new.world.store grow.grows.stored c.in_ok-set.set c.in_ok-set.ensures.set.known
 
 pub first_choice-choose-requires-clause-b : goal.first_choice-choose-requires-clause-b
 first_choice-choose-requires-clause-b t c =
-    let vb = extends_trans c.loop-left.world c.holds.new.world c.both.new.world c.holds.ensures.extends c.both.ensures.extends in
-    let vf = extends_trans c.loop-left.world c.both.new.world c.front.new.world vb c.front.ensures.extends in
+    let vb = extends_trans c.loop-left.world c.holds.new.world c.within.new.self c.holds.ensures.extends c.within.ensures.extends in
+    let vf = extends_trans c.loop-left.world c.within.new.self c.front.new.world vb c.front.ensures.extends in
     (has_nodes-extends c.loop-left.world c.front.new.world vf c.loop-left.map c.loop-left.invariant.over.has).known
 
 pub first_choice-loop-left-preserved : goal.first_choice-loop-left-preserved
@@ -337,9 +337,9 @@ first_choice-loop-left-preserved t c =
     let lt : left - 1 < length c.args.choices.now = omega (arith, c.loop-left.invariant.below, c.loop-left-test.true) in
     let v = c.loop-left.world in
     let h = c.holds.new.world in
-    let b = c.both.new.world in
+    let b = c.within.new.self in
     let f = c.front.new.world in
-    let w = c.choose.new.world in
+    let w = c.choose.new.self in
     let rest = c.args.span.rest in
     let set = c.in_ok-set.set in
     let from = c.in_ok-from.from in
@@ -349,10 +349,10 @@ first_choice-loop-left-preserved t c =
     let item = c.index-choices-left.result in
     let sets = c.in_ok-sets.sets.items in
     let choices = c.args.choices.now in
-    let vb = extends_trans v h b c.holds.ensures.extends c.both.ensures.extends in
+    let vb = extends_trans v h b c.holds.ensures.extends c.within.ensures.extends in
     let vf = extends_trans v b f vb c.front.ensures.extends in
     let vw = extends_trans v f w vf c.choose.ensures.extends in
-    let hf = extends_trans h b f c.both.ensures.extends c.front.ensures.extends in
+    let hf = extends_trans h b f c.within.ensures.extends c.front.ensures.extends in
     let hw = extends_trans h f w hf c.choose.ensures.extends in
     let bw = extends_trans b f w c.front.ensures.extends c.choose.ensures.extends in
     let over_chosen = over-extends f w c.choose.ensures.extends frame.bits chosen c.in_ok-chosen.ensures.over in
@@ -536,13 +536,13 @@ undeclared-returns-in-Skip-clause-front t c =
 
 pub undeclared-returns-in-Stop-clause-over : goal.undeclared-returns-in-Stop-clause-over
 undeclared-returns-in-Stop-clause-over t c =
-    if_both c.stop.result _ _ _ (λ r has is. stop_over c.stop.new.world c.args.frame.now.bits r has is) c.stop.ensures.nodes c.stop.ensures.stop
+    if_both c.stop.result _ _ _ (λ r has is. stop_over c.stop.new.self c.args.frame.now.bits r has is) c.stop.ensures.nodes c.stop.ensures.stop
 
 pub undeclared-returns-in-Stop-clause-front : goal.undeclared-returns-in-Stop-clause-front
 unfolding tree
 undeclared-returns-in-Stop-clause-front t c =
     let frame = c.args.frame.now in
-    let w = c.stop.new.world in
+    let w = c.stop.new.self in
     form_front w frame.vars frame.layout frame.bits frame.keep frame.closed.items frame.kept frame.inside (has w.store c.args.span.from) (tree c.args.part.now) stop c.args.span.rest c.stop.result (ap tree c.in-Stop.is)
     (if_ok c.stop.result _ _ (λ r is. stop_in w frame.vars frame.layout frame.bits frame.keep frame.closed.items frame.kept frame.inside c.args.span.rest r is) c.stop.ensures.stop)
 

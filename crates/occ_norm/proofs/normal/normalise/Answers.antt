@@ -14,10 +14,10 @@ returns-clause-root c =
     subst (λ prog. IsRoot c.match-flat.world prog.params (tree prog.body) c.match-flat.states) c.program-program.ensures.same
     (elim c.match-flat.branch [
       | in-Some+in_ok-states-in-Some w ↦ subst (λ v. made v c.match-flat.states) (sym w.world-is)
-          (subst (λ m. made w.states_of.new.world m) (sym w.states-is)
-          (root_as w.states_of.new.world program.params w.in-Some.flat.params (tree program.body) (tree w.in-Some.flat.body) w.in_ok-states-in-Some.states
+          (subst (λ m. made w.states_in.new.world m) (sym w.states-is)
+          (root_as w.states_in.new.world program.params w.in-Some.flat.params (tree program.body) (tree w.in-Some.flat.body) w.in_ok-states-in-Some.states
           (found_is _ _ _ w.in-Some.is c.in_ok-flat.ensures.params) (found_is _ _ _ w.in-Some.is c.in_ok-flat.ensures.body) c.program-program.ensures.accepted.typed.types
           (found_is _ _ _ w.in-Some.is c.in_ok-flat.ensures.rules).keeps.types w.in_ok-states-in-Some.ensures.root))
       | in-None+in_ok-states-in-None w ↦ subst (λ v. made v c.match-flat.states) (sym w.world-is)
-          (subst (λ m. made w.states_of-in-None.new.world m) (sym w.states-is) w.in_ok-states-in-None.ensures.root)
+          (subst (λ m. made w.states_in-in-None.new.world m) (sym w.states-is) w.in_ok-states-in-None.ensures.root)
     ])

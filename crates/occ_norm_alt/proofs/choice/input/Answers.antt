@@ -30,7 +30,7 @@ returns-clause-after c =
 
 pub returns-then-is_closed-clause-guarded : goal.returns-then-is_closed-clause-guarded
 returns-then-is_closed-clause-guarded c = IfOk-weaker c.stop.result _ _
-    (λ r stop Γ around kept. input_closed c.args.frame.now c.stop.new.world c.args.next r c.args.get.chan c.args.get.var.0 (is_closed c.is_closed.result _ c.is_closed.ensures c.if-is_closed.true) stop Γ)
+    (λ r stop Γ around kept. input_closed c.args.frame.now c.stop.new.self c.args.next r c.args.get.chan c.args.get.var.0 (is_closed c.is_closed.result _ c.is_closed.ensures c.if-is_closed.true) stop Γ)
     c.stop.ensures.stop
 
 pub returns-then-is_closed-clause-after : goal.returns-then-is_closed-clause-after
@@ -38,6 +38,6 @@ returns-then-is_closed-clause-after c =
     let f = c.args.frame.now in
     let get = c.args.get in
     IfOk-weaker c.stop.result _ _
-    (λ r stop. receive_done f c.args.world.now c.stop.new.world c.stop.ensures.extends c.args.next c.requires.next get.chan r get.var.0
-    (λ Γ around kept. input_closed f c.stop.new.world c.args.next r get.chan get.var.0 (is_closed c.is_closed.result _ c.is_closed.ensures c.if-is_closed.true) stop Γ))
+    (λ r stop. receive_done f c.args.world.now c.stop.new.self c.stop.ensures.extends c.args.next c.requires.next get.chan r get.var.0
+    (λ Γ around kept. input_closed f c.stop.new.self c.args.next r get.chan get.var.0 (is_closed c.is_closed.result _ c.is_closed.ensures c.if-is_closed.true) stop Γ))
     c.stop.ensures.stop

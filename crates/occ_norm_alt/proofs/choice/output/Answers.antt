@@ -15,10 +15,7 @@ pub of_block-requires-clause-left : goal.of_block-requires-clause-left
 of_block-requires-clause-left c = omega (arith, c.of.ensures.left, ap length c.bits.ensures.bits)
 
 pub of_block-requires-clause-next : goal.of_block-requires-clause-next
-of_block-requires-clause-next c =
-    let u = c.args.world.now in
-    let v = c.digits.new.world in
-    has_nodes-extends u v (extends_trans u c.node_count.new.world v c.node_count.ensures c.digits.ensures.extends) c.args.next c.requires.next.has
+of_block-requires-clause-next c = has_nodes-extends c.args.world.now c.digits.new.world c.digits.ensures.extends c.args.next c.requires.next.has
 
 pub returns-clause-guarded : goal.returns-clause-guarded
 returns-clause-guarded c =
@@ -28,7 +25,7 @@ returns-clause-guarded c =
     let v = c.digits.new.world in
     let w = c.of_block.new.world in
     IfOk-weaker c.of_block.result _ _
-    (λ r outputs. output_done f u v w (extends_trans u c.node_count.new.world v c.node_count.ensures c.digits.ensures.extends) c.of_block.ensures.extends c.args.next c.requires.next put.chan
+    (λ r outputs. output_done f u v w c.digits.ensures.extends c.of_block.ensures.extends c.args.next c.requires.next put.chan
     (exp put.value.now) _ _ r (not_closed c.is_closed-closed.result _ c.is_closed-closed.ensures c.if-closed.false) c.full-full.ensures.members
     (whole_value v.store f.layout (exp put.value.now) c.in_ok-digits.digits c.of.result.base c.of.result.left c.in_ok-digits.ensures.value c.of.ensures.base (omega (arith, c.of.ensures.left, ap length c.bits.ensures.bits, c.bits.ensures.most)))
     outputs)
@@ -41,10 +38,9 @@ returns-clause-after c =
     let u = c.args.world.now in
     let v = c.digits.new.world in
     let w = c.of_block.new.world in
-    let grow = extends_trans u c.node_count.new.world v c.node_count.ensures c.digits.ensures.extends in
     IfOk-weaker c.of_block.result _ _
-    (λ r outputs. send_done f u w (extends_trans u v w grow c.of_block.ensures.extends) c.args.next c.requires.next put.chan r (exp put.value.now)
-    (output_done f u v w grow c.of_block.ensures.extends c.args.next c.requires.next put.chan
+    (λ r outputs. send_done f u w (extends_trans u v w c.digits.ensures.extends c.of_block.ensures.extends) c.args.next c.requires.next put.chan r (exp put.value.now)
+    (output_done f u v w c.digits.ensures.extends c.of_block.ensures.extends c.args.next c.requires.next put.chan
     (exp put.value.now) _ _ r (not_closed c.is_closed-closed.result _ c.is_closed-closed.ensures c.if-closed.false) c.full-full.ensures.members
     (whole_value v.store f.layout (exp put.value.now) c.in_ok-digits.digits c.of.result.base c.of.result.left c.in_ok-digits.ensures.value c.of.ensures.base (omega (arith, c.of.ensures.left, ap length c.bits.ensures.bits, c.bits.ensures.most)))
     outputs))
@@ -54,7 +50,7 @@ pub returns-then-closed-clause-guarded : goal.returns-then-closed-clause-guarded
 returns-then-closed-clause-guarded c =
     let put = c.args.put.now in
     IfOk-weaker c.stop.result _ _
-    (λ r stop Γ around kept. output_closed c.args.frame.now c.stop.new.world c.args.next r put.chan (exp put.value.now) (is_closed c.is_closed-closed.result _ c.is_closed-closed.ensures c.if-closed.true) stop Γ)
+    (λ r stop Γ around kept. output_closed c.args.frame.now c.stop.new.self c.args.next r put.chan (exp put.value.now) (is_closed c.is_closed-closed.result _ c.is_closed-closed.ensures c.if-closed.true) stop Γ)
     c.stop.ensures.stop
 
 pub returns-then-closed-clause-after : goal.returns-then-closed-clause-after
@@ -62,6 +58,6 @@ returns-then-closed-clause-after c =
     let f = c.args.frame.now in
     let put = c.args.put.now in
     IfOk-weaker c.stop.result _ _
-    (λ r stop. send_done f c.args.world.now c.stop.new.world c.stop.ensures.extends c.args.next c.requires.next put.chan r (exp put.value.now)
-    (λ Γ around kept. output_closed f c.stop.new.world c.args.next r put.chan (exp put.value.now) (is_closed c.is_closed-closed.result _ c.is_closed-closed.ensures c.if-closed.true) stop Γ))
+    (λ r stop. send_done f c.args.world.now c.stop.new.self c.stop.ensures.extends c.args.next c.requires.next put.chan r (exp put.value.now)
+    (λ Γ around kept. output_closed f c.stop.new.self c.args.next r put.chan (exp put.value.now) (is_closed c.is_closed-closed.result _ c.is_closed-closed.ensures c.if-closed.true) stop Γ))
     c.stop.ensures.stop

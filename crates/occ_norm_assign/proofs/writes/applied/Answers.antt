@@ -13,16 +13,16 @@ pub substituted-requires-clause-map : goal.substituted-requires-clause-map
 substituted-requires-clause-map c = has_nodes-extends c.args.world.now c.are_joint.new.world c.are_joint.ensures.extends c.args.rest c.requires.rest
 
 pub substituted-requires-clause-memo : goal.substituted-requires-clause-memo
-substituted-requires-clause-memo c = keep_substituted_none c.are_joint.new.world c.args.writes.now c.new-memo.result c.new-memo.ensures
-
-pub substituted-requires-clause-writes : goal.substituted-requires-clause-writes
-substituted-requires-clause-writes c = writes-extend c.args.world.now c.are_joint.new.world c.are_joint.ensures.extends c.args.writes.now c.requires.writes
+substituted-requires-clause-memo c =
+    let u = c.args.world.now in
+    let v = c.are_joint.new.world in
+    keep_substituted_none v c.args.writes.now c.new-memo.result (writes-extend u v c.are_joint.ensures.extends c.args.writes.now c.requires.writes) c.new-memo.ensures
 
 pub loop-write-init : goal.loop-write-init
 loop-write-init c = record {
   extends = extends_refl c.substituted.new.world;
   nodes = c.in_ok-map.ensures.substituted.has;
-  writes = writes-extend c.args.world.now c.substituted.new.world (extends_trans c.args.world.now c.are_joint.new.world c.substituted.new.world c.are_joint.ensures.extends c.substituted.ensures.extends) c.args.writes.now c.requires.writes;
+  writes = c.substituted.ensures.memo.known;
   changed = changed_start c.substituted.new.world c.substituted.new.world.store c.args.keep c.args.writes.now c.in_ok-map.map c.in_ok-map.ensures.substituted.has;
 }
 
@@ -33,8 +33,7 @@ loop-write-preserved c = record {
   writes = writes-extend c.loop-write.world c.written.new.world c.written.ensures.extends _ c.loop-write.invariant.writes;
   changed = subst (λ n. IsChanged c.written.new.world (change_by c.substituted.new.world.store c.args.keep (take n c.args.writes.now)) c.in_ok-map.map c.in_ok-next.next) (sym (add-one c.loop-write.write-index))
       (changed_more c.substituted.new.world c.loop-write.world c.written.new.world c.loop-write.invariant.extends c.written.ensures.extends c.args.keep c.args.writes.now
-      (writes-extend c.args.world.now c.substituted.new.world (extends_trans c.args.world.now c.are_joint.new.world c.substituted.new.world c.are_joint.ensures.extends c.substituted.ensures.extends) c.args.writes.now c.requires.writes)
-      c.loop-write.write-index (get_or c.args.writes.now c.loop-write.write-index no_write) no_write
+      c.substituted.ensures.memo.known c.loop-write.write-index (get_or c.args.writes.now c.loop-write.write-index no_write) no_write
       c.in_ok-map.map c.loop-write.map c.in_ok-next.next (omega arith) refl
       (has_nodes-extends c.substituted.new.world c.loop-write.world c.loop-write.invariant.extends c.in_ok-map.map c.in_ok-map.ensures.substituted.has)
       c.loop-write.invariant.nodes c.loop-write.invariant.changed c.in_ok-next.ensures.changed);
@@ -43,8 +42,7 @@ loop-write-preserved c = record {
 pub returns-clause-applied : goal.returns-clause-applied
 returns-clause-applied c =
     applied_from c.substituted.new.world c.loop-write.world c.loop-write.invariant.extends c.args.writes.now
-    (writes-extend c.args.world.now c.substituted.new.world (extends_trans c.args.world.now c.are_joint.new.world c.substituted.new.world c.are_joint.ensures.extends c.substituted.ensures.extends) c.args.writes.now c.requires.writes)
-    c.args.keep c.args.rest c.in_ok-map.map c.loop-write.map
+    c.substituted.ensures.memo.known c.args.keep c.args.rest c.in_ok-map.map c.loop-write.map
     c.in_ok-map.ensures.substituted
     c.loop-write.write-index c.loop-write-test.false c.loop-write.invariant.changed
 
@@ -54,14 +52,14 @@ returns-clause-extends c = extends_trans c.args.world.now c.substituted.new.worl
 pub map-requires-clause-map : goal.map-requires-clause-map
 map-requires-clause-map c =
     let u = c.args.world.now in
-    let v = c.stop.new.world in
+    let v = c.stop.new.self in
     has_nodes-extends u v (extends_trans u c.are_joint.new.world v c.are_joint.ensures.extends c.stop.ensures.extends) c.args.rest c.requires.rest
 
 pub map-requires-clause-exchange : goal.map-requires-clause-exchange
 map-requires-clause-exchange c =
     let u = c.args.world.now in
     let j = c.are_joint.new.world in
-    let v = c.stop.new.world in
+    let v = c.stop.new.self in
     let writes = c.args.writes.now in
     record {
       writes_known = writes-extend u v (extends_trans u j v c.are_joint.ensures.extends c.stop.ensures.extends) writes c.requires.writes;
@@ -73,7 +71,7 @@ map-requires-clause-exchange c =
 pub returns-then-joint-clause-applied : goal.returns-then-joint-clause-applied
 returns-then-joint-clause-applied c =
     let u = c.args.world.now in
-    let v = c.stop.new.world in
+    let v = c.stop.new.self in
     let w = c.map.new.world in
     let k = extends_trans u v w (extends_trans u c.are_joint.new.world v c.are_joint.ensures.extends c.stop.ensures.extends) c.map.ensures.extends in
     IfOk-weaker c.map.result _ _

@@ -9,4 +9,4 @@ pub loop-below-init : goal.loop-below-init
 loop-below-init c = record { extends = extends_refl c.args.world.now }
 
 pub loop-below-preserved : goal.loop-below-preserved
-loop-below-preserved c = record { extends = extends_trans c.args.world.now c.loop-below.world c.is_free.new.world c.loop-below.invariant.extends c.is_free.ensures.extends }
+loop-below-preserved c = record { extends = extends_trans c.args.world.now c.loop-below.world c.is_free.new.self c.loop-below.invariant.extends c.is_free.ensures.extends }

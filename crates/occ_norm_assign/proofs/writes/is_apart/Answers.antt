@@ -13,15 +13,15 @@ is_free-requires-clause-bit c = (c.requires.others c.loop-place.place no_write (
 
 pub loop-place-init : goal.loop-place-init
 loop-place-init c = record {
-  extends = extends_trans c.args.world.now c.changed.new.world c.is_above.new.world c.changed.ensures.extends c.is_above.ensures;
-  set = set_still c.changed.new.world.store c.is_above.new.world.store c.is_above.ensures.grows.stored c.in_ok-set.set (is_changed c.args.world.now.store c.args.write) c.in_ok-set.ensures.set;
+  extends = extends_trans c.args.world.now c.changed.new.self c.is_above.new.world c.changed.ensures.extends c.is_above.ensures;
+  set = set_still c.changed.new.self.store c.is_above.new.world.store c.is_above.ensures.grows.stored c.in_ok-set.set (is_changed c.args.world.now.store c.args.write) c.in_ok-set.ensures.set;
   free = tt;
 }
 
 pub loop-place-preserved : goal.loop-place-preserved
 loop-place-preserved c = record {
-  extends = extends_trans c.args.world.now c.loop-place.world c.is_free.new.world c.loop-place.invariant.extends c.is_free.ensures.extends;
-  set = set_still c.loop-place.world.store c.is_free.new.world.store c.is_free.ensures.extends.grows.stored c.in_ok-set.set (is_changed c.args.world.now.store c.args.write) c.loop-place.invariant.set;
+  extends = extends_trans c.args.world.now c.loop-place.world c.is_free.new.self c.loop-place.invariant.extends c.is_free.ensures.extends;
+  set = set_still c.loop-place.world.store c.is_free.new.self.store c.is_free.ensures.extends.grows.stored c.in_ok-set.set (is_changed c.args.world.now.store c.args.write) c.loop-place.invariant.set;
   free = free_next c.args.world.now.store c.args.write c.args.others.now c.loop-place.place no_write (omega arith) c.loop-place.invariant.free
       (λ x. sym (c.loop-place.invariant.set.members _) ∙ c.in_ok-free.ensures.free c.if-not-free.false x ∙ c.loop-place.invariant.set.members x);
 }

@@ -10,7 +10,7 @@ use Rattle.occ_norm_assign.proofs.Assigning.{step_none, step_some}
 use Rattle.occ_norm_assign.proofs.writes.written.Goals as goal
 
 pub turned_on-requires-clause-map : goal.turned_on-requires-clause-map
-turned_on-requires-clause-map c = (has_nodes-extends c.args.world.now c.changed.new.world c.changed.ensures.extends c.args.map c.requires.map)
+turned_on-requires-clause-map c = (has_nodes-extends c.args.world.now c.changed.new.self c.changed.ensures.extends c.args.map c.requires.map)
 
 pub returns-then-not-has_bit-clause-changed : goal.returns-then-not-has_bit-clause-changed
 returns-then-not-has_bit-clause-changed c = changed_none c.args.world.now (step c.args.world.now.store c.args.keep c.args.write) c.args.map c.requires.map
@@ -19,8 +19,8 @@ returns-then-not-has_bit-clause-changed c = changed_none c.args.world.now (step 
 pub returns-clause-changed : goal.returns-clause-changed
 returns-clause-changed c =
     IfOk-weaker c.turned_on.result
-    (IsChanged c.turned_on.new.world (λ x. cond (has c.changed.new.world.store c.in_ok-changed.changed x) (2 ^ c.args.write.bit) 0) c.args.map)
+    (IsChanged c.turned_on.new.world (λ x. cond (has c.changed.new.self.store c.in_ok-changed.changed x) (2 ^ c.args.write.bit) 0) c.args.map)
     (IsChanged c.turned_on.new.world (step c.args.world.now.store c.args.keep c.args.write) c.args.map)
-    (λ r is. changed_by c.turned_on.new.world (λ x. cond (has c.changed.new.world.store c.in_ok-changed.changed x) (2 ^ c.args.write.bit) 0) (step c.args.world.now.store c.args.keep c.args.write) c.args.map r
-    (λ x. step_some c.args.world.now.store c.changed.new.world.store c.args.keep c.args.write c.in_ok-changed.changed x (sym c.has_bit.ensures ∙ c.if-not-has_bit.false) c.in_ok-changed.ensures.set) is)
+    (λ r is. changed_by c.turned_on.new.world (λ x. cond (has c.changed.new.self.store c.in_ok-changed.changed x) (2 ^ c.args.write.bit) 0) (step c.args.world.now.store c.args.keep c.args.write) c.args.map r
+    (λ x. step_some c.args.world.now.store c.changed.new.self.store c.args.keep c.args.write c.in_ok-changed.changed x (sym c.has_bit.ensures ∙ c.if-not-has_bit.false) c.in_ok-changed.ensures.set) is)
     c.turned_on.ensures.changed

@@ -7,5 +7,5 @@ use Rattle.occ_norm_ending.proofs.ends.ending.Goals as goal
 pub returns-clause-ending : goal.returns-clause-ending
 returns-clause-ending c =
     ending_made c.rebased.new.world c.args.all c.args.keep c.in_ok-ended.ended c.in_ok-ending.ending
-    (skip_later c.skip.new.world c.rebased.new.world c.rebased.ensures.extends c.args.all c.in_ok-ended.ended c.in_ok-ended.ensures.skip)
+    (skip_later c.skip.new.self c.rebased.new.world c.rebased.ensures.extends c.args.all c.in_ok-ended.ended c.in_ok-ended.ensures.skip)
     (changed_by c.rebased.new.world _ _ c.in_ok-ended.ended c.in_ok-ending.ending (λ x. ap (bit_and x) c.except-values.ensures) c.in_ok-ending.ensures.changed)

@@ -8,4 +8,4 @@ pub loop-place-init : goal.loop-place-init
 loop-place-init c = record { extends = extends_refl c.args.world.now }
 
 pub loop-place-preserved : goal.loop-place-preserved
-loop-place-preserved c = record { extends = extends_trans c.args.world.now c.loop-place.world c.depends.new.world c.loop-place.invariant.extends c.depends.ensures.extends }
+loop-place-preserved c = record { extends = extends_trans c.args.world.now c.loop-place.world c.depends.new.self c.loop-place.invariant.extends c.depends.ensures.extends }

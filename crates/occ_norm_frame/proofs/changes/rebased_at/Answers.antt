@@ -12,13 +12,13 @@ pub turned_on-requires-clause-set : goal.turned_on-requires-clause-set
 turned_on-requires-clause-set c = c.in_ok-set.ensures.set.known
 
 pub turned_on-requires-clause-map : goal.turned_on-requires-clause-map
-turned_on-requires-clause-map c = (has_nodes-extends c.args.world.now c.bit_set.new.world c.bit_set.ensures.extends c.args.map c.requires.map)
+turned_on-requires-clause-map c = (has_nodes-extends c.args.world.now c.bit.new.self c.bit.ensures.extends c.args.map c.requires.map)
 
 pub returns-clause-changed : goal.returns-clause-changed
 returns-clause-changed c = IfOk-weaker c.turned_on.result
-    (λ r. IsChanged c.turned_on.new.world (λ x. if has c.bit_set.new.world.store c.in_ok-set.set x then 2 ^ c.args.bit else 0) c.args.map r)
+    (λ r. IsChanged c.turned_on.new.world (λ x. if has c.bit.new.self.store c.in_ok-set.set x then 2 ^ c.args.bit else 0) c.args.map r)
     (λ r. IsChanged c.turned_on.new.world (λ x. bit_and x (bit_and c.args.bits (2 ^ c.args.bit))) c.args.map r)
-    (λ r is. changed_by c.turned_on.new.world _ _ c.args.map r (λ x. one_change x c.args.bits c.args.bit (has c.bit_set.new.world.store c.in_ok-set.set x) (c.in_ok-set.ensures.set.members x) (sym c.has_bit.ensures ∙ c.if-not-has_bit.false)) is)
+    (λ r is. changed_by c.turned_on.new.world _ _ c.args.map r (λ x. one_change x c.args.bits c.args.bit (has c.bit.new.self.store c.in_ok-set.set x) (c.in_ok-set.ensures.set.members x) (sym c.has_bit.ensures ∙ c.if-not-has_bit.false)) is)
     c.turned_on.ensures.changed
 
 pub returns-then-not-has_bit-clause-changed : goal.returns-then-not-has_bit-clause-changed

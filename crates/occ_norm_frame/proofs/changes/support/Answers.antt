@@ -18,8 +18,8 @@ loop-bit-init c = record { extends = extends_refl c.args.world.now; support = su
 
 pub loop-bit-preserved : goal.loop-bit-preserved
 loop-bit-preserved c = record {
-  extends = extends_trans c.args.world.now c.loop-bit.world c.depends.new.world c.loop-bit.invariant.extends c.depends.ensures.extends;
-  support = subst (λ n. IsSupport c.depends.new.world (c.loop-bit.bit + 1) c.args.map (bit_or c.loop-bit.bits (n * 2 ^ c.loop-bit.bit % 2 ^ 64))) (sym (c.from.ensures ∙ byte_is c.in_ok-matters.matters)) (support_more c.loop-bit.world c.depends.new.world c.args.map c.loop-bit.bits c.loop-bit.bit c.in_ok-matters.matters c.depends.ensures.extends
+  extends = extends_trans c.args.world.now c.loop-bit.world c.depends.new.self c.loop-bit.invariant.extends c.depends.ensures.extends;
+  support = subst (λ n. IsSupport c.depends.new.self (c.loop-bit.bit + 1) c.args.map (bit_or c.loop-bit.bits (n * 2 ^ c.loop-bit.bit % 2 ^ 64))) (sym (c.from.ensures ∙ byte_is c.in_ok-matters.matters)) (support_more c.loop-bit.world c.depends.new.self c.args.map c.loop-bit.bits c.loop-bit.bit c.in_ok-matters.matters c.depends.ensures.extends
       (has_nodes-extends c.args.world.now c.loop-bit.world c.loop-bit.invariant.extends c.args.map c.requires.map) (omega arith) c.loop-bit.invariant.support c.in_ok-matters.ensures.independent);
 }
 

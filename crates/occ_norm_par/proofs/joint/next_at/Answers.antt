@@ -16,8 +16,8 @@ returns-then-has_bit-clause-stepped c = step_written c.args.world.now c.args.joi
 
 pub returns-clause-stepped : goal.returns-clause-stepped
 returns-clause-stepped c = ok_both c.cofactor.result _ _ _
-    (λ r is known. step_same c.cofactor.new.world c.args.joint c.args.bit (digit c.args.one) c.args.next r
-    (has_nodes-extends c.args.world.now c.cofactor.new.world c.cofactor.ensures.extends c.args.next c.requires.next) known
+    (λ r is known. step_same c.cofactor.new.self c.args.joint c.args.bit (digit c.args.one) c.args.next r
+    (has_nodes-extends c.args.world.now c.cofactor.new.self c.cofactor.ensures.extends c.args.next c.requires.next) known
     (one_is c.args.joint.needed c.args.bit (sym c.has_bit.ensures ∙ c.if-not-has_bit.false))
     (zero_is c.args.joint.written c.args.bit (sym c.has_bit-2.ensures ∙ c.if-has_bit.false))
     (λ z. is.values z ∙ sym (c.cofactor.ensures.extends.maps.same c.args.next _ c.requires.next.known)))

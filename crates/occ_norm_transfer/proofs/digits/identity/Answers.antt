@@ -1,10 +1,15 @@
 use Rattle.std.proofs.Common.{refl}
 use Rattle.occ_node.proofs.Table.{rows-keeps}
-use Rattle.occ_norm_maps.proofs.Worlds.{extends_rows, maps_refl}
+use Rattle.occ_norm_maps.proofs.Worlds.{extends_sets, right_sets}
 use Rattle.occ_norm_transfer.proofs.digits.identity.Goals as goal
 
+pub invariant_of-world-inside : goal.invariant_of-world-inside
+invariant_of-world-inside c =
+    let w = c.world.inside.lifting.weaver.world in
+    record { right = rows-keeps w.store c.identity.new.store c.identity.ensures.keeps w.rows.keys w.right }
+
 pub invariant_of-world : goal.invariant_of-world
-invariant_of-world c = record { right = rows-keeps c.args.world.now.store c.identity.new.store c.identity.ensures.keeps c.args.world.now.rows.keys c.args.world.now.right }
+invariant_of-world c = right_sets c.world.inside.lifting _ c.identity.ensures.keeps refl refl c.world.invariant
 
 pub returns-clause-extends : goal.returns-clause-extends
-returns-clause-extends c = extends_rows c.args.world.now _ c.identity.ensures.keeps refl (maps_refl c.args.world.now)
+returns-clause-extends c = extends_sets _ c.args.world.now _ c.world.view_is c.identity.ensures.keeps refl refl

@@ -12,8 +12,8 @@ returns-then-left-eq0-clause-spread t c =
     let h = one_within c.args.left c.args.first _ c.if-left-eq0.true c.requires.within in
     let got = slice_get-get_or nodes c.args.first (record { 0 = 0 }) h in
     IfOk-weaker c.constant.result _ _
-    (λ r is. spread_one c.constant.new.world nodes c.args.left c.args.first (get_or nodes c.args.first (record { 0 = 0 })) r c.if-left-eq0.true got
-    (node_grow c.args.world.now c.constant.new.world c.constant.ensures.extends.grows (get_or nodes c.args.first (record { 0 = 0 })) (c.requires.there c.args.first (get_or nodes c.args.first (record { 0 = 0 })) got)) is)
+    (λ r is. spread_one c.constant.new.self nodes c.args.left c.args.first (get_or nodes c.args.first (record { 0 = 0 })) r c.if-left-eq0.true got
+    (node_grow c.args.world.now c.constant.new.self c.constant.ensures.extends.grows (get_or nodes c.args.first (record { 0 = 0 })) (c.requires.there c.args.first (get_or nodes c.args.first (record { 0 = 0 })) got)) is)
     c.constant.ensures.map
 
 pub spread-requires : goal.spread-requires
@@ -34,7 +34,7 @@ spread-requires-2 t c = (
 
 pub returns-clause-spread : goal.returns-clause-spread
 returns-clause-spread t c =
-    spread_made c.spread.new.world c.spread-2.new.world c.bit_set.new.world c.choose.new.world c.spread-2.ensures.extends c.bit_set.ensures.extends c.choose.ensures.extends
+    spread_made c.spread.new.world c.spread-2.new.world c.bit.new.self c.choose.new.self c.spread-2.ensures.extends c.bit.ensures.extends c.choose.ensures.extends
     c.args.nodes.now (c.args.left - 1) c.args.left c.args.first _ c.in_ok-low.low c.in_ok-high.high c.in_ok-map.map c.in_ok-set.set (omega (arith, c.if-left-eq0.false))
     (ap (λ n. c.args.first + n) (one_shl (c.args.left - 1) 64 (omega (arith, c.requires.left)))) c.in_ok-set.ensures.set c.in_ok-low.ensures.spread c.in_ok-high.ensures.spread c.in_ok-map.ensures.map
     c.in_ok-map.ensures.nodes

@@ -1,13 +1,11 @@
 use Rattle.std.proofs.Common.{◌≤◌, length}
 use Rattle.occ_node.specs.World.{Leads}
-use Rattle.occ_scope.specs.Tables.{KeepShifted}
 use Rattle.occ_norm_transfer.specs.Lists.{AreLed}
 use Rattle.occ_norm_transfer.proofs.laid.led.Given as goal
 
 abbrev pub invariant-loop-place : goal.invariant-loop-place
 invariant-loop-place l = record {
   goes : Leads l.fn.world l.world;
-  shifts : KeepShifted l.world l.shifts;
   most : l.place ≤ length l.to;
   led : AreLed l.world l.keep l.to l.rest l.place l.nodes.items;
 }

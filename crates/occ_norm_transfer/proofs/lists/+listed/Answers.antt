@@ -74,7 +74,7 @@ pub listed_choices-holds-requires : goal.listed_choices-holds-requires
 listed_choices-holds-requires t c = case_condition c.args.frame.now.vars c.args.frame.now.layout c.args.frame.now.bits c.args.frame.now.kept c.args.choices.now (c.loop-left.left - 1) c.index-choices-left.result c.requires.choices (omega (arith, c.loop-left.invariant.below, c.loop-left-test.true)) c.index-choices-left.is
 
 pub listed_choices-pick-requires-clause-set : goal.listed_choices-pick-requires-clause-set
-listed_choices-pick-requires-clause-set t c = known-keeps c.holds.new.world.store c.without.new.world.store c.without.ensures.extends.grows.stored c.in_ok-set.set c.in_ok-set.ensures.set.known
+listed_choices-pick-requires-clause-set t c = known-keeps c.holds.new.world.store c.without.new.self.store c.without.ensures.extends.grows.stored c.in_ok-set.set c.in_ok-set.ensures.set.known
 
 pub listed_choices-pick-requires-clause-there : goal.listed_choices-pick-requires-clause-there
 listed_choices-pick-requires-clause-there t c =
@@ -91,7 +91,7 @@ listed_choices-loop-left-preserved t c =
     let v = c.loop-left.world in
     let a = c.listed.new.world in
     let b = c.holds.new.world in
-    let w = c.without.new.world in
+    let w = c.without.new.self in
     let va = c.listed.ensures.extends in
     let ab = c.holds.ensures.extends in
     let bw = c.without.ensures.extends in

@@ -9,16 +9,16 @@ loop-place-init c = record { extends = extends_refl c.args.world.now; written = 
 
 pub loop-place-preserved : goal.loop-place-preserved
 loop-place-preserved c = record {
-  extends = extends_trans c.args.world.now c.loop-place.world c.bit_set.new.world c.loop-place.invariant.extends c.bit_set.ensures.extends;
-  written = written_more c.loop-place.world c.bit_set.new.world c.bit_set.ensures.extends c.args.digits.now c.loop-place.place none c.loop-place.writes.items c.push.new.self.items
+  extends = extends_trans c.args.world.now c.loop-place.world c.bit.new.self c.loop-place.invariant.extends c.bit.ensures.extends;
+  written = written_more c.loop-place.world c.bit.new.self c.bit.ensures.extends c.args.digits.now c.loop-place.place none c.loop-place.writes.items c.push.new.self.items
       (digits-keep c.args.world.now.store c.loop-place.world.store c.loop-place.invariant.extends.grows.stored c.args.digits.now c.requires.digits)
       (omega (arith, c.requires.digits.count)) c.in_ok-push.ensures.items c.loop-place.invariant.written;
 }
 
 pub loop-place-preserved-then-set-stays : goal.loop-place-preserved-then-set-stays
 loop-place-preserved-then-set-stays c = record {
-  extends = extends_trans c.args.world.now c.loop-place.world c.bit_set.new.world c.loop-place.invariant.extends c.bit_set.ensures.extends;
-  written = written_same c.loop-place.world c.bit_set.new.world c.bit_set.ensures.extends c.args.digits.now c.loop-place.place none c.in_ok-stays.stays c.loop-place.writes.items
+  extends = extends_trans c.args.world.now c.loop-place.world c.bit.new.self c.loop-place.invariant.extends c.bit.ensures.extends;
+  written = written_same c.loop-place.world c.bit.new.self c.bit.ensures.extends c.args.digits.now c.loop-place.place none c.in_ok-stays.stays c.loop-place.writes.items
       (digits-keep c.args.world.now.store c.loop-place.world.store c.loop-place.invariant.extends.grows.stored c.args.digits.now c.requires.digits)
       (omega (arith, c.requires.digits.count)) c.in_ok-stays.ensures.set c.if-set-stays.true c.loop-place.invariant.written;
 }

@@ -15,18 +15,18 @@ within-requires-clause-other t c = subst (λ ds. IsKnown c.args.world.now.store 
 pub of_block-requires : goal.of_block-requires
 of_block-requires t c =
     let u = c.args.world.now in
-    let v = c.without.new.world in
-    let grow = extends_trans u c.within.new.world v c.within.ensures.extends c.without.ensures.extends in
-    let with_known = set-extends c.within.new.world v c.without.ensures.extends c.in_ok-with.with c.in_ok-with.ensures.set.known in
+    let v = c.without.new.self in
+    let grow = extends_trans u c.within.new.self v c.within.ensures.extends c.without.ensures.extends in
+    let with_known = set-extends c.within.new.self v c.without.ensures.extends c.in_ok-with.with c.in_ok-with.ensures.set.known in
     let smaller = c.high-upper.ensures.left in
     (omega (arith, c.decreases, smaller), (omega (arith, c.requires.left, smaller), (sets-extend u v grow c.args.self.now.digits c.requires.digits, (with_known, has_nodes-extends u v grow c.args.self.now.next c.requires.next))))
 
 pub of_block-requires-2 : goal.of_block-requires-2
 of_block-requires-2 t c =
     let u = c.args.world.now in
-    let v = c.without.new.world in
+    let v = c.without.new.self in
     let w = c.of_block.new.world in
-    let grow = extends_trans u v w (extends_trans u c.within.new.world v c.within.ensures.extends c.without.ensures.extends) c.of_block.ensures.extends in
+    let grow = extends_trans u v w (extends_trans u c.within.new.self v c.within.ensures.extends c.without.ensures.extends) c.of_block.ensures.extends in
     let outside_known = set-extends v w c.of_block.ensures.extends c.in_ok-outside.outside c.in_ok-outside.ensures.set.known in
     let smaller = c.low-lower.ensures.left in
     (omega (arith, c.decreases, smaller), (omega (arith, c.requires.left, smaller), (sets-extend u w grow c.args.self.now.digits c.requires.digits, (outside_known, has_nodes-extends u w grow c.args.self.now.next c.requires.next))))
@@ -34,17 +34,17 @@ of_block-requires-2 t c =
 pub returns-clause-extends : goal.returns-clause-extends
 returns-clause-extends t c =
     let u = c.args.world.now in
-    let v = c.without.new.world in
+    let v = c.without.new.self in
     let w = c.of_block-2.new.world in
-    let grow = extends_trans u v c.of_block.new.world (extends_trans u c.within.new.world v c.within.ensures.extends c.without.ensures.extends) c.of_block.ensures.extends in
-    extends_trans u w c.choose.new.world (extends_trans u c.of_block.new.world w grow c.of_block-2.ensures.extends) c.choose.ensures.extends
+    let grow = extends_trans u v c.of_block.new.world (extends_trans u c.within.new.self v c.within.ensures.extends c.without.ensures.extends) c.of_block.ensures.extends in
+    extends_trans u w c.choose.new.self (extends_trans u c.of_block.new.world w grow c.of_block-2.ensures.extends) c.choose.ensures.extends
 
 pub returns-clause-nodes : goal.returns-clause-nodes
 returns-clause-nodes t c = c.choose.ensures.nodes (has_nodes-extends c.of_block.new.world c.of_block-2.new.world c.of_block-2.ensures.extends c.in_ok-high.high c.in_ok-high.ensures.nodes) c.in_ok-low.ensures.nodes
 
 pub returns-then-eq-clause-outputs : goal.returns-then-eq-clause-outputs
 returns-then-eq-clause-outputs t c = IfOk-weaker c.stop.result _ _
-    (λ r stop. no_outputs c.stop.new.world c.args.self.now.chan (has c.args.world.now.store c.args.set) _ c.args.self.now.next r
+    (λ r stop. no_outputs c.stop.new.self c.args.self.now.chan (has c.args.world.now.store c.args.set) _ c.args.self.now.next r
     (empty_set c.args.world.now.store c.args.set c.empty.result c.empty.ensures (sym c.eq.ensures ∙ c.if-eq.true)))
     c.stop.ensures.stop
 
@@ -65,15 +65,15 @@ returns-clause-outputs t c =
     let place = lower.left in
     let same : upper.left ≡ place = omega (arith, c.low-lower.ensures.left, c.high-upper.ensures.left) in
     let u = c.args.world.now in
-    let a = c.within.new.world in
-    let b = c.without.new.world in
+    let a = c.within.new.self in
+    let b = c.without.new.self in
     let d = c.of_block.new.world in
     let e = c.of_block-2.new.world in
     let digit = get_or c.bits.result.now place (record { 0 = 0 }) in
     let here : digit ≡ get_or o.digits place (record { 0 = 0 }) = ap (λ ds. get_or ds place (record { 0 = 0 })) c.bits.ensures.bits in
     let known : IsKnown u.store digit = subst (IsKnown u.store) (sym here) (c.requires.digits place (record { 0 = 0 }) (omega (arith, c.low-lower.ensures.left, c.requires.left))) in
     IfOk-weaker c.choose.result _ _
-    (λ r made. outputs_more u b d e c.choose.new.world (extends_trans u a b c.within.ensures.extends c.without.ensures.extends) c.of_block.ensures.extends c.of_block-2.ensures.extends c.choose.ensures.extends
+    (λ r made. outputs_more u b d e c.choose.new.self (extends_trans u a b c.within.ensures.extends c.without.ensures.extends) c.of_block.ensures.extends c.of_block-2.ensures.extends c.choose.ensures.extends
     o.chan o.digits block.left place block.base upper.base c.args.set digit (record { 0 = 0 }) c.in_ok-with.with c.in_ok-outside.outside o.next c.in_ok-high.high c.in_ok-low.low r
     c.requires.digits c.low-lower.ensures.left c.requires.left here (c.high-upper.ensures.base ∙ ap (λ n. block.base + 2 ^ n) same) known
     (within_later a b c.without.ensures.extends c.in_ok-with.with _ c.in_ok-with.ensures.set)

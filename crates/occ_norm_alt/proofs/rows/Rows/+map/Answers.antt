@@ -9,7 +9,7 @@ returns-then-left-eq0-clause-rows t c =
     let i = c.args.self.inputs in
     let next = c.args.self.next in
     IfOk-weaker c.constant.result _ _
-    (λ r is. rows_one c.row_at.new.world c.constant.new.world c.constant.ensures.extends i.chan i.first i.bits next c.args.left c.args.state c.in_ok-node.node r
+    (λ r is. rows_one c.row_at.new.world c.constant.new.self c.constant.ensures.extends i.chan i.first i.bits next c.args.left c.args.state c.in_ok-node.node r
     i.within c.ranges.state.fits (has_nodes-extends c.args.world.now c.row_at.new.world c.row_at.ensures.extends next c.requires.next) c.if-left-eq0.true c.in_ok-node.ensures.row is)
     c.constant.ensures.map
 
@@ -30,7 +30,7 @@ map-requires-3 t c = (
 pub returns-clause-rows : goal.returns-clause-rows
 returns-clause-rows t c =
     let i = c.args.self.inputs in
-    rows_both c.args.world.now c.map-2.new.world c.map-3.new.world c.bit_set.new.world c.choose.new.world
-    c.map-2.ensures.extends c.map-3.ensures.extends c.bit_set.ensures.extends c.choose.ensures.extends
+    rows_both c.args.world.now c.map-2.new.world c.map-3.new.world c.bit.new.self c.choose.new.self
+    c.map-2.ensures.extends c.map-3.ensures.extends c.bit.ensures.extends c.choose.ensures.extends
     i.chan i.first i.bits c.args.self.next (c.args.left - 1) c.args.left c.args.state _ _ c.in_ok-low.low c.in_ok-high.high c.in_ok-map.map c.in_ok-set.set (omega (arith, c.if-left-eq0.false)) i.within c.requires.next
     c.with_bit-zero.ensures c.with_bit-one.ensures c.in_ok-set.ensures.set c.in_ok-low.ensures.rows c.in_ok-high.ensures.rows c.in_ok-map.ensures.map c.in_ok-map.ensures.nodes

@@ -11,7 +11,7 @@ use Rattle.occ_norm_assign.proofs.writes.Exchange.+map.Goals as goal
 
 pub returns-then-left-eq0-clause-exchanged : goal.returns-then-left-eq0-clause-exchanged
 returns-then-left-eq0-clause-exchanged t c =
-    let w = c.shifted.new.world in
+    let w = c.shifted.new.self in
     IfOk-weaker c.shifted.result _ _
     (λ r is. exchanged_none w c.args.self.now.writes.now c.args.self.now.keep c.args.left c.args.change c.args.map r c.if-left-eq0.true (changed_all w c.args.change c.args.map r is))
     c.shifted.ensures.shifted
@@ -64,7 +64,7 @@ returns-clause-exchanged t c =
     let keep = c.args.self.now.keep in
     let here = get_or writes (c.args.left - 1) no_write in
     IfOk-weaker c.choose.result _ _
-    (λ r made. exchanged_more c.args.world.now c.parted.new.world c.map.new.world c.map-2.new.world c.choose.new.world c.parted.ensures.extends c.map.ensures.extends c.map-2.ensures.extends c.choose.ensures.extends
+    (λ r made. exchanged_more c.args.world.now c.parted.new.world c.map.new.world c.map-2.new.world c.choose.new.self c.parted.ensures.extends c.map.ensures.extends c.map-2.ensures.extends c.choose.ensures.extends
     writes c.args.self.now.other c.requires.exchange keep (c.args.left - 1) c.args.left c.args.change _ c.args.map c.in_ok-high.high c.in_ok-low.low r c.in_ok-parts.parts
     (omega (arith, c.requires.left, c.if-left-eq0.false)) (omega (arith, c.if-left-eq0.false))
     (ap (λ p. bit_xor c.args.change (bit_and keep p)) (one_shl here.bit 64 (c.requires.exchange.writes_known (c.args.left - 1) no_write (omega (arith, c.requires.left, c.if-left-eq0.false))).within))
@@ -77,4 +77,4 @@ returns-clause-extends t c =
     let p = c.parted.new.world in
     let h = c.map.new.world in
     let l = c.map-2.new.world in
-    extends_trans u l c.choose.new.world (extends_trans u h l (extends_trans u p h c.parted.ensures.extends c.map.ensures.extends) c.map-2.ensures.extends) c.choose.ensures.extends
+    extends_trans u l c.choose.new.self (extends_trans u h l (extends_trans u p h c.parted.ensures.extends c.map.ensures.extends) c.map-2.ensures.extends) c.choose.ensures.extends

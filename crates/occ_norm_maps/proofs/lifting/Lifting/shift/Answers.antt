@@ -11,8 +11,8 @@ returns-in_err-turned-clause-goes c =
     record {
       leads = leads;
       step = refl;
-      right = λ h. remembers-lead _ _ c.args.self.now.weaver w _ leads (unions-lead v w c.args.self.now.weaver.unions leads h.unions) h;
-      shifts = λ h. c.shift_with.ensures.shifts;
+      manner = refl;
+      right = λ h. (remembers-lead _ _ c.args.self.now.weaver w _ leads (unions-lead v w c.args.self.now.weaver.unions leads h.0.unions) h.0, c.shift_with.ensures.shifts);
     }
 
 pub returns-clause-goes : goal.returns-clause-goes
@@ -23,6 +23,6 @@ returns-clause-goes c =
     record {
       leads = leads;
       step = refl;
-      right = λ h. remembers-lead _ _ c.args.self.now.weaver w _ leads (unions-lead v w c.args.self.now.weaver.unions leads h.unions) h;
-      shifts = λ h. c.shift_with.ensures.shifts;
+      manner = refl;
+      right = λ h. (remembers-lead _ _ c.args.self.now.weaver w _ leads (unions-lead v w c.args.self.now.weaver.unions leads h.0.unions) h.0, c.shift_with.ensures.shifts);
     }

@@ -11,20 +11,20 @@ use Rattle.occ_norm_par.proofs.joint.Known.+sequel.Goals as goal
 
 -- one half
 pub half-next_at-requires-clause-next : goal.half-next_at-requires-clause-next
-half-next_at-requires-clause-next t c = has_nodes-extends c.args.world.now c.cofactor.new.world c.cofactor.ensures.extends c.args.stage.next c.requires.next
+half-next_at-requires-clause-next t c = has_nodes-extends c.args.world.now c.cofactor.new.self c.cofactor.ensures.extends c.args.stage.next c.requires.next
 
 pub half-returns-in_err-map-clause-memo : goal.half-returns-in_err-map-clause-memo
-half-returns-in_err-map-clause-memo t c = joints_grow c.args.world.now c.cofactor.new.world c.cofactor.ensures.extends c.args.joint c.args.self.now.memo c.requires.memo
+half-returns-in_err-map-clause-memo t c = joints_grow c.args.world.now c.cofactor.new.self c.cofactor.ensures.extends c.args.joint c.args.self.now.memo c.requires.memo
 
 pub half-returns-in_err-next-clause-memo : goal.half-returns-in_err-next-clause-memo
 half-returns-in_err-next-clause-memo t c =
-    let grow = extends_trans c.args.world.now c.cofactor.new.world c.next_at.new.world c.cofactor.ensures.extends c.next_at.ensures.extends in
+    let grow = extends_trans c.args.world.now c.cofactor.new.self c.next_at.new.world c.cofactor.ensures.extends c.next_at.ensures.extends in
     joints_grow c.args.world.now c.next_at.new.world grow c.args.joint c.args.self.now.memo c.requires.memo
 
 pub half-sequel-requires : goal.half-sequel-requires
 half-sequel-requires t c =
     let v = c.args.world.now in
-    let u = c.cofactor.new.world in
+    let u = c.cofactor.new.self in
     let w = c.next_at.new.world in
     let stage = c.args.stage in
     let part = over_part v u c.cofactor.ensures.extends (stage.left + 1) stage.left (digit c.args.one) stage.map c.in_ok-map.map (omega arith) (omega (arith, c.requires.left)) (digit_lt c.args.one)
@@ -46,7 +46,7 @@ pub half-returns-clause-half : goal.half-returns-clause-half
 half-returns-clause-half t c =
     let stage = c.args.stage in
     IfOk-weaker c.sequel.result _ _
-    (λ r is. half_made c.args.world.now c.cofactor.new.world c.next_at.new.world c.sequel.new.world c.cofactor.ensures.extends c.next_at.ensures.extends c.sequel.ensures.extends
+    (λ r is. half_made c.args.world.now c.cofactor.new.self c.next_at.new.world c.sequel.new.world c.cofactor.ensures.extends c.next_at.ensures.extends c.sequel.ensures.extends
     c.args.joint stage.left (digit c.args.one) stage.map stage.next c.in_ok-map.map c.in_ok-next.next r (omega (arith, c.requires.left)) c.requires.map.has c.in_ok-map.ensures.map c.in_ok-next.ensures.stepped is)
     c.sequel.ensures.joint
 
@@ -64,17 +64,17 @@ halves-half-requires-2 t c = (
 )
 
 pub halves-returns-in_err-set-clause-memo : goal.halves-returns-in_err-set-clause-memo
-halves-returns-in_err-set-clause-memo t c = joints_grow c.half-2.new.world c.bit_set.new.world c.bit_set.ensures.extends c.args.joint c.half-2.new.self.memo c.half-2.ensures.memo
+halves-returns-in_err-set-clause-memo t c = joints_grow c.half-2.new.world c.bit.new.self c.bit.ensures.extends c.args.joint c.half-2.new.self.memo c.half-2.ensures.memo
 
 pub halves-returns-clause-memo : goal.halves-returns-clause-memo
 halves-returns-clause-memo t c =
-    let grow = extends_trans c.half-2.new.world c.bit_set.new.world c.choose.new.world c.bit_set.ensures.extends c.choose.ensures.extends in
-    joints_grow c.half-2.new.world c.choose.new.world grow c.args.joint c.half-2.new.self.memo c.half-2.ensures.memo
+    let grow = extends_trans c.half-2.new.world c.bit.new.self c.choose.new.self c.bit.ensures.extends c.choose.ensures.extends in
+    joints_grow c.half-2.new.world c.choose.new.self grow c.args.joint c.half-2.new.self.memo c.half-2.ensures.memo
 
 pub halves-returns-clause-joint : goal.halves-returns-clause-joint
 halves-returns-clause-joint t c =
     IfOk-weaker c.choose.result _ _
-    (λ made is. joint_made c.half.new.world c.half-2.new.world c.bit_set.new.world c.choose.new.world c.half-2.ensures.extends c.bit_set.ensures.extends c.choose.ensures.extends
+    (λ made is. joint_made c.half.new.world c.half-2.new.world c.bit.new.self c.choose.new.self c.half-2.ensures.extends c.bit.ensures.extends c.choose.ensures.extends
     c.args.joint c.args.stage.left c.args.stage.map c.args.stage.next c.in_ok-low.low c.in_ok-high.high made c.in_ok-set.set (omega (arith, c.requires.left))
     c.in_ok-low.ensures.half c.in_ok-high.ensures.half c.in_ok-set.ensures.set is)
     c.choose.ensures.map
