@@ -28,7 +28,7 @@ same_truth true b h k = sym (h refl)
 same_truth false true h k = k refl
 same_truth false false h k = refl
 
-abbrev parts : List (List ℕ) → List (Name × Kind) → List TableRow → List ℕ → Parts
+abbrev pub parts : List (List ℕ) → List (Name × Kind) → List TableRow → List ℕ → Parts
 parts names params rows states = record { names = names; params = params; rows = rows; states = states }
 
 -- ---- programs that mean the same have one table
@@ -58,10 +58,18 @@ module _ (names : List (List ℕ)) (params : List (Name × Kind)) (scope : scope
         (rows_end (state_at_place params k) (state_at_place params place) t (place_is_state params k) (place_is_state params place) of));
   }
 
+  -- their normal tables are one
+  one_normal : IsNormal (parts names params r u) → IsNormal (parts names params v w) → (r ≡ v) × (u ≡ w)
+  one_normal hr hv = one_normal_table (parts names params r u) (parts names params v w) refl refl hr hv tables_alike
+
   one_text : IsNormal (parts names params r u) → IsNormal (parts names params v w) → table_text names params r u ≡ table_text names params v w
-  one_text hr hv =
-      let is = one_normal_table (parts names params r u) (parts names params v w) refl refl hr hv tables_alike in
-      λ i. table_text names params (is.0 i) (is.1 i)
+  one_text hr hv = let is = one_normal hr hv in λ i. table_text names params (is.0 i) (is.1 i)
+
+-- a program has one normal table
+pub one_table_of : (names : List (List ℕ)) (params : List (Name × Kind)) (p : Tree) (r v : List TableRow) (u w : List ℕ) → scope_kept params ≡ true
+    → IsNormal (parts names params r u) → IsNormal (parts names params v w) → Stands params r u p → Stands params v w p → (r ≡ v) × (u ≡ w)
+one_table_of names params p r v u w scope hr hv one two =
+    one_normal names params scope p p r v u w one two (record { same_failures = λ s t X i k. (λ h. h, λ h. h); same_ends = λ s t z i. (λ h. h, λ h. h) }) hr hv
 
 parts_are : (t : Parts) (names : List (List ℕ)) (params : List (Name × Kind)) → t.names ≡ names → t.params ≡ params → t ≡ parts names params t.rows t.states
 parts_are t names params e f = λ i. record { names = e i; params = f i; rows = t.rows; states = t.states }

@@ -50,7 +50,7 @@ module _ (w : World) (root : Root) (rows : List TableRow) (states : List ℕ) (p
       let x = assignment_at root.params k in
       let a = is_there w (value w.maps root.states x) (nodes.nodes x (small_at s h)) in
       let both = is.root_fails x a.0 (small_at s h) a.1 t X in
-      let same = tabulated.same_fails k a.0 t X (place_below root.params s h) a.1 in
+      let same = tabulated.same_fails k a.0 t X (place_below root.params s h, a.1) in
       let there = values_there root.params s h in (
         λ f. subst (λ v. part_fails (environment root.params) p v t X) there (both.0 (sym same ∙ f)),
         λ d. same ∙ both.1 (subst (λ v. part_fails (environment root.params) p v t X) (sym there) d),
@@ -64,7 +64,7 @@ module _ (w : World) (root : Root) (rows : List TableRow) (states : List ℕ) (p
       let z = assignment_at root.params (state_place root.params u) in
       let a = is_there w (value w.maps root.states x) (nodes.nodes x (small_at s h)) in
       let both = is.root_ends x a.0 (small_at s h) a.1 t z (small_at u l) in
-      let same = tabulated.same_ends k a.0 t (state_place root.params u) (place_below root.params s h) (place_below root.params u l) a.1 in
+      let same = tabulated.same_ends k a.0 t (state_place root.params u) (place_below root.params s h, a.1) (place_below root.params u l) in
       let there = values_there root.params s h in
       let last = values_there root.params u l in (
         λ f. subst (λ v. part_ends (environment root.params) p v t (values u)) there (subst (part_ends (environment root.params) p (state_of (laid_out 0 root.params) x) t) last (both.0 (sym same ∙ f))),

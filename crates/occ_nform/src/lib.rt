@@ -8,5 +8,5 @@ mod lines;
 mod text;
 
 pub use figures::{Counts, count};
-pub use law::normal_texts_tell_programs_apart;
+pub use law::{normal_texts_tell_programs_apart, programs_have_one_table};
 pub use text::{bound_rows, table_text, write};

@@ -1,7 +1,6 @@
 ghost use Rattle.std.specs.Prelude.{◌≡◌, ◌<◌, ◌^◌, [], true, length, IfOk};
 ghost use Rattle.occ_base.specs.Names.{IsDistinct};
 ghost use Rattle.occ_syntax.specs.Tree.{Tree};
-ghost use Rattle.occ_node.specs.World.{Leads};
 ghost use Rattle.occ_compare.specs.Interface.{HasNodes, IsOfInterface};
 ghost use Rattle.occ_nform_table.specs.Tables.{are_params, IsInterface};
 ghost use Rattle.occ_nform_table.specs.Texts.{table_text};
@@ -32,20 +31,14 @@ pub fn table_text(alloc: Global, names: &Names, table: &Table) -> Result<Vec<u8>
     Ok(text)
 }
 
-/// The normal text of each program whose behaviours the root has: the text of the root's normal table. The world keeps all its nodes and
-/// sets.
-pub fn write(
-    alloc: Global,
-    names: &Names,
-    world: &mut World,
-    root: &Root,
-) -> Result<Vec<u8>, Memory>
+/// The normal text of each program whose behaviours the root has: the text of the root's normal table. The world is given up.
+pub fn write(alloc: Global, names: &Names, world: World, root: &Root) -> Result<Vec<u8>, Memory>
     requires interface { IsInterface names.now root.now.params }
     requires params { are_params names.now [] root.now.params ≡ true }
-    requires nodes { HasNodes world.old root.now.states }
-    requires within { IsOfInterface world.old root.now }
-    ensures leads { Leads world.old world.new }
-    ensures normal { IfOk result (λ text. (p : Tree) → IsRootOf world.old root.now.params p root.now.states → IsNormalText names.now root.now.params p text.items) }
+    requires nodes { HasNodes world root.now.states }
+    requires within { IsOfInterface world root.now }
+    ensures { IfOk result (λ text. (p : Tree) → IsRootOf world root.now.params p root.now.states
+        → IsNormalText names.now root.now.params p text.items) }
 {
     let table = tabulate(alloc, names, world, root)?;
     bound_rows(&table);

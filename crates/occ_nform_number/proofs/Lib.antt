@@ -1,7 +1,6 @@
 pub mod Rows
 pub mod Nodes
 pub mod Levels
-pub mod Moves
 pub mod Graph
 pub mod Final
 pub mod Steps

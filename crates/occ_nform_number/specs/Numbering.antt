@@ -1,5 +1,6 @@
 -- What the functions of this crate find on the way to a table.
-use Rattle.std.specs.Prelude.{ℕ, suc, ◌+◌, ◌<◌, ◌≤◌, ◌≡◌, ◌==◌, ◌^◌, ◌⊎◌, ◌++◌, Bool, true, false, List, [], ◌∷◌, Some, length, get_or, set, map, max}
+use Rattle.std.specs.Prelude.{ℕ, suc, ◌+◌, ◌<◌, ◌≤◌, ◌≡◌, ◌==◌, ◌^◌, ◌⊎◌, ◌++◌, Bool, true, false, List, [], ◌∷◌, Some, length, get_or, set}
+use Rattle.std.specs.Prelude.{map, max}
 use Rattle.std.specs.List.{All, AllByRecursion, Contains, IsDistinct, list_any}
 use Rattle.std.specs.List.Sorted.{IsPermutation, IsSortedBy}
 use Rattle.std.specs.Cmp.Lexicographic.{slice_cmp}
@@ -33,6 +34,10 @@ pub record AreStarts (w : World) (root : Root) (starts : List NodeId) : Type 0 w
   pub count : length starts ≡ 2 ^ bits_of_scope root.params
   pub each : (k : ℕ) → k < length starts → value w.maps root.states (assignment_at root.params k) ≡ Some (node_at starts k)
 
+-- each node that a node offers has a property
+abbrev pub EachOffered : World → NodeId → (NodeId → Type 0) → Type 0
+EachOffered w a P = AllByRecursion (λ (o : Event × NodeId). P o.1) (row_of w a).offers
+
 -- ---- nodes that are reached
 abbrev pub Marked : List Bool → NodeId → Type 0
 Marked marks a = get_or marks a.0 false ≡ true
@@ -42,19 +47,20 @@ pub record OffersIt (w : World) (marks : List Bool) (a b : NodeId) : Type 0 wher
   pub marked : Marked marks b
   pub offered : list_any (λ (o : Event × NodeId). o.1.0 == a.0) (row_of w b).offers ≡ true
 
--- exactly the nodes that are reached from some nodes are marked
-pub record AreMarks (w : World) (starts : List NodeId) (marks : List Bool) : Type 0 where
-  pub wide : length marks ≡ nodes_of w
-  pub begun : (k : ℕ) → k < length starts → Marked marks (node_at starts k)
-  pub closed : (a : NodeId) → Marked marks a → AllByRecursion (λ (o : Event × NodeId). Marked marks o.1) (row_of w a).offers
-  pub reached : (a : NodeId) → Marked marks a → (list_any (λ (b : NodeId). b.0 == a.0) starts ≡ true) ⊎ ((b : NodeId) × OffersIt w marks a b)
+-- the node is one of some nodes, or one that is marked offers it
+abbrev pub IsMet : World → List NodeId → List Bool → NodeId → Type 0
+IsMet w starts marks a = (list_any (λ (b : NodeId). b.0 == a.0) starts ≡ true) ⊎ ((b : NodeId) × OffersIt w marks a b)
 
--- the same where the nodes with numbers from n on have been gone through
+-- Some nodes are marked, and of nodes with numbers from n on those that a marked one offers: no node but these.
 pub record AreMarksFrom (w : World) (starts : List NodeId) (n : ℕ) (marks : List Bool) : Type 0 where
   pub wide : length marks ≡ nodes_of w
   pub begun : (k : ℕ) → k < length starts → Marked marks (node_at starts k)
-  pub closed : (a : NodeId) → n ≤ a.0 → Marked marks a → AllByRecursion (λ (o : Event × NodeId). Marked marks o.1) (row_of w a).offers
-  pub reached : (a : NodeId) → Marked marks a → (list_any (λ (b : NodeId). b.0 == a.0) starts ≡ true) ⊎ ((b : NodeId) × OffersIt w marks a b)
+  pub closed : (a : NodeId) → n ≤ a.0 → Marked marks a → EachOffered w a (Marked marks)
+  pub reached : (a : NodeId) → Marked marks a → IsMet w starts marks a
+
+-- exactly the nodes that are reached from some nodes are marked
+abbrev pub AreMarks : World → List NodeId → List Bool → Type 0
+AreMarks w starts marks = AreMarksFrom w starts 0 marks
 
 -- ---- heights
 -- the height of a node with these offers, by the heights of the nodes before it
@@ -72,6 +78,18 @@ same_place p q = p.node.0 == q.node.0
 abbrev pub placed_at : List Placed → ℕ → Placed
 placed_at placed k = get_or placed k (record { height = 0; node = record { 0 = 0 } })
 
+-- no node stands at two places
+abbrev pub AreApart : List Placed → Type 0
+AreApart placed = (i j : ℕ) → i < length placed → j < length placed → (placed_at placed i).node.0 ≡ (placed_at placed j).node.0 → i ≡ j
+
+-- heights don't fall
+abbrev pub AreByHeight : List Placed → Type 0
+AreByHeight placed = (i j : ℕ) → i ≤ j → j < length placed → (placed_at placed i).height ≤ (placed_at placed j).height
+
+-- the node is marked, and has its height
+abbrev pub IsOrdered : List Bool → List ℕ → Placed → Type 0
+IsOrdered marks heights p = Marked marks p.node × (p.height ≡ get_or heights p.node.0 0)
+
 -- the marked nodes with numbers below n, each once, in their order
 pub record ArePlacedBelow (marks : List Bool) (heights : List ℕ) (n : ℕ) (placed : List Placed) : Type 0 where
   pub met : All (λ (p : Placed). (p.node.0 < n) × Marked marks p.node × (p.height ≡ get_or heights p.node.0 0)) placed
@@ -80,10 +98,10 @@ pub record ArePlacedBelow (marks : List Bool) (heights : List ℕ) (n : ℕ) (pl
 
 -- the marked nodes, each once, by height
 pub record AreOrdered (marks : List Bool) (heights : List ℕ) (placed : List Placed) : Type 0 where
-  pub met : (k : ℕ) → k < length placed → Marked marks (placed_at placed k).node × ((placed_at placed k).height ≡ get_or heights (placed_at placed k).node.0 0)
+  pub met : (k : ℕ) → k < length placed → IsOrdered marks heights (placed_at placed k)
   pub all : (a : NodeId) → Marked marks a → (k : ℕ) × (k < length placed) × ((placed_at placed k).node ≡ a)
-  pub apart : (i j : ℕ) → i < length placed → j < length placed → (placed_at placed i).node.0 ≡ (placed_at placed j).node.0 → i ≡ j
-  pub sorted : (i j : ℕ) → i ≤ j → j < length placed → (placed_at placed i).height ≤ (placed_at placed j).height
+  pub apart : AreApart placed
+  pub sorted : AreByHeight placed
 
 -- the nodes that are reached from some nodes, each once, by height
 pub record AreReached (w : World) (starts : List NodeId) (placed : List Placed) : Type 0 where
@@ -101,9 +119,9 @@ IsLower placed height b = (j : ℕ) × (j < length placed) × ((placed_at placed
 pub record IsGraph (w : World) (params : List (Name × Kind)) (placed : List Placed) : Type 0 where
   pub node : (k : ℕ) → k < length placed → IsNode w (placed_at placed k).node
   pub within : (k : ℕ) → k < length placed → IsWithin w params (placed_at placed k).node
-  pub closed : (k : ℕ) → k < length placed → AllByRecursion (λ (o : Event × NodeId). IsLower placed (placed_at placed k).height o.1) (row_of w (placed_at placed k).node).offers
-  pub apart : (i j : ℕ) → i < length placed → j < length placed → (placed_at placed i).node.0 ≡ (placed_at placed j).node.0 → i ≡ j
-  pub sorted : (i j : ℕ) → i ≤ j → j < length placed → (placed_at placed i).height ≤ (placed_at placed j).height
+  pub closed : (k : ℕ) → k < length placed → EachOffered w (placed_at placed k).node (IsLower placed (placed_at placed k).height)
+  pub apart : AreApart placed
+  pub sorted : AreByHeight placed
 
 -- ---- numbers
 -- each node that the node offers has a number below a bound
@@ -112,25 +130,30 @@ pub record IsReady (w : World) (params : List (Name × Kind)) (numbers : List �
   pub node : IsNode w a
   pub within : IsWithin w params a
   pub wide : are_below (length numbers) (row_of w a).offers ≡ true
-  pub lower : AllByRecursion (λ (o : Event × NodeId). number_of numbers o.1 < bound) (row_of w a).offers
+  pub lower : EachOffered w a (λ b. number_of numbers b < bound)
 
 -- the row of a node, with its text
-pub record IsDraft (w : World) (names : List (List ℕ)) (params : List (Name × Kind)) (numbers : List ℕ) (a : NodeId) (draft : Draft) : Type 0 where
+pub record IsDraft (w : World) (names : List (List ℕ)) (params : List (Name × Kind)) (numbers : List ℕ) (a : NodeId) (draft : Draft)
+    : Type 0 where
   pub node : draft.node ≡ a
   pub listed : IsListed w params numbers a draft.row
   pub text : draft.text.items ≡ row_text names draft.row
 
 -- the nodes of the same height as the one at start are ready
 abbrev pub AreReady : World → List (Name × Kind) → List ℕ → List Placed → ℕ → Type 0
-AreReady w params numbers placed start = (k : ℕ) → start ≤ k → k < length placed → (placed_at placed k).height ≡ (placed_at placed start).height → IsReady w params numbers (placed_at placed k).node
+AreReady w params numbers placed start = (k : ℕ) → start ≤ k → k < length placed
+    → (placed_at placed k).height ≡ (placed_at placed start).height → IsReady w params numbers (placed_at placed k).node
 
 -- the rows of the nodes of one height, from the one at start on
-pub record AreDrafts (w : World) (names : List (List ℕ)) (params : List (Name × Kind)) (numbers : List ℕ) (placed : List Placed) (start : ℕ) (drafts : List Draft) : Type 0 where
+pub record AreDrafts (w : World) (names : List (List ℕ)) (params : List (Name × Kind)) (numbers : List ℕ) (placed : List Placed)
+    (start : ℕ) (drafts : List Draft) : Type 0 where
   pub some : 0 < length drafts
   pub within : start + length drafts ≤ length placed
-  pub each : (k : ℕ) (d : Draft) → k < length drafts → IsDraft w names params numbers (placed_at placed (start + k)).node (get_or drafts k d)
+  pub each : (k : ℕ) (d : Draft) → k < length drafts
+      → IsDraft w names params numbers (placed_at placed (start + k)).node (get_or drafts k d)
   pub level : (k : ℕ) → k < length drafts → (placed_at placed (start + k)).height ≡ (placed_at placed start).height
-  pub end : start + length drafts < length placed → (placed_at placed (start + length drafts)).height ≡ (placed_at placed start).height → ⊥
+  pub end : start + length drafts < length placed
+      → (placed_at placed (start + length drafts)).height ≡ (placed_at placed start).height → ⊥
 
 abbrev pub text_before : Draft → Draft → Bool
 text_before d e = is_lt (slice_cmp nat_cmp d.text.items e.text.items)
@@ -161,20 +184,26 @@ pub record ArePlaced (old new : Numbering) (drafts : List Draft) : Type 0 where
 abbrev pub key_at : List (List ℕ) → List Placed → List TableRow → ℕ → ℕ × List ℕ
 key_at names done rows i = ((placed_at done i).height, row_text names (row_at rows i))
 
+-- a placed node has the number of its place among those that are numbered
+abbrev pub HasNumber : List ℕ → List Placed → Placed → Type 0
+HasNumber numbers done p = (number_of numbers p.node < length done) × (placed_at done (number_of numbers p.node) ≡ p)
+
 -- The placed nodes in front of start, which are those of some heights, have their numbers and their rows: by height and
 -- then by text.
-pub record IsNumbered (w : World) (names : List (List ℕ)) (params : List (Name × Kind)) (placed : List Placed) (start : ℕ) (done : List Placed) (rows : List TableRow) (numbers : List ℕ) : Type 0 where
+pub record IsNumbered (w : World) (names : List (List ℕ)) (params : List (Name × Kind)) (placed : List Placed) (start : ℕ)
+    (done : List Placed) (rows : List TableRow) (numbers : List ℕ) : Type 0 where
   pub count : length rows ≡ length done
   pub most : length done ≤ 4294967294
   pub wide : (k : ℕ) → k < length placed → (placed_at placed k).node.0 < length numbers
   pub met : (i : ℕ) → i < length done → (k : ℕ) × (k < start) × (placed_at placed k ≡ placed_at done i)
-  pub all : (k : ℕ) → k < start → (number_of numbers (placed_at placed k).node < length done) × (placed_at done (number_of numbers (placed_at placed k).node) ≡ placed_at placed k)
+  pub all : (k : ℕ) → k < start → HasNumber numbers done (placed_at placed k)
   pub numbered : (i : ℕ) → i < length done → number_of numbers (placed_at done i).node ≡ i
   pub listed : (i : ℕ) → i < length done → IsListed w params numbers (placed_at done i).node (row_at rows i)
   pub rising : (i : ℕ) → suc i < length done → comes_after (Some (key_at names done rows i)) (key_at names done rows (suc i)) ≡ true
   pub whole : (k : ℕ) → k < start → start < length placed → (placed_at placed k).height < (placed_at placed start).height
 
 -- the same, where it is known of some order
-pub record IsNumbering (w : World) (names : List (List ℕ)) (params : List (Name × Kind)) (placed : List Placed) (start : ℕ) (numbering : Numbering) : Type 0 where
+pub record IsNumbering (w : World) (names : List (List ℕ)) (params : List (Name × Kind)) (placed : List Placed) (start : ℕ)
+    (numbering : Numbering) : Type 0 where
   pub done : List Placed
   pub numbered : IsNumbered w names params placed start done numbering.rows numbering.numbers.items

@@ -28,14 +28,12 @@ pub(crate) struct Drafter<'a> {
 
 impl Drafter<'_> {
     ghost use Rattle.std.specs.Prelude.{IfOk};
-    ghost use Rattle.occ_node.specs.World.{Leads};
     ghost use Rattle.occ_nform_number.specs.Numbering.{AreDrafts, AreReady, IsDraft, IsReady};
 
     // The row of a node, where the nodes that it offers have their numbers.
-    fn draft(&self, world: &mut World, numbers: &[u32], node: NodeId) -> Result<Draft, Memory>
-        requires { IsReady world.old self.now.params.now numbers.now node }
-        ensures leads { Leads world.old world.new }
-        ensures draft { IfOk result (IsDraft world.old self.now.names.now self.now.params.now numbers.now node) }
+    fn draft(&self, world: &World, numbers: &[u32], node: NodeId) -> Result<Draft, Memory>
+        requires { IsReady world.now self.now.params.now numbers.now node }
+        ensures { IfOk result (IsDraft world.now self.now.names.now self.now.params.now numbers.now node) }
     {
         let lister = Lister {
             alloc: self.alloc,
@@ -49,16 +47,15 @@ impl Drafter<'_> {
     /// The rows of the nodes of one height, which begin at a place.
     pub fn drafts(
         &self,
-        world: &mut World,
+        world: &World,
         numbers: &[u32],
         placed: &[Placed],
         start: usize,
     ) -> Result<Vec<Draft>, Memory>
         requires some { start < length placed.now }
-        requires ready { AreReady world.old self.now.params.now numbers.now placed.now start }
-        ensures leads { Leads world.old world.new }
-        ensures drafts { IfOk result
-            (λ drafts. AreDrafts world.old self.now.names.now self.now.params.now numbers.now placed.now start drafts.items) }
+        requires ready { AreReady world.now self.now.params.now numbers.now placed.now start }
+        ensures { IfOk result
+            (λ drafts. AreDrafts world.now self.now.names.now self.now.params.now numbers.now placed.now start drafts.items) }
     {
         let height = placed[start].height;
         let mut drafts = Vec::new(self.alloc);

@@ -1,6 +1,5 @@
 ghost use Rattle.std.specs.Prelude.{◌<◌, length, OnOk, IfOk};
 ghost use Rattle.std.specs.List.{All};
-ghost use Rattle.occ_node.specs.World.{Leads};
 ghost use Rattle.occ_nform_number.specs.declared.level.Draft.{Draft};
 ghost use Rattle.occ_nform_number.specs.Numbering.{ArePlaced, IsGraph, IsNumbering, IsPlaced};
 
@@ -50,11 +49,10 @@ impl Numbering {
 
     // The placed nodes numbered by height, and then by the texts of their rows: level by level, since the row of a node has the
     // numbers of lower ones.
-    pub fn of(drafter: &Drafter, world: &mut World, placed: &[Placed]) -> Result<Numbering, Memory>
-        requires { IsGraph world.old drafter.now.params.now placed.now }
-        ensures leads { Leads world.old world.new }
-        ensures numbered { IfOk result
-            (IsNumbering world.old drafter.now.names.now drafter.now.params.now placed.now (length placed.now)) }
+    pub fn of(drafter: &Drafter, world: &World, placed: &[Placed]) -> Result<Numbering, Memory>
+        requires { IsGraph world.now drafter.now.params.now placed.now }
+        ensures { IfOk result
+            (IsNumbering world.now drafter.now.names.now drafter.now.params.now placed.now (length placed.now)) }
     {
         let alloc = drafter.alloc;
         let rows = TableRows::new(alloc);

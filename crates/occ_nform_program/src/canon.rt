@@ -23,7 +23,7 @@ pub fn normal_text(alloc: Global, names: &Names, accepted: &Accepted) -> Result<
 {
     let mut world = World::new(alloc)?;
     let root = normalise(alloc, accepted, &mut world)?;
-    write(alloc, names, &mut world, &root)
+    write(alloc, names, world, &root)
 }
 
 /// The normal table of a program: that of its normal text.
@@ -34,7 +34,7 @@ pub fn normal_table(alloc: Global, names: &Names, accepted: &Accepted) -> Result
 {
     let mut world = World::new(alloc)?;
     let root = normalise(alloc, accepted, &mut world)?;
-    tabulate(alloc, names, &mut world, &root)
+    tabulate(alloc, names, world, &root)
 }
 
 /// The figures of the normal text of a program.
@@ -45,7 +45,7 @@ pub fn measured(alloc: Global, names: &Names, accepted: &Accepted) -> Result<Cou
 {
     let mut world = World::new(alloc)?;
     let root = normalise(alloc, accepted, &mut world)?;
-    let table = tabulate(alloc, names, &mut world, &root)?;
+    let table = tabulate(alloc, names, world, &root)?;
     bound_rows(&table);
     let text = table_text(alloc, names, &table)?;
     bound_bytes(text.as_slice());

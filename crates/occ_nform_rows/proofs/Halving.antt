@@ -16,10 +16,10 @@ use Rattle.occ_diagram.specs.Assignment.{with_bit}
 use Rattle.occ_diagram.specs.Table.{nodes_of}
 use Rattle.occ_diagram.specs.declared.node.Node.{Node}
 use Rattle.occ_diagram.specs.declared.node.Node.TheVariants.{Leaf, Branch}
-use Rattle.occ_dd.specs.Store.{IsKnown, Keeps, Splits, IsConstant, depth, has}
+use Rattle.occ_dd.specs.Store.{IsKnown, Splits, IsConstant, depth, has}
 use Rattle.occ_dd.specs.declared.set.SetId.{SetId}
 use Rattle.occ_dd.specs.declared.store.Store.{Store}
-use Rattle.occ_dd.proofs.Callers.{depth-constant, known-keeps}
+use Rattle.occ_dd.proofs.Callers.{depth-constant}
 use Rattle.occ_dd.proofs.Sets.{has_end, known_size, leaf_constant, branch_splits}
 use Rattle.occ_accept.proofs.Strict.{same_tests}
 use Rattle.occ_compare.specs.Places.{assignment_at, number_in}
@@ -220,16 +220,11 @@ module _ (ps : List (Name × Kind)) where
   one_looked_up member p level first old new none e h = h ∙ ap (λ l. old ++ l) (places_same (λ x. member) p 0 first (λ x k. let zero_only : x ≡ 0 = omega arith in e ∙ ap p (sym zero_only)) ∙ ap (λ n. places_of ps p n first) (sym none))
 
 -- the halves of a set, by what a split says
-pub halves_none : (old new : Store) (set : SetId) (bit : ℕ) → Keeps old new → IsKnown old set → IsConstant new set → AreHalves new set bit set set
-halves_none old new set bit keeps known constant =
-    let there : IsKnown new set = known-keeps old new keeps set known in
-    let flat : depth new set ≡ 0 = depth-constant new set there constant in
-    same_halves new set bit there (omega arith)
+pub halves_none : (s : Store) (set : SetId) (bit : ℕ) → IsKnown s set → IsConstant s set → AreHalves s set bit set set
+halves_none s set bit known constant = let flat : depth s set ≡ 0 = depth-constant s set known constant in same_halves s set bit known (omega arith)
 
-pub halves_other : (old new : Store) (set : SetId) (bit top : ℕ) (low high : SetId) → Keeps old new → IsKnown old set → depth old set ≤ bit + 1 → Splits new set top low high → (top ≡ bit → ⊥) → AreHalves new set bit set set
-halves_other old new set bit top low high keeps known deep split other =
-    let same : depth new set ≡ depth old set = keeps.depths set known in
-    same_halves new set bit (known-keeps old new keeps set known) (omega (arith, split.deep, same, deep, other))
+pub halves_other : (s : Store) (set : SetId) (bit top : ℕ) (low high : SetId) → IsKnown s set → depth s set ≤ bit + 1 → Splits s set top low high → (top ≡ bit → ⊥) → AreHalves s set bit set set
+halves_other s set bit top low high known deep split other = same_halves s set bit known (omega (arith, split.deep, deep, other))
 
-pub halves_there : (new : Store) (set : SetId) (bit top : ℕ) (low high : SetId) → Splits new set top low high → top ≡ bit → AreHalves new set bit low high
-halves_there new set bit top low high split e = split_halves new set bit low high (subst (λ b. Splits new set b low high) e split)
+pub halves_there : (s : Store) (set : SetId) (bit top : ℕ) (low high : SetId) → Splits s set top low high → top ≡ bit → AreHalves s set bit low high
+halves_there s set bit top low high split e = split_halves s set bit low high (subst (λ b. Splits s set b low high) e split)

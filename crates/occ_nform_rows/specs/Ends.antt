@@ -14,13 +14,15 @@ use Rattle.occ_dd.specs.declared.store.Store.{Store}
 abbrev pub byte_state_at : List (Name × Kind) → ℕ → List (Name × ℕ)
 byte_state_at [] k = []
 byte_state_at ((name, Chan width dir) ∷ params) k = byte_state_at params k
-byte_state_at ((name, Var width) ∷ params) k = (name, k / 2 ^ bits_of_scope params % 256) ∷ byte_state_at params (k % 2 ^ bits_of_scope params)
+byte_state_at ((name, Var width) ∷ params) k =
+    (name, k / 2 ^ bits_of_scope params % 256) ∷ byte_state_at params (k % 2 ^ bits_of_scope params)
 
 -- The places of the assignments that begin with `first` and end in so many bits that pass a test, in the order of the
 -- assignments.
 unfoldable pub places_of : List (Name × Kind) → (ℕ → Bool) → ℕ → ℕ → List ℕ
 places_of params test zero first = if test 0 then number_in params first ∷ [] else []
-places_of params test (suc level) first = places_of params test level first ++ places_of params (λ x. test (2 ^ level + x)) level (first + 2 ^ level)
+places_of params test (suc level) first =
+    places_of params test level first ++ places_of params (λ x. test (2 ^ level + x)) level (first + 2 ^ level)
 
 -- the two parts of a set at a bit, as sets of the lower bits
 pub record AreHalves (s : Store) (set : SetId) (bit : ℕ) (low high : SetId) : Type 0 where

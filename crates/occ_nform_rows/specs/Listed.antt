@@ -23,6 +23,10 @@ use Rattle.occ_nform_table.specs.Tables.{IsRowOf, is_marked}
 abbrev pub number_of : List ℕ → NodeId → ℕ
 number_of numbers a = get_or numbers a.0 0
 
+-- whether one of some states has a place
+abbrev pub has_place : List (Name × Kind) → List (List (Name × ℕ)) → ℕ → Bool
+has_place params states k = list_any (λ state. state_place params state == k) states
+
 -- each channel of an interface is marked
 abbrev pub are_marked : List (Name × Kind) → Bool
 are_marked params = list_all (λ (p : Name × Kind). is_marked p.1) params
@@ -30,9 +34,10 @@ are_marked params = list_all (λ (p : Name × Kind). is_marked p.1) params
 -- The row of a table that a node is, where `numbers` gives the row number of each node that it offers. Where a channel isn't
 -- marked, events of both directions have one rank, and the lists can't increase.
 pub record IsListed (w : World) (params : List (Name × Kind)) (numbers : List ℕ) (a : NodeId) (row : TableRow) : Type 0 where
-  pub ends : (k : ℕ) → k < 2 ^ bits_of_scope params → list_any (λ state. state_place params state == k) row.ends ≡ has w.store (row_of w a).ends (assignment_at params k)
+  pub ends : (k : ℕ) → k < 2 ^ bits_of_scope params → has_place params row.ends k ≡ has w.store (row_of w a).ends (assignment_at params k)
   pub refusals : (X : EventSet) → list_any (list_all (λ e. not (X e))) row.accepts ≡ refuses (row_of w a).accepts X
   pub offers : (e : Event) → next_row row.offers e ≡ option_map (number_of numbers) (next_in (row_of w a).offers e)
-  pub form : are_marked params ≡ true → (n : ℕ) → AllByRecursion (λ (o : Event × NodeId). number_of numbers o.1 < n) (row_of w a).offers → IsRowOf params n row
+  pub form : are_marked params ≡ true → (n : ℕ) → AllByRecursion (λ (o : Event × NodeId). number_of numbers o.1 < n) (row_of w a).offers
+      → IsRowOf params n row
   pub fine : are_marked params ≡ true → AllByRecursion (λ mark. mark ≡ Fine) (row_marks params row)
   pub alive : is_empty_row row ≡ false

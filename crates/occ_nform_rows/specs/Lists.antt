@@ -1,6 +1,6 @@
 -- What the lists of a row say, each by itself.
-use Rattle.std.specs.Prelude.{ℕ, ◌<◌, ◌≡◌, ◌==◌, ◌^◌, Bool, true, List, [], ◌∷◌, Option, None, Some, option_map}
-use Rattle.std.specs.List.{list_any, AllByRecursion}
+use Rattle.std.specs.Prelude.{ℕ, ◌<◌, ◌≡◌, ◌^◌, Bool, true, List, [], ◌∷◌, Option, None, Some, option_map}
+use Rattle.std.specs.List.{AllByRecursion}
 use Rattle.std.specs.List.Sorted.{IsPermutation, IsSorted}
 use Rattle.std.specs.Ordering.{nat_cmp, on}
 use Rattle.occ_base.specs.declared.event.Event.{Event}
@@ -19,11 +19,11 @@ use Rattle.occ_compare.specs.Orders.{print_cmp, list_cmp, IsListOf, has_set}
 use Rattle.occ_compare.specs.Places.{assignment_at}
 use Rattle.occ_nform_table.specs.Behaviours.{next_row}
 use Rattle.occ_nform_table.specs.Lines.{state_place}
-use Rattle.occ_nform_rows.specs.Listed.{number_of}
+use Rattle.occ_nform_rows.specs.Listed.{has_place, number_of}
 
 -- the states of the members of a set, in the order of states
 pub record AreEnds (s : Store) (params : List (Name × Kind)) (set : SetId) (states : List (List (Name × ℕ))) : Type 0 where
-  pub members : (k : ℕ) → k < 2 ^ bits_of_scope params → list_any (λ state. state_place params state == k) states ≡ has s set (assignment_at params k)
+  pub members : (k : ℕ) → k < 2 ^ bits_of_scope params → has_place params states k ≡ has s set (assignment_at params k)
   pub increasing : strict (on (state_place params) nat_cmp) states ≡ true
   pub forms : AllByRecursion (λ state. is_state params state ≡ true) states
 
@@ -43,7 +43,8 @@ pub record IsInOrder (params : List (Name × Kind)) (old new : List (List Event)
 pub record AreSets (params : List (Name × Kind)) (sets lists : List (List Event)) : Type 0 where
   pub increasing : strict (list_cmp params) lists ≡ true
   pub refusals : (X : Event → Bool) → refuses lists X ≡ refuses sets X
-  pub each : (list : List Event) → is_in (list_cmp params) lists list ≡ true → (set : List Event) × (has_set sets set ≡ true) × IsListOf params set list
+  pub each : (list : List Event) → is_in (list_cmp params) lists list ≡ true
+      → (set : List Event) × (has_set sets set ≡ true) × IsListOf params set list
 
 -- an offer in front of others, where the event is offered
 abbrev pub with_number : List ℕ → Event → Option NodeId → List (Event × ℕ) → List (Event × ℕ)
@@ -60,7 +61,8 @@ abbrev pub IsOffer : List ℕ → List (Event × NodeId) → Event × ℕ → Ty
 IsOffer numbers offers offer = (a : NodeId) × (next_in offers offer.0 ≡ Some a) × (offer.1 ≡ number_of numbers a)
 
 -- the offers with the numbers of their nodes, in the order of the events
-pub record AreOffers (params : List (Name × Kind)) (numbers : List ℕ) (offers : List (Event × NodeId)) (list : List (Event × ℕ)) : Type 0 where
+pub record AreOffers (params : List (Name × Kind)) (numbers : List ℕ) (offers : List (Event × NodeId)) (list : List (Event × ℕ))
+    : Type 0 where
   pub next : (e : Event) → next_row list e ≡ option_map (number_of numbers) (next_in offers e)
   pub increasing : strict (on (λ (o : Event × ℕ). o.0) (print_cmp params)) list ≡ true
   pub each : AllByRecursion (IsOffer numbers offers) list

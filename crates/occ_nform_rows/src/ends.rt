@@ -2,7 +2,7 @@ ghost use Rattle.std.specs.Prelude.{◌≡◌, ◌≤◌, ℕ, true, map, IfOk};
 ghost use Rattle.std.specs.List.Sorted.{IsPermutation, IsSorted};
 ghost use Rattle.std.specs.Ordering.{nat_cmp};
 ghost use Rattle.occ_accept.specs.Order.{strict};
-ghost use Rattle.occ_dd.specs.Store.{IsKnown, Keeps, depth};
+ghost use Rattle.occ_dd.specs.Store.{IsKnown, depth};
 ghost use Rattle.occ_nform_rows.specs.Ends.{byte_state_at, has_number};
 ghost use Rattle.occ_nform_rows.specs.Lists.{AreEnds};
 ghost use Rattle.occ_syntax.specs.Counts.{bits_of_scope};
@@ -46,11 +46,10 @@ impl Lister<'_> {
     }
 
     // The states of the members of a set, in the order of states. The set is that of the bits of the parameters.
-    pub(crate) fn listed_ends(&self, store: &mut Store, set: SetId) -> Result<States, Memory>
-        requires set { IsKnown store.old set }
-        requires deep { depth store.old set ≤ bits_of_scope self.now.params.now }
-        ensures keeps { Keeps store.old store.new }
-        ensures ends { IfOk result (AreEnds store.old self.now.params.now set) }
+    pub(crate) fn listed_ends(&self, store: &Store, set: SetId) -> Result<States, Memory>
+        requires set { IsKnown store.now set }
+        requires deep { depth store.now set ≤ bits_of_scope self.now.params.now }
+        ensures { IfOk result (AreEnds store.now self.now.params.now set) }
     {
         let bits = interface_bits(self.params);
         let mut found = Vec::new(self.alloc);

@@ -1,6 +1,6 @@
-ghost use Rattle.std.specs.Prelude.{◌≡◌, ◌≤◌, ◌<◌, ◌+◌, ◌-◌, ◌^◌, ◌++◌, OnOk, IfOk};
+ghost use Rattle.std.specs.Prelude.{◌≡◌, ◌≤◌, ◌<◌, ◌+◌, ◌-◌, ◌^◌, ◌++◌, OnOk};
 ghost use Rattle.std.specs.Bool.{OnTrue};
-ghost use Rattle.occ_dd.specs.Store.{IsKnown, IsEmpty, Keeps, depth, has};
+ghost use Rattle.occ_dd.specs.Store.{IsKnown, IsEmpty, depth, has};
 ghost use Rattle.occ_nform_rows.specs.Ends.{AreHalves, places_of};
 
 use crate::Lister;
@@ -53,20 +53,14 @@ fn is_empty(store: &Store, set: SetId) -> bool
 }
 
 // The parts of a set at a bit, of which no higher one matters to it: its members where the bit is 0, and where it is 1.
-fn halves(store: &mut Store, set: SetId, bit: u32) -> Result<(SetId, SetId), Memory>
-    requires set { IsKnown store.old set }
-    requires deep { depth store.old set ≤ bit + 1 }
-    ensures keeps { Keeps store.old store.new }
-    ensures halves { IfOk result (λ parts. AreHalves store.new set bit parts.0 parts.1) }
+fn halves(store: &Store, set: SetId, bit: u32) -> (SetId, SetId)
+    requires set { IsKnown store.now set }
+    requires deep { depth store.now set ≤ bit + 1 }
+    ensures { AreHalves store.now set bit result.0 result.1 }
 {
-    let parts = store.split(set)?;
-    let Some(split) = parts else {
-        return Ok((set, set));
-    };
-    if split.0 == bit {
-        Ok((split.1, split.2))
-    } else {
-        Ok((set, set))
+    match store.split(set) {
+        Some((top, low, high)) if top == bit => (low, high),
+        _ => (set, set),
     }
 }
 
@@ -84,16 +78,15 @@ impl Lister<'_> {
     // Adds the places of the assignments of a cube whose free bits are a member of a set.
     pub(crate) fn add_members(
         &self,
-        store: &mut Store,
+        store: &Store,
         set: SetId,
         cube: Cube,
         found: &mut Vec<u32>,
     ) -> Result<(), Memory>
-        requires set { IsKnown store.old set }
-        requires deep { depth store.old set ≤ cube.free }
-        ensures keeps { Keeps store.old store.new }
-        ensures found { OnOk result
-            (found.new.items ≡ found.old.items ++ places_of self.now.params.now (has store.old set) cube.free cube.first) }
+        requires set { IsKnown store.now set }
+        requires deep { depth store.now set ≤ cube.free }
+        ensures { OnOk result
+            (found.new.items ≡ found.old.items ++ places_of self.now.params.now (has store.now set) cube.free cube.first) }
     {
         if is_empty(store, set) {
             return Ok(());
@@ -102,7 +95,7 @@ impl Lister<'_> {
         if level == 0 {
             return self.add_member(store.has(set, 0), cube.first, found);
         }
-        let parts = halves(store, set, level - 1)?;
+        let parts = halves(store, set, level - 1);
         self.add_members(store, parts.0, cube.low(), found)?;
         self.add_members(store, parts.1, cube.high(), found)
     }

@@ -27,4 +27,4 @@ returns c =
     if_ok_map c.write.result
     (λ text h. text_of c.args.names.now p.params c.in_ok-root.root c.in_ok-root.ensures.params (tree p.body) text.items
     (h (tree p.body) (root_of c.normalise.new.world p.params typed.scope typed.interface (tree p.body) typed.types c.in_ok-root.root c.in_ok-root.ensures.params c.in_ok-root.ensures.root)))
-    c.write.ensures.normal
+    c.write.ensures

@@ -1,19 +1,25 @@
+use Rattle.std.proofs.Common.{ℕ}
 use Rattle.std.proofs.lemmas.Option.{MatchOption-at_none, MatchOption-at_some}
 use Rattle.occ_dd.specs.Store.{IsConstant, Splits}
+use Rattle.occ_dd.specs.declared.set.SetId.{SetId}
 use Rattle.occ_nform_rows.proofs.Halving.{halves_none, halves_other, halves_there}
 use Rattle.occ_nform_rows.proofs.members.halves.Goals as goal
 
-pub returns-in_default-clause-halves : goal.returns-in_default-clause-halves
-returns-in_default-clause-halves c =
-    let constant = MatchOption-at_none (IsConstant c.split.new.self c.args.set) (λ p. Splits c.split.new.self c.args.set p.0 p.1 p.2) c.in_default.is c.in_ok-parts.ensures.split in
-    halves_none c.args.store.now c.split.new.self c.args.set c.args.bit c.split.ensures.keeps c.requires.set constant
+pub returns-in-Some : goal.returns-in-Some
+returns-in-Some c =
+    let s = c.args.store.now in
+    let parts : ℕ × SetId × SetId = (c.in-Some.top, c.in-Some.low, c.in-Some.high) in
+    let splits = MatchOption-at_some (IsConstant s c.args.set) (λ p. Splits s c.args.set p.0 p.1 p.2) parts c.in-Some.is c.split.ensures in
+    halves_there s c.args.set c.args.bit parts.0 parts.1 parts.2 splits c.if-top-bit.true
 
-pub returns-then-split-bit-clause-halves : goal.returns-then-split-bit-clause-halves
-returns-then-split-bit-clause-halves c =
-    let splits = MatchOption-at_some (IsConstant c.split.new.self c.args.set) (λ p. Splits c.split.new.self c.args.set p.0 p.1 p.2) c.in-Some.split c.in-Some.is c.in_ok-parts.ensures.split in
-    halves_there c.split.new.self c.args.set c.args.bit c.in-Some.split.0 c.in-Some.split.1 c.in-Some.split.2 splits c.if-split-bit.true
+pub returns-in_default : goal.returns-in_default
+returns-in_default c =
+    let s = c.args.store.now in
+    let parts : ℕ × SetId × SetId = (c.in-Some.top, c.in-Some.low, c.in-Some.high) in
+    let splits = MatchOption-at_some (IsConstant s c.args.set) (λ p. Splits s c.args.set p.0 p.1 p.2) parts c.in-Some.is c.split.ensures in
+    halves_other s c.args.set c.args.bit parts.0 parts.1 parts.2 c.requires.set c.requires.deep splits c.if-top-bit.false
 
-pub returns-else-split-bit-clause-halves : goal.returns-else-split-bit-clause-halves
-returns-else-split-bit-clause-halves c =
-    let splits = MatchOption-at_some (IsConstant c.split.new.self c.args.set) (λ p. Splits c.split.new.self c.args.set p.0 p.1 p.2) c.in-Some.split c.in-Some.is c.in_ok-parts.ensures.split in
-    halves_other c.args.store.now c.split.new.self c.args.set c.args.bit c.in-Some.split.0 c.in-Some.split.1 c.in-Some.split.2 c.split.ensures.keeps c.requires.set c.requires.deep splits c.if-split-bit.false
+pub returns-in_default-2 : goal.returns-in_default-2
+returns-in_default-2 c =
+    let s = c.args.store.now in
+    halves_none s c.args.set c.args.bit c.requires.set (MatchOption-at_none (IsConstant s c.args.set) (λ p. Splits s c.args.set p.0 p.1 p.2) c.in_default.is c.split.ensures)

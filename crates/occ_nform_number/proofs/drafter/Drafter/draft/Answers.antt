@@ -9,4 +9,4 @@ invariant_of-lister c = record { few = c.args.self.now.interface.bits; kept = c.
 pub row_text-requires : goal.row_text-requires
 row_text-requires c =
     let d = c.args.self.now in
-    row_named d.names.now d.params.now d.interface.named c.requires.bound c.in_ok-row.row (c.in_ok-row.ensures.listed.form (marked_params d.names.now [] d.params.now d.good) c.requires.bound c.requires.lower)
+    row_named d.names.now d.params.now d.interface.named c.requires.bound c.in_ok-row.row (c.in_ok-row.ensures.form (marked_params d.names.now [] d.params.now d.good) c.requires.bound c.requires.lower)

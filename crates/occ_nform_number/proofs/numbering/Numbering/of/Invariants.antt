@@ -1,13 +1,11 @@
 use Rattle.std.proofs.Common.{◌≤◌, ◌-◌, length}
-use Rattle.occ_node.specs.World.{Leads}
 use Rattle.occ_nform_number.specs.Numbering.{IsNumbering}
 use Rattle.occ_nform_number.proofs.numbering.Numbering.of.Given as goal
 
 abbrev pub invariant-loop-start : goal.invariant-loop-start
 invariant-loop-start l = record {
   within : l.start ≤ length l.placed;
-  leads : Leads l.initial.world l.world;
-  numbered : IsNumbering l.initial.world l.drafter.names.now l.drafter.params.now l.placed l.start l.numbering;
+  numbered : IsNumbering l.world l.drafter.names.now l.drafter.params.now l.placed l.start l.numbering;
 }
 
 abbrev pub decreases-loop-start : goal.decreases-loop-start
