@@ -20,7 +20,8 @@ use Rattle.occ_nform_text.proofs.Places.{place_is_state}
 use Rattle.occ_nform_text.proofs.ReadWords.{bytes_same}
 use Rattle.occ_behaviour_read.specs.Claims.{and_then, bare_lines, claim_in, claim_read, closed, ends_at, first_of, found_at, is_differ, last_line, only_line, read_at, state_line, trace_line}
 use Rattle.occ_nform_written.proofs.Lists.{err_is, first_is, later_are, no_line, ok_is, ok_not}
-use Rattle.occ_nform_written.specs.Behaviours.{AreBehaviourLines, IsBehaviourText, IsInside, alone, told}
+use Rattle.occ_views.specs.Programs.{IsOfInterface}
+use Rattle.occ_nform_written.specs.Behaviours.{AreBehaviourLines, IsBehaviourText, IsInOrder, alone, told}
 use Rattle.occ_nform_written.specs.Stops.{GoesOn, StopsAt, within, too_early}
 use Rattle.occ_nform_written.proofs.Read.{last_line_inv, only_inv, state_line_inv, trace_line_inv}
 use Rattle.occ_nform_written.proofs.Stops.{goes_front, goes_whole, no_stop, one_stop}
@@ -89,12 +90,16 @@ module _ (names : List (List ℕ)) (params : List (Name × Kind)) (distinct : Is
 
   -- ---- lines that are read are those that are written
 
-  inside : (m : Bool) (b : Behaviour) (lines : List (List ℕ)) → Reads m b lines → IsInside params b
-  inside m b lines r = record {
-    state = (state_line_inv params r.first b.state r.state).1;
-    trace = (trace_line_inv names params (apart names [] params are) r.second b.trace r.trace).1;
-    last = (last_line_inv names params (apart names [] params are) r.third b.last r.last).1;
-  }
+  inside : (m : Bool) (b : Behaviour) (lines : List (List ℕ)) → Reads m b lines → IsOfInterface params b × IsInOrder params b.last
+  inside m b lines r =
+      let three = last_line_inv names params (apart names [] params are) r.third b.last r.last in (
+        record {
+          state = (state_line_inv params r.first b.state r.state).1;
+          trace = (trace_line_inv names params (apart names [] params are) r.second b.trace r.trace).1;
+          last = three.1;
+        },
+        three.2,
+      )
 
   three_are : (m : Bool) (b : Behaviour) (lines : List (List ℕ)) (r : Reads m b lines) → lines ≡ claim_lines names b ++ r.tail
   three_are m b lines r =
@@ -106,12 +111,12 @@ module _ (names : List (List ℕ)) (params : List (Name × Kind)) (distinct : Is
   written : (m : Bool) (b : Behaviour) (lines : List (List ℕ)) → Reads m b lines → IsBehaviourText names params b (headed m lines)
   written false b lines r =
       let own = inside false b lines r in
-      alone own (three_are false b lines r ∙ ap (λ t. claim_lines names b ++ t) r.closes ∙ sym (behaviour_lines names params distinct interface are b own))
+      alone own.0 own.1 (three_are false b lines r ∙ ap (λ t. claim_lines names b ++ t) r.closes ∙ sym (behaviour_lines names params distinct interface are b own.0))
   written true b lines r =
       let own = inside true b lines r in
       let only = only_inv r.closes.0 r.closes.1 r.closes.3 in
-      told only.0 own (ap (λ t. mark ∷ t) (three_are true b lines r ∙ ap (λ t. claim_lines names b ++ t) (r.closes.2 ∙ ap (λ l. l ∷ []) only.1))
-      ∙ sym (verdict_lines names params distinct interface are b only.0 own))
+      told only.0 own.0 own.1 (ap (λ t. mark ∷ t) (three_are true b lines r ∙ ap (λ t. claim_lines names b ++ t) (r.closes.2 ∙ ap (λ l. l ∷ []) only.1))
+      ∙ sym (verdict_lines names params distinct interface are b only.0 own.0))
 
   record IsReadBack (b : Behaviour) (lines : List (List ℕ)) : Type 0 where
     marked : Bool
@@ -120,7 +125,7 @@ module _ (names : List (List ℕ)) (params : List (Name × Kind)) (distinct : Is
     reads : Reads marked b rest
 
   read_back : (b : Behaviour) (lines : List (List ℕ)) → IsBehaviourText names params b lines → IsReadBack b lines
-  read_back b lines (alone h e) = record {
+  read_back b lines (alone h o e) = record {
     marked = false;
     rest = claim_lines names b;
     are_so = e ∙ behaviour_lines names params distinct interface are b h;
@@ -132,11 +137,11 @@ module _ (names : List (List ℕ)) (params : List (Name × Kind)) (distinct : Is
       lines_are = refl;
       state = state_read names params distinct interface are b.state h.state;
       trace = trace_read names params distinct interface are b.trace h.trace;
-      last = last_read names params distinct interface are b.last h.last;
+      last = last_read names params distinct interface are b.last h.last o;
       closes = refl;
     };
   }
-  read_back b lines (told side h e) = record {
+  read_back b lines (told side h o e) = record {
     marked = true;
     rest = told_lines names b side;
     are_so = e ∙ verdict_lines names params distinct interface are b side h;
@@ -148,7 +153,7 @@ module _ (names : List (List ℕ)) (params : List (Name × Kind)) (distinct : Is
       lines_are = refl;
       state = state_read names params distinct interface are b.state h.state;
       trace = trace_read names params distinct interface are b.trace h.trace;
-      last = last_read names params distinct interface are b.last h.last;
+      last = last_read names params distinct interface are b.last h.last o;
       closes = (only_body side, true, refl, only_read side);
     };
   }
@@ -200,7 +205,7 @@ module _ (names : List (List ℕ)) (params : List (Name × Kind)) (distinct : Is
   some_second = trace_read names params distinct interface are [] refl
 
   some_third : last_line names params (last_body names (Ends some_state)) ≡ Some (Ends some_state)
-  some_third = last_read names params distinct interface are (Ends some_state) (place_is_state params 0)
+  some_third = last_read names params distinct interface are (Ends some_state) (place_is_state params 0) tt
 
   reads_so : (m : Bool) (one two three : List ℕ) (state : List (Name × ℕ)) (trace : List Event) (last : Last) → state_line params one ≡ Some state → trace_line names params two ≡ Some trace
       → last_line names params three ≡ Some last → Kind_of m (one ∷ two ∷ three ∷ end_of m)

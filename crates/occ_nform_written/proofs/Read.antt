@@ -20,7 +20,8 @@ use Rattle.occ_nform_text.proofs.ReadEvents.{Apart, all_from, event_inv, set_inv
 use Rattle.occ_nform_text.proofs.ReadStates.{state_inv}
 use Rattle.occ_nform_text.proofs.ReadWords.{behind_inv, between_inv, bytes_same, items_inv, or_inv, then_inv}
 use Rattle.occ_behaviour_read.specs.Claims.{last_line, only_line, spaced_words, state_line, trace_line}
-use Rattle.occ_nform_written.specs.Behaviours.{AreEvents, IsLast}
+use Rattle.occ_views.specs.Programs.{AreEvents, LastIsWithin}
+use Rattle.occ_nform_written.specs.Behaviours.{IsInOrder}
 use Rattle.occ_nform_written.proofs.Written.{events_behind, last_body, only_body, state_body, trace_body}
 
 -- the state of a line
@@ -77,10 +78,10 @@ module _ (names : List (List ℕ)) (params : List (Name × Kind)) (apart : Apart
       (behind_inv (codes "TRACE") line one.0 one.1 ∙ ap (λ t. codes "TRACE" ++ t) is.0, is.1)
 
   abbrev IsLastLine : List ℕ → Last → Type 0
-  IsLastLine line last = (line ≡ last_body names last) × IsLast params last
+  IsLastLine line last = (line ≡ last_body names last) × LastIsWithin params last × IsInOrder params last
 
   -- how a behaviour stands by a line
-  pub last_line_inv : (line : List ℕ) (last : Last) → last_line names params line ≡ Some last → (line ≡ last_body names last) × IsLast params last
+  pub last_line_inv : (line : List ℕ) (last : Last) → last_line names params line ≡ Some last → IsLastLine line last
   unfolding last_line
   last_line_inv line last e =
       elim (or_inv (then_read (between (codes "REFUSES {") (codes "}") line) (λ text. then_read (set_of names params text) (λ set. Some (Refuses set))))
@@ -89,12 +90,12 @@ module _ (names : List (List ℕ)) (params : List (Name × Kind)) (apart : Apart
             let one = then_inv (between (codes "REFUSES {") (codes "}") line) (λ text. then_read {B = Last} (set_of names params text) (λ set. Some (Refuses set))) last h in
             let two = then_inv (set_of names params one.0) (λ set. Some (Refuses set)) last one.2 in
             let is = set_inv names params one.0 two.0 apart two.1 in
-            let own : IsLastLine line (Refuses two.0) = (between_inv (codes "REFUSES {") (codes "}") line one.0 one.1 ∙ ap (λ t. codes "REFUSES {" ++ (t ++ codes "}")) is.0, is.1) in
+            let own : IsLastLine line (Refuses two.0) = (between_inv (codes "REFUSES {") (codes "}") line one.0 one.1 ∙ ap (λ t. codes "REFUSES {" ++ (t ++ codes "}")) is.0, is.1.0, is.1.1) in
             subst (IsLastLine line) (same_Some (Refuses two.0) last two.2) own)
         | inr h ↦ (
             let one = then_inv (between (codes "ENDS [") (codes "]") line) (λ text. then_read {B = Last} (state_of params text) (λ state. Some (Ends state))) last h in
             let two = then_inv (state_of params one.0) (λ state. Some (Ends state)) last one.2 in
             let is = state_inv params one.0 two.0 two.1 in
-            let own : IsLastLine line (Ends two.0) = (between_inv (codes "ENDS [") (codes "]") line one.0 one.1 ∙ ap (λ t. codes "ENDS [" ++ (t ++ codes "]")) is.written, is.state) in
+            let own : IsLastLine line (Ends two.0) = (between_inv (codes "ENDS [") (codes "]") line one.0 one.1 ∙ ap (λ t. codes "ENDS [" ++ (t ++ codes "]")) is.written, is.state, tt) in
             subst (IsLastLine line) (same_Some (Ends two.0) last two.2) own)
       ]

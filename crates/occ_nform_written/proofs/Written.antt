@@ -27,7 +27,8 @@ use Rattle.occ_nform_text.proofs.WrittenEvents.{IsOwn, event_lacks, event_reads,
 use Rattle.occ_nform_text.proofs.WrittenStates.{state_lacks, state_reads, value_text}
 use Rattle.occ_nform_text.proofs.WrittenWords.{IsWord, ReadsAs, all_more, behind_front, between_parts, each_spaced, is_not, lacks, lacks-append, map_same, spaced_lacks}
 use Rattle.occ_behaviour_read.specs.Claims.{bare_lines, last_line, only_line, spaced_words, state_line, trace_line}
-use Rattle.occ_nform_written.specs.Behaviours.{AreEvents, IsInside, IsLast}
+use Rattle.occ_views.specs.Programs.{AreEvents, IsOfInterface, LastIsWithin}
+use Rattle.occ_nform_written.specs.Behaviours.{IsInOrder}
 use Rattle.occ_nform_written.proofs.Bare.{IsQuiet, fed, lines_bare}
 
 -- ---- lines
@@ -137,9 +138,9 @@ module _ (names : List (List ℕ)) (params : List (Name × Kind)) (distinct : Is
       let parts = and_parts (in_interface (environment params) e) (list_all (in_interface (environment params)) events) h in
       and_from _ _ f.space (lacks-append byte (event_text names e) (events_behind names events) (event_quiet byte f e parts.0) (events_quiet byte f events parts.1))
 
-  last_quiet : (byte : ℕ) → IsForeign byte → (last : Last) → IsLast params last → lacks byte (last_body names last) ≡ true
+  last_quiet : (byte : ℕ) → IsForeign byte → (last : Last) → LastIsWithin params last → lacks byte (last_body names last) ≡ true
   last_quiet byte f (Refuses set) h =
-      let all = all_more _ (λ e. lacks byte (event_text names e) ≡ true) (event_quiet byte f) set (all_true (in_interface (environment params)) set h.0) in
+      let all = all_more _ (λ e. lacks byte (event_text names e) ≡ true) (event_quiet byte f) set (all_true (in_interface (environment params)) set h) in
       lacks-append byte (codes "REFUSES {") (spaced (event_text names) set ++ codes "}") f.refuses
       (lacks-append byte (spaced (event_text names) set) (codes "}") (spaced_lacks (event_text names) byte f.space set all) f.brace)
   last_quiet byte f (Ends state) h = lacks-append byte (codes "ENDS [") (spaced value_text state ++ codes "]") f.ends (state_quiet byte f state h)
@@ -150,18 +151,18 @@ module _ (names : List (List ℕ)) (params : List (Name × Kind)) (distinct : Is
   trace_quiet : (byte : ℕ) → IsForeign byte → (events : List Event) → AreEvents params events → lacks byte (trace_body names events) ≡ true
   trace_quiet byte f events h = lacks-append byte (codes "TRACE") (events_behind names events) f.trace (events_quiet byte f events h)
 
-  quiet : (b : Behaviour) → IsInside params b → AllByRecursion IsQuiet (claim_lines names b)
+  quiet : (b : Behaviour) → IsOfInterface params b → AllByRecursion IsQuiet (claim_lines names b)
   quiet b h = (
     (body_quiet 10 feed b.state h.state, body_quiet 13 return b.state h.state),
     ((trace_quiet 10 feed b.trace h.trace, trace_quiet 13 return b.trace h.trace), ((last_quiet 10 feed b.last h.last, last_quiet 13 return b.last h.last), tt)),
   )
 
   -- the lines of a behaviour's text
-  pub behaviour_lines : (b : Behaviour) → IsInside params b → bare_lines (text_of_behaviour names b) ≡ claim_lines names b
+  pub behaviour_lines : (b : Behaviour) → IsOfInterface params b → bare_lines (text_of_behaviour names b) ≡ claim_lines names b
   behaviour_lines b h = ap bare_lines (text_joined names b) ∙ lines_bare (claim_lines names b) (quiet b h)
 
   -- the lines of a difference
-  pub verdict_lines : (b : Behaviour) (side : Side) → IsInside params b → bare_lines (text_of_verdict names (Differ b side)) ≡ codes "DIFFER" ∷ told_lines names b side
+  pub verdict_lines : (b : Behaviour) (side : Side) → IsOfInterface params b → bare_lines (text_of_verdict names (Differ b side)) ≡ codes "DIFFER" ∷ told_lines names b side
   verdict_lines b side h =
       let q = quiet b h in
       ap bare_lines (verdict_joined names b side) ∙ lines_bare (codes "DIFFER" ∷ told_lines names b side) ((refl, refl), (q.0, (q.1.0, (q.1.1.0, (only_quiet side, tt)))))
@@ -188,23 +189,23 @@ module _ (names : List (List ℕ)) (params : List (Name × Kind)) (distinct : Is
   trace_read events h =
       ap (λ o. then_read o (λ text. then_read (spaced_words text) (each (event_of names params)))) (behind_front (codes "TRACE") (events_behind names events)) ∙ words_read events h
 
-  set_read : (set : List Event) → IsLast params (Refuses set) → set_of names params (spaced (event_text names) set) ≡ Some set
+  set_read : (set : List Event) → AreEvents params set → is_rising params 0 set ≡ true → set_of names params (spaced (event_text names) set) ≡ Some set
   unfolding set_of
-  set_read set h =
-      let all = all_true (in_interface (environment params)) set h.0 in
-      let words = all_more _ (IsWord (event_text names)) (λ e k. event_word names e (own e k)) set all in
+  set_read set h k =
+      let all = all_true (in_interface (environment params)) set h in
+      let words = all_more _ (IsWord (event_text names)) (λ e i. event_word names e (own e i)) set all in
       let read = all_more _ (ReadsAs (event_text names) (event_of names params) (λ e. e)) reads set all in
       let rising = λ (events : List Event). cond (is_rising params 0 events) (Some events) None in
-      ap (λ o. then_read o rising) (each_spaced (event_text names) (event_of names params) (λ e. e) set words read ∙ ap Some (map_same set)) ∙ cond-true _ (Some set) None h.1
+      ap (λ o. then_read o rising) (each_spaced (event_text names) (event_of names params) (λ e. e) set words read ∙ ap Some (map_same set)) ∙ cond-true _ (Some set) None k
 
-  pub last_read : (last : Last) → IsLast params last → last_line names params (last_body names last) ≡ Some last
+  pub last_read : (last : Last) → LastIsWithin params last → IsInOrder params last → last_line names params (last_body names last) ≡ Some last
   unfolding last_line
-  last_read (Refuses set) h =
+  last_read (Refuses set) h k =
       let line : List ℕ = last_body names (Refuses set) in
       let other : Option Last = then_read (between (codes "ENDS [") (codes "]") line) (λ text. then_read (state_of params text) (λ state. Some (Ends state))) in
       ap (λ o. or_else (then_read {B = Last} o (λ text. then_read {B = Last} (set_of names params text) (λ set. Some (Refuses set)))) other) (between_parts (codes "REFUSES {") (spaced (event_text names) set) (codes "}"))
-      ∙ ap (λ o. or_else (then_read {B = Last} o (λ set. Some (Refuses set))) other) (set_read set h)
-  last_read (Ends state) h =
+      ∙ ap (λ o. or_else (then_read {B = Last} o (λ set. Some (Refuses set))) other) (set_read set h k)
+  last_read (Ends state) h k =
       let line : List ℕ = last_body names (Ends state) in
       let other : Option Last = then_read (between (codes "ENDS [") (codes "]") line) (λ text. then_read (state_of params text) (λ state. Some (Ends state))) in
       ap (λ o. or_else (then_read {B = Last} o (λ text. then_read {B = Last} (set_of names params text) (λ set. Some (Refuses set)))) other) (no_refusal state)
