@@ -29,7 +29,11 @@ pub(crate) fn second_done(
     head: Piece,
 ) -> Result<Turn, Lost> {
     match head {
-        Piece::Alt(others) => Ok(Turn::Head(meet(trail, branches, others)?)),
+        Piece::Alt(others) => {
+            let left = alt_of(trail.alloc(), branches)?;
+            let right = alt_of(trail.alloc(), others)?;
+            Ok(Turn::Head(meet(trail, left, right)?))
+        }
         head => {
             let other = alt_of(trail.alloc(), branches)?;
             second_leaves(trail, other, head)

@@ -7,42 +7,32 @@ use occ_syntax::{Expr, Exprs, Guard, NameList, Op, Proc, Wait};
 use std::alloc::Global;
 
 /// The ALT of all that the two can do first: what the first does alone, what the second does alone, and where they meet.
-pub(crate) fn meet(
-    trail: &mut Trail,
-    left: Vec<(Guard, Proc)>,
-    right: Vec<(Guard, Proc)>,
-) -> Result<Proc, Lost> {
-    let whole = expanded(trail.alloc(), left.as_slice(), right.as_slice())?;
+pub(crate) fn meet(trail: &mut Trail, left: Proc, right: Proc) -> Result<Proc, Lost> {
+    let whole = expanded(trail.alloc(), &left, &right)?;
     trail.forward(law::PAR_EXPAND, &whole)?;
     Ok(whole)
 }
 
-fn expanded(
-    alloc: Global,
-    left: &[(Guard, Proc)],
-    right: &[(Guard, Proc)],
-) -> Result<Proc, Memory> {
+fn expanded(alloc: Global, left: &Proc, right: &Proc) -> Result<Proc, Lost> {
+    let Proc::Alt(first) = left else {
+        return Err(Lost::NoStep);
+    };
+    let Proc::Alt(second) = right else {
+        return Err(Lost::NoStep);
+    };
     let mut made = Vec::new(alloc);
-    for (guard, part) in left {
-        let part = par_of_two(alloc, part.copy(alloc)?, alt_copy(alloc, right)?)?;
+    for (guard, part) in first.items() {
+        let part = par_of_two(alloc, part.copy(alloc)?, right.copy(alloc)?)?;
         made.push((guard.copy(alloc)?, part))?;
     }
-    for (guard, part) in right {
-        let part = par_of_two(alloc, alt_copy(alloc, left)?, part.copy(alloc)?)?;
+    for (guard, part) in second.items() {
+        let part = par_of_two(alloc, left.copy(alloc)?, part.copy(alloc)?)?;
         made.push((guard.copy(alloc)?, part))?;
     }
-    for branch in left {
-        meetings(alloc, &mut made, branch, right)?;
+    for branch in first.items() {
+        meetings(alloc, &mut made, branch, second.items())?;
     }
-    alt_of(alloc, made)
-}
-
-fn alt_copy(alloc: Global, branches: &[(Guard, Proc)]) -> Result<Proc, Memory> {
-    let mut made = Vec::new(alloc);
-    for (guard, part) in branches {
-        made.push((guard.copy(alloc)?, part.copy(alloc)?))?;
-    }
-    alt_of(alloc, made)
+    Ok(alt_of(alloc, made)?)
 }
 
 // Where a branch communicates with each of others.
