@@ -5,3 +5,4 @@ pub mod Leveled
 pub mod Merged
 pub mod Ranking
 pub mod Reordering
+pub mod Rising

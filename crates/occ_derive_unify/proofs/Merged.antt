@@ -277,18 +277,22 @@ pub sum_told : (p q : Tree) → q ≡ p → IsSum p → (is_alt q && some_ready 
 sum_told p q e s =
     (λ i. is_alt (e i) && some_ready (spread (e i))) ∙ ap (λ b. is_alt p && b) (ready_there (spread p) s.state s.there) ∙ and_so (is_alt p)
 
+pub pair_first : (gs : Branches) (place : ℕ) → (p : IsPair gs place) → AllSums gs → IsSum p.part
+pair_first gs place p sums = sums p.condition p.wait p.part (subst (HasBranch p.condition p.wait p.part) (sym p.form)
+    (back_has p.front (and_branch p.condition p.wait p.part (and_branch p.condition p.wait p.second p.back)) p.condition p.wait p.part
+    (inl (refl, refl, refl)))) p.event
+
+pub pair_second : (gs : Branches) (place : ℕ) → (p : IsPair gs place) → AllSums gs → IsSum p.second
+pair_second gs place p sums = sums p.condition p.wait p.second (subst (HasBranch p.condition p.wait p.second) (sym p.form)
+    (back_has p.front (and_branch p.condition p.wait p.part (and_branch p.condition p.wait p.second p.back)) p.condition p.wait p.second
+    (inr (inl (refl, refl, refl))))) p.event
+
 -- a pair whose two superpositions were brought together
 pub pair_merges : (a b c : Going) (gs mid made : Branches) (place : ℕ) → (p : IsPair gs place) → AllSums gs
     → ComesTo a b gs (all_branches p.front (and_branch p.condition p.wait (both p.part p.second) p.back)) mid
     → (IsSum p.part → IsSum p.second → HasLeveled b c p.front p.back p.condition p.wait p.part p.second made) → IsMerging a c gs made
 pair_merges a b c gs mid made place p sums one two =
-    let first = sums p.condition p.wait p.part (subst (HasBranch p.condition p.wait p.part) (sym p.form)
-    (back_has p.front (and_branch p.condition p.wait p.part (and_branch p.condition p.wait p.second p.back)) p.condition p.wait p.part
-    (inl (refl, refl, refl)))) p.event in
-    let second = sums p.condition p.wait p.second (subst (HasBranch p.condition p.wait p.second) (sym p.form)
-    (back_has p.front (and_branch p.condition p.wait p.part (and_branch p.condition p.wait p.second p.back)) p.condition p.wait p.second
-    (inr (inl (refl, refl, refl))))) p.event in
-    let done = two first second in
+    let done = two (pair_first gs place p sums) (pair_second gs place p sums) in
     let old = apart p.front p.back p.condition p.wait p.part p.second done.part p.event done.level in
     let new = joined p.front p.back p.condition p.wait p.part p.second done.part p.event done.level in
     let middle = all_branches p.front (and_branch p.condition p.wait (both p.part p.second) p.back) in

@@ -3,6 +3,7 @@ use Rattle.std.specs.Prelude.{ℕ, ◌≡◌, ◌⊎◌, ◌||◌, Bool, true, f
 use Rattle.occ_base.specs.declared.names.Name.{Name}
 use Rattle.occ_derive_moves.specs.Come.{Going, HasCome}
 use Rattle.occ_derive_unify.specs.Orders.{rank_of}
+use Rattle.occ_derive_unify.specs.Rising.{AreOnce}
 use Rattle.occ_law_rules.specs.Choice.{and_skip, is_event, is_ready}
 use Rattle.occ_law_rules.specs.Lists.{all_branches, tally}
 use Rattle.occ_syntax.specs.declared.scope.Kind.{Kind}
@@ -80,11 +81,12 @@ pub record IsMerging (a b : Going) (gs hs : Branches) : Type 0 where
   pub there : (c : Exp) (w : Waiting) (k : Tree) → Behind c w k gs → Behind c w k hs
   pub only : (c : Exp) (w : Waiting) (k : Tree) → Behind c w k hs → Behind c w k gs
 
--- the same, of a process that it has come to
-pub record IsMerged (a b : Going) (gs : Branches) (p : Tree) : Type 0 where
+-- the same, of a process that it has come to, in which each event stands once, and all in order
+pub record IsMerged (params : List (Name × Kind)) (a b : Going) (gs : Branches) (p : Tree) : Type 0 where
   pub branches : Branches
   pub form : p ≡ alt branches
   pub merging : IsMerging a b gs branches
+  pub once : AreOnce params branches
 
 -- ---- branches that are alike
 

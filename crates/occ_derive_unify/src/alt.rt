@@ -1,8 +1,9 @@
-ghost use Rattle.std.specs.Prelude.{◌≡◌, ◌++◌, ◌∷◌, [], IfOk, List, false, length};
+ghost use Rattle.std.specs.Prelude.{◌≡◌, ◌≤◌, ◌++◌, ◌∷◌, [], IfOk, List, false, length};
 ghost use Rattle.occ_base.specs.declared.names.Name.{Name};
 ghost use Rattle.occ_derive_moves.specs.Come.{HasCome, HasEntered, HasMoved};
 ghost use Rattle.occ_derive_trail.specs.Trails.{going};
 ghost use Rattle.occ_derive_unify.specs.Places.{HasMore, HasOther};
+ghost use Rattle.occ_derive_unify.specs.Rising.{AreInOrder};
 ghost use Rattle.occ_derive_unify.specs.Rows.{AreNumbered, IsArranged, alternatives_of, row_order};
 ghost use Rattle.occ_derive_unify.specs.declared.alt.Keyed.{Keyed};
 ghost use Rattle.occ_law_rules.specs.Lists.{BranchesReordered};
@@ -163,6 +164,7 @@ impl Alt {
     /// Puts the branches into the order of a normal program.
     pub(crate) fn ordered(self, trail: &mut Trail, params: &Scope) -> Result<Alt, Lost>
         ensures reordered { IfOk result (λ made. BranchesReordered (branches self.list.items) (branches made.list.items)) }
+        ensures order { IfOk result (λ made. length params.now ≤ 16 → AreInOrder params.now (branches made.list.items)) }
         ensures come { IfOk result (λ made. (S : List (Name × Kind)) → let part = alt (branches self.list.items) in
             Keeps (environment S) part → HasCome S (going trail.old) (going trail.new) part (alt (branches made.list.items))) }
     {

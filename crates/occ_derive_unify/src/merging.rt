@@ -4,6 +4,7 @@ ghost use Rattle.occ_derive_moves.specs.Come.{HasCome};
 ghost use Rattle.occ_derive_trail.specs.Trails.{going};
 ghost use Rattle.occ_derive_unify.specs.Merged.{AllSums, AreNeighbours, AreStates, ComesTo, HasLeveled, IsAmong, IsMergeable, IsMerged, IsMerging, IsPair, IsSum, IsTwice, Levels, both, is_alt, some_ready, spread};
 ghost use Rattle.occ_derive_unify.specs.Orders.{rank_of};
+ghost use Rattle.occ_derive_unify.specs.Rising.{AreInOrder, AreOnce, HasJoined, IsEqualPair, guard_ranks};
 ghost use Rattle.occ_law_rules.specs.Choice.{and_skip, has_skip, is_event, is_ready};
 ghost use Rattle.occ_law_rules.specs.Lists.{all_branches, tally};
 ghost use Rattle.occ_syntax.specs.declared.scope.Kind.{Kind};
@@ -23,7 +24,7 @@ use std::alloc::Global;
 /// one after another as one superposition.
 pub fn merge(trail: &mut Trail, params: &Scope, part: Proc) -> Result<Proc, Lost>
     ensures { IfOk result (λ made. (gs : Branches) → tree part ≡ alt gs → length params.now ≤ 16 → IsMergeable params.now gs
-        → IsMerged (going trail.old) (going trail.new) gs (tree made)) }
+        → IsMerged params.now (going trail.old) (going trail.new) gs (tree made)) }
 {
     let whole = Alt::of(trail.alloc(), part)?;
     let made = merged(trail, params, whole)?;
@@ -32,8 +33,10 @@ pub fn merge(trail: &mut Trail, params: &Scope, part: Proc) -> Result<Proc, Lost
 }
 
 pub(crate) fn merged(trail: &mut Trail, params: &Scope, alt: Alt) -> Result<Alt, Lost>
-    ensures { IfOk result (λ made. length params.now ≤ 16 → let gs = branches alt.list.items in IsMergeable params.now gs
+    ensures merging { IfOk result (λ made. length params.now ≤ 16 → let gs = branches alt.list.items in IsMergeable params.now gs
         → IsMerging (going trail.old) (going trail.new) gs (branches made.list.items)) }
+    ensures once { IfOk result (λ made. length params.now ≤ 16 → let gs = branches alt.list.items in IsMergeable params.now gs
+        → AreOnce params.now (branches made.list.items)) }
 {
     let first = once(trail, params, alt)?;
     let second = first.ordered(trail, params)?;
@@ -98,8 +101,10 @@ fn is_alike(params: &Scope, branch: &(Guard, Proc), other: &(Guard, Proc)) -> bo
 
 // Whether two guards wait for one event, or both for nothing.
 fn is_one_rank(params: &Scope, first: &Guard, second: &Guard) -> bool
-    ensures { result ≡ true → length params.now ≤ 16
+    ensures same { result ≡ true → length params.now ≤ 16
         → rank_of params.now (waiting first.now.wait) ≡ rank_of params.now (waiting second.now.wait) }
+    ensures told { length params.now ≤ 16
+        → rank_of params.now (waiting first.now.wait) ≡ rank_of params.now (waiting second.now.wait) → result ≡ true }
 {
     match rank(params, first) {
         Some(one) => match rank(params, second) {
@@ -112,10 +117,14 @@ fn is_one_rank(params: &Scope, first: &Guard, second: &Guard) -> bool
 
 /// Brings together what follows one event in branches that stand next to each other.
 pub(crate) fn joined(trail: &mut Trail, params: &Scope, mut alt: Alt) -> Result<Alt, Lost>
-    ensures { IfOk result (λ made. length params.now ≤ 16 → let gs = branches alt.list.items in IsMergeable params.now gs
+    ensures merging { IfOk result (λ made. length params.now ≤ 16 → let gs = branches alt.list.items in IsMergeable params.now gs
         → IsMerging (going trail.old) (going trail.new) gs (branches made.list.items)) }
+    ensures once { IfOk result (λ made. length params.now ≤ 16 → let gs = branches alt.list.items in IsMergeable params.now gs
+        → AreInOrder params.now gs → AreOnce params.now (branches made.list.items)) }
 {
-    for place in (0..alt.list.len()).rev() {
+    let mut place = alt.list.len();
+    while place > 0 {
+        place -= 1;
         let next = joined_at(trail, params, alt, place)?;
         alt = next;
     }
@@ -124,8 +133,10 @@ pub(crate) fn joined(trail: &mut Trail, params: &Scope, mut alt: Alt) -> Result<
 
 // Brings together what follows one event in the branch at a place and in the next one.
 fn joined_at(trail: &mut Trail, params: &Scope, alt: Alt, place: usize) -> Result<Alt, Lost>
-    ensures { IfOk result (λ made. length params.now ≤ 16 → let gs = branches alt.list.items in IsMergeable params.now gs
+    ensures merging { IfOk result (λ made. length params.now ≤ 16 → let gs = branches alt.list.items in IsMergeable params.now gs
         → IsMerging (going trail.old) (going trail.new) gs (branches made.list.items)) }
+    ensures ranks { IfOk result (λ made. length params.now ≤ 16 → let gs = branches alt.list.items in IsMergeable params.now gs
+        → HasJoined place (guard_ranks params.now gs) (guard_ranks params.now (branches made.list.items))) }
 {
     let again = waits_as_next(params, alt.list.as_slice(), place);
     if !again {
@@ -136,7 +147,8 @@ fn joined_at(trail: &mut Trail, params: &Scope, alt: Alt, place: usize) -> Resul
 
 // Whether the branch at a place waits for the event for which the next one waits.
 fn waits_as_next(params: &Scope, list: &[(Guard, Proc)], place: usize) -> bool
-    ensures { result ≡ true → length params.now ≤ 16 → AreNeighbours params.now (branches list.now) place }
+    ensures pair { result ≡ true → length params.now ≤ 16 → AreNeighbours params.now (branches list.now) place }
+    ensures none { result ≡ false → length params.now ≤ 16 → IsEqualPair (guard_ranks params.now (branches list.now)) place → ⊥ }
 {
     let count = list.len();
     if count < 2 {
@@ -153,14 +165,18 @@ fn is_one_event(params: &Scope, first: &Guard, second: &Guard) -> bool
     ensures event { result ≡ true → is_event (waiting first.now.wait) ≡ true }
     ensures rank { result ≡ true → length params.now ≤ 16
         → rank_of params.now (waiting first.now.wait) ≡ rank_of params.now (waiting second.now.wait) }
+    ensures told { length params.now ≤ 16 → is_ready (waiting first.now.wait) ≡ false
+        → rank_of params.now (waiting first.now.wait) ≡ rank_of params.now (waiting second.now.wait) → result ≡ true }
 {
     !is_unseen(first) && is_one_rank(params, first, second)
 }
 
 // One branch of two that wait for one event, the first at that place.
 fn same(trail: &mut Trail, alt: Alt, place: usize) -> Result<Alt, Lost>
-    ensures { IfOk result (λ made. let gs = branches alt.list.items in IsPair gs place → AllSums gs
+    ensures merging { IfOk result (λ made. let gs = branches alt.list.items in IsPair gs place → AllSums gs
         → IsMerging (going trail.old) (going trail.new) gs (branches made.list.items)) }
+    ensures form { IfOk result (λ made. let gs = branches alt.list.items in (p : IsPair gs place) → AllSums gs → (r : Tree)
+        × (branches made.list.items ≡ all_branches p.front (and_branch p.condition p.wait r p.back))) }
 {
     let pair = together(trail, alt, place)?;
     leveled(trail, pair, place)

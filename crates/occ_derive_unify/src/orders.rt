@@ -1,6 +1,7 @@
-ghost use Rattle.std.specs.Prelude.{◌≡◌, ◌+◌, ◌*◌, ◌≤◌, ◌∷◌, [], IfOk, Some, length, true};
+ghost use Rattle.std.specs.Prelude.{◌≡◌, ◌+◌, ◌*◌, ◌<◌, ◌≤◌, ◌∷◌, [], IfOk, IfSome, Some, length, true};
 ghost use Rattle.occ_behaviour.specs.Places.{place_in};
 ghost use Rattle.occ_derive_unify.specs.Orders.{key_order, literal_of, numbers_of, rank_of, ranks_of};
+ghost use Rattle.occ_derive_unify.specs.Rising.{IsFirst};
 ghost use Rattle.std.specs.List.{AllByRecursion};
 ghost use Rattle.occ_base.specs.declared.names.Name.{Name};
 ghost use Rattle.occ_derive_forms.specs.Settled.{IsEventGuard};
@@ -60,7 +61,8 @@ impl Key {
 /// The rank of a guard's event among all events: by its channel's place among the parameters, and then by its value, where
 /// an input stands for its first. None where it waits for nothing.
 pub(crate) fn rank(params: &Scope, guard: &Guard) -> Option<u64>
-    ensures { length params.now ≤ 16 → result ≡ rank_of params.now (waiting guard.now.wait) }
+    ensures value { length params.now ≤ 16 → result ≡ rank_of params.now (waiting guard.now.wait) }
+    ensures below { length params.now ≤ 16 → IfSome result (λ rank. rank < 4294967296) }
 {
     match &guard.wait {
         Wait::Skip => None,
@@ -77,7 +79,8 @@ pub fn ranks_tell_guards_apart()
 {}
 
 fn event(params: &Scope, chan: Name, value: u8) -> u64
-    ensures { length params.now ≤ 16 → result ≡ 256 * place_in params.now chan + value }
+    ensures value { length params.now ≤ 16 → result ≡ 256 * place_in params.now chan + value }
+    ensures below { length params.now ≤ 16 → result < 4294967296 }
 {
     let place = place_in(params.items(), chan) as u64;
     place.saturating_mul(256).saturating_add(u64::from(value))
@@ -136,7 +139,9 @@ pub(crate) fn following<'a>(
 }
 
 /// Where a branch belongs in a normal program: events first, then acceptances, then ends.
-pub(crate) fn key_of(alloc: Global, params: &Scope, branch: &(Guard, Proc)) -> Result<Key, Memory> {
+pub(crate) fn key_of(alloc: Global, params: &Scope, branch: &(Guard, Proc)) -> Result<Key, Memory>
+    ensures { IfOk result (λ key. length params.now ≤ 16 → IsFirst (rank_of params.now (waiting branch.now.0.wait)) key.first) }
+{
     if let Some(rank) = rank(params, &branch.0) {
         return Ok(Key::of(alloc, rank));
     }

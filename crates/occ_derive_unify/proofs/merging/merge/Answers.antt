@@ -13,5 +13,6 @@ returns c = λ gs e short is.
       branches = hs;
       form = c.in_ok-part.ensures;
       merging = subst (λ z. IsMerging (going c.args.trail.now) (going c.merged.new.trail) z hs) (sym same)
-          (c.in_ok-made.ensures short (subst (IsMergeable c.args.params.now) same is));
+          (c.in_ok-made.ensures.merging short (subst (IsMergeable c.args.params.now) same is));
+      once = c.in_ok-made.ensures.once short (subst (IsMergeable c.args.params.now) same is);
     }
