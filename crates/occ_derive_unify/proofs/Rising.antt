@@ -220,14 +220,6 @@ rows_in_order params rows sorted is all =
     (All-permutation (IsKeyed params) rows sorted is.permutation (All-from_recursion (IsKeyed params) rows all)))
     (λ k d l. first_upto (get_or sorted (k + 1) d).key.first (get_or sorted k d).key.first _ _ (is.order k d (omega arith) l)))
 
--- ---- first numbers of keys
-
-pub event_first : (o : Option ℕ) (r n : ℕ) → Some r ≡ o → n ≡ r → r < 4294967296 → IsFirst o n
-event_first o r n e f h = subst (λ a. IsFirst a n) e (f, h)
-
-pub unseen_first : (o : Option ℕ) (n : ℕ) → None ≡ o → 4294967296 ≤ n → IsFirst o n
-unseen_first o n e h = subst (λ a. IsFirst a n) e h
-
 -- ---- the loop
 
 -- what stands from a place on does so once

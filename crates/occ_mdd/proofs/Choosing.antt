@@ -20,9 +20,6 @@ use Rattle.occ_mdd.specs.declared.choose.Choice.TheVariants.{Made, Split}
 use Rattle.occ_mdd.proofs.Combining.{part-keeps}
 
 -- ---- a table and a store that grow
-pub grown_store : {T : Type 0} (ns : List (Node T)) {s t : Store} → Keeps s t → Grown ns ns s t
-grown_store ns k = record { nodes = nodes_stay ns; sets = k }
-
 pub grown_table : {T : Type 0} {ms ns : List (Node T)} (s : Store) → KeepsNodes ms ns → Grown ms ns s s
 grown_table s k = record { nodes = k; sets = keeps_refl s }
 

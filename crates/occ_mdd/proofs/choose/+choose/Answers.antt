@@ -1,7 +1,7 @@
 use Rattle.std.proofs.Common.{◌<◌, subst, sym}
 use Rattle.occ_diagram.specs.Table.{nodes_of}
 use Rattle.occ_mdd.specs.Chosen.{greatest_depth}
-use Rattle.occ_mdd.proofs.Choosing.{are_chosen-keeps, chosen_learnt, chosen_same, grown_store, grown_table, high_asked, high_smaller, high_under, joined, low_asked, low_smaller, low_under}
+use Rattle.occ_mdd.proofs.Choosing.{are_chosen-keeps, chosen_learnt, chosen_same, grown_table, high_asked, high_smaller, high_under, joined, low_asked, low_smaller, low_under}
 use Rattle.occ_mdd.proofs.choose.+choose.Goals as goal
 
 -- ---- where no node is made
