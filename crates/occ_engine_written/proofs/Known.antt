@@ -2,6 +2,8 @@
 use Rattle.std.proofs.Common.{◌≡◌, ℕ, true, List, [], refl, sym, subst, ◌∙◌}
 use Rattle.std.proofs.lemmas.List.{append-nil}
 use Rattle.occ_base.specs.Names.{IsDistinct}
+use Rattle.occ_base.specs.declared.names.Name.{Name}
+use Rattle.occ_engine_written.proofs.Typed.{AreKept, kept_from}
 use Rattle.occ_lex_symbols.specs.Symbols.{Extends}
 use Rattle.occ_lex_symbols.proofs.Interned.{extends_trans}
 use Rattle.occ_parse.specs.Known.{NamesAreKnown}
@@ -21,12 +23,15 @@ use Rattle.occ_parse_unroll.proofs.Elements.{places_extend}
 use Rattle.occ_script_again.proofs.Below.{program_low}
 use Rattle.occ_script_again.proofs.Numbers.{AreSame, IsSame, back_of, front_of, params_same, process_of_lines}
 use Rattle.occ_script_again.proofs.Settled.{places_same}
+use Rattle.occ_syntax.specs.declared.scope.Kind.{Kind}
 use Rattle.occ_syntax.specs.declared.scope.Program.{Program}
+use Rattle.occ_syntax.specs.Tree.{Tree}
 use Rattle.occ_syntax.specs.View.{tree}
 use Rattle.occ_usage.specs.Accepted.{IsTyped}
 
-module _ (b : Bound) (text : List ℕ) (old new : List (List ℕ)) (p : Program) (lines : List ℕ)
-    (r : IsRead b text old new p.name p.params (tree p.body) lines) where
+-- what a text reads as, wherever its parts lie in memory
+module _ (b : Bound) (text : List ℕ) (old new : List (List ℕ)) (name : Name) (params : List (Name × Kind)) (body : Tree) (lines : List ℕ)
+    (r : IsRead b text old new name params body lines) where
   abbrev names : List (List ℕ)
   names = names_in text old
 
@@ -50,19 +55,29 @@ module _ (b : Bound) (text : List ℕ) (old new : List (List ℕ)) (p : Program)
       let here : Extends whole new = ([], r.table ∙ sym (append-nil whole)) in
       places_same names new t all low here (extends_trans whole new t here e)
 
-  params_stay : (t : List (List ℕ)) → Extends new t → p.params ≡ params_named (number_in t) (header_params r.draft)
+  params_stay : (t : List (List ℕ)) → Extends new t → params ≡ params_named (number_in t) (header_params r.draft)
   params_stay t e =
       r.params_are ∙ params_same (number_in new) (number_in t) (header_params r.draft)
       (front_of (IsSame (number_in new) (number_in t)) (params_places (header_params r.draft)) inner (numbers_stay t e))
 
-  body_stays : (t : List (List ℕ)) → Extends new t → tree p.body ≡ slot_process (number_in t) (param_scope (header_params r.draft)) (header_below r.draft)
+  body_stays : (t : List (List ℕ)) → Extends new t → body ≡ slot_process (number_in t) (param_scope (header_params r.draft)) (header_below r.draft)
   body_stays t e =
       r.body_is ∙ process_of_lines (number_in new) (number_in t) (param_scope (header_params r.draft)) (header_below r.draft)
       (back_of (IsSame (number_in new) (number_in t)) (params_places (header_params r.draft)) inner (numbers_stay t e))
 
+  -- it keeps names, types and directions
+  pub program_kept : IsDistinct new → AreKept params body
+  program_kept d = kept_from b text old new r.draft r.laid_out grown d r.in_order params body params_stay body_stays
+
+module _ (b : Bound) (text : List ℕ) (old new : List (List ℕ)) (p : Program) (lines : List ℕ)
+    (r : IsRead b text old new p.name p.params (tree p.body) lines) where
   pub names_known : NamesAreKnown new p
-  names_known = known_from b text old new r.draft r.laid_out grown p params_stay body_stays
+  names_known =
+      known_from b text old new r.draft r.laid_out (grown b text old new p.name p.params (tree p.body) lines r) p
+      (params_stay b text old new p.name p.params (tree p.body) lines r) (body_stays b text old new p.name p.params (tree p.body) lines r)
 
   -- it keeps names, types, directions and limits
   pub program_typed : IsDistinct new → is_limited b ≡ true → IsTyped p
-  program_typed d limited = typed b text old new r.draft r.laid_out grown d r.in_order limited p params_stay body_stays
+  program_typed d limited =
+      typed b text old new r.draft r.laid_out (grown b text old new p.name p.params (tree p.body) lines r) d r.in_order limited p
+      (params_stay b text old new p.name p.params (tree p.body) lines r) (body_stays b text old new p.name p.params (tree p.body) lines r)

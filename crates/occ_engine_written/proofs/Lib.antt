@@ -1,5 +1,6 @@
 mod Paths
 mod Said
+pub mod Typed
 pub mod Known
 mod Plain
 pub mod Printed

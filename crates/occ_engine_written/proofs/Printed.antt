@@ -41,7 +41,7 @@ module _ (b : Bound) (text : List ℕ) (old names : Table) (from : Program) (lin
 
   module _ (all : Table) (P : ℕ → Place) (table : IsTable all P) (e : Extends names all) where
     text_names : Extends (names_in text old) all
-    text_names = extends_trans (names_in text old) names all (grown b text old names from lines r) e
+    text_names = extends_trans (names_in text old) names all (grown b text old names from.name from.params (tree from.body) lines r) e
 
     pub printable : NameLaw → KeptLaw → IsTyped from → NamesAreBelow (length all) from.params (tree from.body) → IsPrintable all P from.name.0 from.params (tree from.body)
     printable name kept typed below =

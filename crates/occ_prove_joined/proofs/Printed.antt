@@ -43,13 +43,14 @@ use Rattle.occ_syntax.specs.Tree.{Tree}
 use Rattle.occ_syntax.specs.View.{tree}
 use Rattle.occ_tool_joined.specs.Joined.{IsPrintedNarrow}
 use Rattle.occ_tool_run.proofs.OneAnswer.{Does, does}
-use Rattle.occ_tool_run.proofs.Accepting.{read_typed}
+use Rattle.occ_tool_run.proofs.Accepting.{keeps_usage, read_typed}
 use Rattle.occ_tool_run.proofs.Judging.{no_name_twice}
 use Rattle.occ_tool_run.specs.Accepts.{IsAccepted}
 use Rattle.occ_tool_run.specs.Answers.{Answers as ToolAnswers, IsAnswer}
 use Rattle.occ_tool_run.specs.declared.answer.Answer.{Answer}
 use Rattle.occ_tool_run.specs.Derivations.{Replays}
 use Rattle.occ_tool_run.specs.Files.{Files, most_script_bytes}
+use Rattle.occ_tool_run.specs.Stored.{seen}
 use Rattle.occ_tool_run.specs.Texts.{figure_text, status_of, text_of}
 use Rattle.occ_tool_words.specs.Words.{Job, job_of, replay}
 
@@ -106,7 +107,7 @@ named : (new : Table) (steps : List Done) → AllByRecursion (IsWritable new) st
 named new [] h k = tt
 named new (done ∷ steps) h k = (record { said = k.0; known = h.0.known }, named new steps h.1 k.1)
 
-module _ (laws : Laws) (one two : Option (List ℕ)) (between names new : Table) (p q : Program) (first : IsAccepted one [] between p) (second : IsAccepted two between names q)
+module _ (laws : Laws) (one two : Option (List ℕ)) (between names new : Table) (p q : Program) (first : IsAccepted one [] between (seen p)) (second : IsAccepted two between names (seen q))
     (narrow : IsPrintedNarrow one) (g : GrowsByNames names new) where
   front : Grows [] here between
   front = laws.programs bound.Program first.bytes [] between here p.name p.params (tree p.body) first.text.numbers (no_names here) first.text.read
@@ -128,8 +129,8 @@ module _ (laws : Laws) (one two : Option (List ℕ)) (between names new : Table)
       let later = laws.stay (length between) (length new) p.params (tree p.body) (longer between new extends) below in
       record {
         from_is = printable bound.Program first.bytes [] between p first.text.numbers first.text.read new end.0 end.1.table extends laws.name laws.kept typed later;
-        accepted = record { typed = typed; keeps = record { types = typed.types; usage = first.text.usage } };
-        narrow = narrow between p first;
+        accepted = record { typed = typed; keeps = record { types = typed.types; usage = keeps_usage first.bytes [] between (seen p) no_name_twice first.text } };
+        narrow = narrow between (seen p) first;
         levels = laws.levels bound.Program first.bytes [] between p.name p.params (tree p.body) first.text.numbers refl first.text.read;
         named = named new steps w s;
         moves = record { name = same_name; params = same_params; moves = moves };
@@ -141,10 +142,10 @@ module _ (laws : Laws) (one two : Option (List ℕ)) (between names new : Table)
 record IsPrinted (one two : Option (List ℕ)) (text : List ℕ) : Type 0 where
   between : Table
   from : Program
-  first : IsAccepted one [] between from
+  first : IsAccepted one [] between (seen from)
   names : Table
   to : Program
-  second : IsAccepted two between names to
+  second : IsAccepted two between names (seen to)
   all : Table
   places : ℕ → Place
   steps : List Done
@@ -208,7 +209,7 @@ join law one a b text later words script p short j e = record {
 not_zero : (proof : Proof) (n : ℕ) → status_of_proof proof ≡ 0 → status_of_proof proof ≡ n → 1 ≤ n → ⊥
 not_zero proof n z e h = absurd (omega (arith, z, e, h))
 
-laws_printed : Laws → (one two : Option (List ℕ)) (between names : Table) (p q : Program) (proof : Proof) (text : List ℕ) → IsAccepted one [] between p → IsAccepted two between names q
+laws_printed : Laws → (one two : Option (List ℕ)) (between names : Table) (p q : Program) (proof : Proof) (text : List ℕ) → IsAccepted one [] between (seen p) → IsAccepted two between names (seen q)
     → IsPrintedNarrow one → status_of_proof proof ≡ 0 → text ≡ text_of_proof proof → IsProved names p q proof → IsPrinted one two text
 laws_printed laws one two between names p q proof text a b narrow z e (long_first l is) = absurd (not_zero proof 3 z (ap status_of_proof is) (omega arith))
 laws_printed laws one two between names p q proof text a b narrow z e (unfinished_first l is) = absurd (not_zero proof 3 z (ap status_of_proof is) (omega arith))

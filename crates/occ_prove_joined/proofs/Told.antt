@@ -6,10 +6,10 @@ use Rattle.occ_behaviour.specs.declared.behaviour.Side.{Side}
 use Rattle.occ_behaviour.specs.declared.behaviour.Side.TheVariants.{First, Second}
 use Rattle.occ_behaviour.specs.declared.behaviour.Verdict.{Verdict}
 use Rattle.occ_behaviour.specs.declared.behaviour.Verdict.TheVariants.{Same, Differ}
-use Rattle.occ_syntax.specs.declared.scope.Program.{Program}
 use Rattle.occ_tool_run.specs.declared.answer.Answer.{Answer}
 use Rattle.occ_tool_run.specs.declared.answer.Answer.TheVariants.{Compared, Refused, Unusable}
 use Rattle.occ_tool_run.specs.declared.judge.Question.TheVariants.{WhetherSame}
+use Rattle.occ_tool_run.specs.Accepts.{Program}
 use Rattle.occ_tool_run.specs.Answers.{Compares, Settles, Takes, TakesBoth, Turned, accepted, accepted_behind, apart, compared, refused, refused_behind, unusable, unusable_behind}
 use Rattle.occ_tool_run.specs.Files.{order_of}
 use Rattle.occ_tool_run.specs.Texts.{status_of, text_of}
@@ -27,7 +27,7 @@ of_verdict names (Differ b side) answer e z = absurd (refusing answer 1 z (ap st
 
 compares : (p : Program) (names : List (List ℕ)) (q : Program) (answer : Answer) → Compares p names q answer → Says answer
 compares p names q answer (apart others e) z = absurd (refusing answer 7 z (ap status_of e) (omega arith))
-compares p names q answer (compared v is e) z = of_verdict names v answer e z
+compares p names q answer (compared v same is e) z = of_verdict names v answer e z
 
 takes : (place : Side) (file : Option (List ℕ)) (old : List (List ℕ)) (rest : List (List ℕ) → Program → Answer → Type 0) (answer : Answer)
     → ((names : List (List ℕ)) (p : Program) → rest names p answer → Says answer) → Takes place file old rest answer → Says answer
@@ -50,4 +50,4 @@ both Equal one two answer t z = takes First one [] (λ names p. Compares p names
 both Greater one two answer t z = turned one two answer t z
 
 pub settled : (one two : Option (List ℕ)) (answer : Answer) → Settles WhetherSame one two answer → status_of answer ≡ 0 → text_of answer ≡ codes "SAME\n"
-settled one two answer s z = both (order_of one two) one two answer s.judged z
+settled one two answer s z = both (order_of one two) one two answer s.text z

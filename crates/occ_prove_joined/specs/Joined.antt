@@ -6,16 +6,17 @@ use Rattle.occ_syntax.specs.declared.scope.Program.{Program}
 use Rattle.occ_tool_run.specs.Accepts.{IsAccepted}
 use Rattle.occ_tool_run.specs.Answers.{Answers}
 use Rattle.occ_tool_run.specs.Files.{Files}
+use Rattle.occ_tool_run.specs.Stored.{seen}
 use Rattle.occ_tool_run.specs.Texts.{figure_text}
 
 -- A text is a script of so many steps from the program of one file to that of another, which is read behind it.
 pub record IsScriptBetween (one two : Option (List ℕ)) (text : List ℕ) (count : ℕ) : Type 0 where
   pub between : List (List ℕ)
   pub from : Program
-  pub first : IsAccepted one [] between from
+  pub first : IsAccepted one [] between (seen from)
   pub names : List (List ℕ)
   pub to : Program
-  pub second : IsAccepted two between names to
+  pub second : IsAccepted two between names (seen to)
   pub all : List (List ℕ)
   pub steps : List Done
   pub text_is : text ≡ script_text all from steps to

@@ -10,11 +10,12 @@ use Rattle.occ_behaviour.specs.declared.behaviour.Side.TheVariants.{First, Secon
 use Rattle.occ_nform_table.specs.Tables.{IsInterface, are_params}
 use Rattle.occ_prove_run.specs.declared.pair.Pair.{Pair}
 use Rattle.occ_prove_run.specs.Pairs.{AreApartAll, IsPairOf}
+use Rattle.occ_prove_run.specs.Proofs.{AreHeadedAlike}
 use Rattle.occ_prove_steps.specs.Joined.{HaveOneHeader}
 use Rattle.occ_syntax.specs.declared.scope.Kind.{Kind}
 use Rattle.occ_syntax.specs.declared.scope.Program.{Program}
 use Rattle.occ_syntax.specs.View.{tree}
-use Rattle.occ_tool_run.proofs.Judging.{Law, accepted_file, no_name_twice, refusal_taken}
+use Rattle.occ_tool_run.proofs.Judging.{Law, accepted_file, names_once, refusal_taken}
 use Rattle.occ_tool_run.specs.declared.accept.Refusal.{Refusal}
 use Rattle.occ_tool_run.specs.declared.accept.Refusal.TheVariants as refusal
 use Rattle.occ_tool_run.specs.declared.answer.Answer.{Answer}
@@ -22,17 +23,13 @@ use Rattle.occ_tool_run.specs.declared.answer.Answer.TheVariants.{Refused, Unusa
 use Rattle.occ_tool_run.specs.declared.load.Loaded.{Loaded}
 use Rattle.occ_tool_run.specs.declared.load.Loaded.TheVariants.{Bytes, TooLong}
 use Rattle.occ_tool_run.specs.Answers.{Takes, accepted}
+use Rattle.occ_tool_run.specs.Stored.{seen}
 use Rattle.occ_tool_run.specs.Judged.{HasInterface, IsAcceptedFrom, IsRefusalAnswer, IsRefusedFrom}
 
 abbrev Table : Type 0
 Table = List (List ℕ)
 
--- the names of the first stand once
-distinct : Law → (l : Loaded) (new : List (List ℕ)) (p : Program) → IsAcceptedFrom l [] new p → IsDistinct new
-distinct law (Bytes text) new p read = (law text.items [] new p.name p.params (tree p.body) read.accepted.numbers no_name_twice read.accepted.read).0
-distinct law TooLong new p read = absurd read
-
--- and the parameters of the second are an interface
+-- where the names of the first stand once, the parameters of the second are an interface
 interface : Law → (l : Loaded) (old new : List (List ℕ)) (q : Program) → IsDistinct old → IsAcceptedFrom l old new q → HasInterface new q
 interface law (Bytes text) old new q d read =
     let h = law text.items old new q.name q.params (tree q.body) read.accepted.numbers d read.accepted.read in
@@ -48,7 +45,7 @@ of_params names p q e h = record {
 pub pair_of : Law → (one two : Loaded) (pair : Pair) (between : List (List ℕ)) → IsAcceptedFrom one [] between pair.left.program
     → IsAcceptedFrom two between pair.names pair.right.program → HaveOneHeader pair.left.program pair.right.program → IsPairOf one two pair
 pair_of law one two pair between first second header =
-    let right = interface law two between pair.names pair.right.program (distinct law one between pair.left.program first) second in
+    let right = interface law two between pair.names pair.right.program (names_once law one between pair.left.program first) second in
     record {
       between = between;
       first = first;
@@ -77,20 +74,20 @@ pub first_refused : (r : Found) (one two : Loaded) (new : Table) (f : Refusal) �
     → IfOk r (λ found. IfNone found (AreApartAll one two))
 first_refused r one two new f k why = none_if r (AreApartAll one two) f k (λ known x y j l.
     let t = told new First f known in
-    (t.0, refusal_taken First one x [] new (λ between p. Takes Second y between (λ names q a. HaveOneHeader p q → ⊥)) f t.0 t.1 why j))
+    (t.0, refusal_taken First one x [] new (λ between p. Takes Second y between (λ names q a. AreHeadedAlike p q → ⊥)) f t.0 t.1 why j))
 
 -- the second is
 pub second_refused : (r : Found) (one two : Loaded) (between new : Table) (p : Program) (f : Refusal) → IfOk r (λ found. f ≢ refusal.Memory) → IsAcceptedFrom one [] between p
     → IsRefusedFrom two between new f → IfOk r (λ found. IfNone found (AreApartAll one two))
 second_refused r one two between new p f k first why = none_if r (AreApartAll one two) f k (λ known x y j l.
     let t = told new Second f known in
-    (t.0, accepted between p (accepted_file one x [] between p first j) (refusal_taken Second two y between new (λ names q a. HaveOneHeader p q → ⊥) f t.0 t.1 why l)))
+    (t.0, accepted between (seen p) (accepted_file one x [] between p first j) (refusal_taken Second two y between new (λ names q a. AreHeadedAlike (seen p) q → ⊥) f t.0 t.1 why l)))
 
 -- or the headers differ
 headers_differ : (one two : Loaded) (between names : Table) (p q : Program) → IsAcceptedFrom one [] between p → IsAcceptedFrom two between names q → (HaveOneHeader p q → ⊥)
     → AreApartAll one two
 headers_differ one two between names p q first second apart x y j l =
-    (Usage, accepted between p (accepted_file one x [] between p first j) (accepted names q (accepted_file two y between names q second l) apart))
+    (Usage, accepted between (seen p) (accepted_file one x [] between p first j) (accepted names (seen q) (accepted_file two y between names q second l) apart))
 
 pub header_there : (p q left right : Program) → left ≡ p → right ≡ q → HaveOneHeader left right → HaveOneHeader p q
 header_there p q left right e f h = subst (HaveOneHeader p) f (subst (λ x. HaveOneHeader x right) e h)

@@ -13,14 +13,15 @@ use Rattle.occ_prove_run.specs.Normal.{IsLong, IsShort, IsWide}
 use Rattle.occ_prove_run.specs.Words.{usage_text}
 use Rattle.occ_prove_steps.specs.Joined.{HaveOneHeader}
 use Rattle.occ_script_write.specs.declared.writing.Done.{Done}
-use Rattle.occ_syntax.specs.declared.scope.Program.{Program}
+use Rattle.occ_syntax.specs.declared.scope.Program.{Program as Stored}
 use Rattle.occ_syntax.specs.View.{tree}
 use Rattle.occ_tool_run.specs.declared.answer.Answer.{Answer}
 use Rattle.occ_tool_run.specs.declared.answer.Answer.TheVariants.{Compared}
 use Rattle.occ_tool_run.specs.declared.judge.Question.TheVariants.{WhetherSame}
-use Rattle.occ_tool_run.specs.Accepts.{IsAccepted}
+use Rattle.occ_tool_run.specs.Accepts.{IsAccepted, Program}
 use Rattle.occ_tool_run.specs.Answers.{Settles, Takes}
 use Rattle.occ_tool_run.specs.Derived.{AreSteps}
+use Rattle.occ_tool_run.specs.Stored.{seen}
 use Rattle.occ_tool_run.specs.Texts.{refusal_text, status_of, text_of}
 use Rattle.occ_tool_run.specs.Transforms.{IsScriptOf}
 
@@ -28,7 +29,7 @@ use Rattle.occ_tool_run.specs.Transforms.{IsScriptOf}
 -- controls: the first one's is looked at first. Or it has no more, and no derivation of it was found; for the second that is also said
 -- where its derivation doesn't end as the first one's does. Or steps that lead from the second to its normal program can't be undone. Or
 -- steps lead from the one program to the other, each a move by a law of the table, and the answer is the script that says so.
-pub data IsProved (names : List (List ℕ)) (p q : Program) (proof : Proof) : Type 0 where
+pub data IsProved (names : List (List ℕ)) (p q : Stored) (proof : Proof) : Type 0 where
   long_first : IsLong names p → proof ≡ Long First → IsProved names p q proof
   unfinished_first : IsShort names p → proof ≡ Unfinished First → IsProved names p q proof
   long_second : IsShort names p → IsLong names q → proof ≡ Long Second → IsProved names p q proof
@@ -48,18 +49,22 @@ IsStuck place fault.Memory proof = ⊥
 abbrev pub IsSame : Answer → Type 0
 IsSame answer = (names : List (List ℕ)) × (answer ≡ Compared names Same)
 
+-- the two have one header
+abbrev pub AreHeadedAlike : Program → Program → Type 0
+AreHeadedAlike p q = (p.name ≡ q.name) × (p.params ≡ q.params)
+
 -- Of two files, of which the first is read first, one is refused, or the headers of their programs differ.
 abbrev pub AreApart : Option (List ℕ) → Option (List ℕ) → Type 0
 AreApart one two =
-    (answer : Answer) × Takes First one [] (λ between p. Takes Second two between (λ names q a. HaveOneHeader p q → ⊥)) answer
+    (answer : Answer) × Takes First one [] (λ between p. Takes Second two between (λ names q a. AreHeadedAlike p q → ⊥)) answer
 
 -- What two files are answered with: where their programs have one header and mean the same, whether steps lead from the one to the
 -- other; else what `same` says of them.
 pub data Proves (one two : Option (List ℕ)) (proof : Proof) : Type 0 where
   as_same : (answer : Answer) → Settles WhetherSame one two answer → (IsSame answer → AreApart one two) → proof ≡ Told answer
       → Proves one two proof
-  by_laws : (answer : Answer) (between names : List (List ℕ)) (p q : Program) → Settles WhetherSame one two answer → IsSame answer
-      → IsAccepted one [] between p → IsAccepted two between names q → HaveOneHeader p q → IsProved names p q proof → Proves one two proof
+  by_laws : (answer : Answer) (between names : List (List ℕ)) (p q : Stored) → Settles WhetherSame one two answer → IsSame answer
+      → IsAccepted one [] between (seen p) → IsAccepted two between names (seen q) → HaveOneHeader p q → IsProved names p q proof → Proves one two proof
 
 -- ---- the text of an answer
 

@@ -41,7 +41,7 @@ fn is_same(answer: &Answer) -> bool
     ensures { IsTrue result ↔ IsSame answer.now }
 {
     match answer {
-        Answer::Compared { verdict, .. } => match verdict {
+        Answer::Compared(_, verdict) => match verdict {
             Verdict::Same => true,
             Verdict::Differ { .. } => false,
         },

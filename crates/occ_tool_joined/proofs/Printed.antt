@@ -19,18 +19,19 @@ use Rattle.occ_script_joined.specs.Joined.{AreWrittenMoves, IsJoined as IsJoined
 use Rattle.occ_script_write.specs.declared.writing.Done.{Done}
 use Rattle.occ_script_write.specs.Text.{IsWritable, script_text}
 use Rattle.occ_script_write_back.specs.Said.{IsSaid, IsShortPath}
-use Rattle.occ_syntax.specs.declared.scope.Program.{Program}
+use Rattle.occ_syntax.specs.declared.scope.Program.{Program as Stored}
 use Rattle.occ_syntax.specs.View.{tree}
 use Rattle.occ_tool_joined.specs.Joined.{IsJoined, IsPrintedNarrow}
 use Rattle.occ_tool_joined.proofs.Asked.{PathLaw, derive_asked, expand_asked, path_asked, replay_asked, transform_asked}
 use Rattle.occ_tool_joined.proofs.Replayed.{IsDerived, OneLaw, replay_joined}
-use Rattle.occ_tool_run.proofs.Accepting.{read_typed}
+use Rattle.occ_tool_run.proofs.Accepting.{keeps_usage, read_typed}
 use Rattle.occ_tool_run.proofs.Judging.{no_name_twice}
-use Rattle.occ_tool_run.specs.Accepts.{IsAccepted}
+use Rattle.occ_tool_run.specs.Accepts.{IsAccepted, Program}
 use Rattle.occ_tool_run.specs.Answers.{Answers, Takes, accepted, refused, unusable}
 use Rattle.occ_tool_run.specs.Derivations.{Replays}
 use Rattle.occ_tool_run.specs.Derived as normal
 use Rattle.occ_tool_run.specs.Files.{Files, most_script_bytes}
+use Rattle.occ_tool_run.specs.Stored.{OfStored, seen}
 use Rattle.occ_tool_run.specs.Texts.{figure_text, status_of, text_of}
 use Rattle.occ_tool_run.specs.Transforms.{IsExpandedTo, IsScriptOf, IsTransformed, blocked, expanded, faulty_orders, followed_orders, no_par, no_part, stopped_orders, too_long_orders}
 use Rattle.occ_tool_words.specs.Words.{derive, expand, job_of, replay, transform}
@@ -42,21 +43,21 @@ Table = List (List ℕ)
 -- ---- the laws that this stands on
 
 pub record PrintedLaw : Type 0 where
-  pub kept : (names : Table) (P : ℕ → Place) (from to : Program) (steps : List Done) → AreWrittenMoves names P from steps to
+  pub kept : (names : Table) (P : ℕ → Place) (from to : Stored) (steps : List Done) → AreWrittenMoves names P from steps to
       → length (script_text names from steps to) ≤ 4194304 → (e : ScriptFault) → IsScriptFault (script_text names from steps to) [] e → ⊥
-  pub joined : (names : Table) (P : ℕ → Place) (from to : Program) (steps : List Done) → AreWrittenMoves names P from steps to
+  pub joined : (names : Table) (P : ℕ → Place) (from to : Stored) (steps : List Done) → AreWrittenMoves names P from steps to
       → (new : Table) (script : Script) → IsScript (script_text names from steps to) [] new script → IsJoinedScript steps script
 
 abbrev pub OrdersLaw : Type 0
-OrdersLaw = (text : List ℕ) (names new : Table) (orders : List Order) (from to : Program) (steps : List Done) → IsFirstProgram names from → IsOrders text names new orders
+OrdersLaw = (text : List ℕ) (names new : Table) (orders : List Order) (from to : Stored) (steps : List Done) → IsFirstProgram names from → IsOrders text names new orders
     → Follows from.params (tree from.body) (orders_of orders) (moves_of steps) (tree to.body) → to.name ≡ from.name → to.params ≡ from.params → AreWritten new from steps to
 
 abbrev pub ExpandLaw : Type 0
-ExpandLaw = (names : Table) (path : List ℕ) (from to : Program) (steps : List Done) → IsFirstProgram names from → IsShortPath path
+ExpandLaw = (names : Table) (path : List ℕ) (from to : Stored) (steps : List Done) → IsFirstProgram names from → IsShortPath path
     → IsExpanded from.params (tree from.body) path (moves_of steps) (tree to.body) → to.name ≡ from.name → to.params ≡ from.params → AreWritten names from steps to
 
 abbrev pub KnownLaw : Type 0
-KnownLaw = (names new : Table) (from to : Program) (steps : List Done) → IsFirstProgram names from → GrowsByNames names new → AllByRecursion (IsWritable new) steps
+KnownLaw = (names new : Table) (from to : Stored) (steps : List Done) → IsFirstProgram names from → GrowsByNames names new → AllByRecursion (IsWritable new) steps
     → AllByRecursion IsSaid steps → Moves from.params (tree from.body) (moves_of steps) (tree to.body) → to.name ≡ from.name → to.params ≡ from.params → AreWritten new from steps to
 
 -- ---- what was printed
@@ -64,15 +65,15 @@ KnownLaw = (names new : Table) (from to : Program) (steps : List Done) → IsFir
 -- a script of moves that are written, from the program of a file
 record IsPrinted (file : Option (List ℕ)) (text : List ℕ) : Type 0 where
   first : Table
-  from : Program
-  is_accepted : IsAccepted file [] first from
+  from : Stored
+  is_accepted : IsAccepted file [] first (seen from)
   names : Table
   steps : List Done
-  to : Program
+  to : Stored
   moves : AreWritten names from steps to
   text_is : text ≡ script_text names from steps to
 
-derived : PrintedLaw → (names : Table) (from to : Program) (steps : List Done) (text : List ℕ) → AreWritten names from steps to
+derived : PrintedLaw → (names : Table) (from to : Stored) (steps : List Done) (text : List ℕ) → AreWritten names from steps to
     → text ≡ script_text names from steps to → length text ≤ most_script_bytes → IsDerived text (length steps)
 derived law names from to steps text w e short =
     let P = w.0 in
@@ -117,20 +118,20 @@ join law one file text later words script p short j e = record {
 refusing : (answer : _) (n : ℕ) → status_of answer ≡ 0 → status_of answer ≡ n → 1 ≤ n → ⊥
 refusing answer n z e h = absurd (omega (arith, z, e, h))
 
-first_program : (file : Option (List ℕ)) (names : Table) (p : Program) → IsPrintedNarrow file → IsAccepted file [] names p → IsFirstProgram names p
+first_program : (file : Option (List ℕ)) (names : Table) (p : Stored) → IsPrintedNarrow file → IsAccepted file [] names (seen p) → IsFirstProgram names p
 first_program file names p narrow a = let typed = read_typed a.bytes [] names p a.text.numbers no_name_twice a.text.read in record {
   text = a.bytes;
   lines = a.text.numbers;
   read = a.text.read;
-  accepted = record { typed = typed; keeps = record { types = typed.types; usage = a.text.usage } };
-  narrow = narrow names p a;
+  accepted = record { typed = typed; keeps = record { types = typed.types; usage = keeps_usage a.bytes [] names (seen p) no_name_twice a.text } };
+  narrow = narrow names (seen p) a;
 }
 
-script_written : (names : Table) (from to : Program) (steps : List Done) (answer : _) (text : List ℕ) → IsScriptOf names from steps to answer → text ≡ text_of answer
+script_written : (names : Table) (from to : Stored) (steps : List Done) (answer : _) (text : List ℕ) → IsScriptOf names from steps to answer → text ≡ text_of answer
     → text ≡ script_text names from steps to
 script_written names from to steps answer text s e = e ∙ ap text_of s.answer_is ∙ s.text_is
 
-printed : (file : Option (List ℕ)) (first names : Table) (from to : Program) (steps : List Done) (answer : _) (text : List ℕ) → IsAccepted file [] first from
+printed : (file : Option (List ℕ)) (first names : Table) (from to : Stored) (steps : List Done) (answer : _) (text : List ℕ) → IsAccepted file [] first (seen from)
     → IsScriptOf names from steps to answer → text ≡ text_of answer → AreWritten names from steps to → IsPrinted file text
 printed file first names from to steps answer text a s e w = record {
   first = first;
@@ -143,23 +144,23 @@ printed file first names from to steps answer text a s e w = record {
   text_is = script_written names from to steps answer text s e;
 }
 
-transform_printed : OrdersLaw → (file : Option (List ℕ)) (bytes : List ℕ) (names : Table) (p : Program) (answer : _) (text : List ℕ) → IsPrintedNarrow file
-    → IsAccepted file [] names p → status_of answer ≡ 0 → text ≡ text_of answer → IsTransformed bytes names p answer → IsPrinted file text
+transform_printed : OrdersLaw → (file : Option (List ℕ)) (bytes : List ℕ) (names : Table) (p : Stored) (answer : _) (text : List ℕ) → IsPrintedNarrow file
+    → IsAccepted file [] names (seen p) → status_of answer ≡ 0 → text ≡ text_of answer → IsTransformed bytes names p answer → IsPrinted file text
 transform_printed law file bytes names p answer text narrow a z e (too_long_orders l is) = absurd (refusing answer 3 z (ap status_of is) (omega arith))
 transform_printed law file bytes names p answer text narrow a z e (faulty_orders fault l f is) = absurd (refusing answer 3 z (ap status_of is) (omega arith))
 transform_printed law file bytes names p answer text narrow a z e (stopped_orders new orders number lack l o s is) = absurd (refusing answer 3 z (ap status_of is) (omega arith))
 transform_printed law file bytes names p answer text narrow a z e (followed_orders new orders steps to l o f s) =
     printed file names new p to steps answer text a s e (law bytes names new orders p to steps (first_program file names p narrow a) o f s.name s.params)
 
-expand_printed : ExpandLaw → (file : Option (List ℕ)) (path : List ℕ) (names : Table) (p : Program) (answer : _) (text : List ℕ) → IsPrintedNarrow file → IsShortPath path
-    → IsAccepted file [] names p → status_of answer ≡ 0 → text ≡ text_of answer → IsExpandedTo path names p answer → IsPrinted file text
+expand_printed : ExpandLaw → (file : Option (List ℕ)) (path : List ℕ) (names : Table) (p : Stored) (answer : _) (text : List ℕ) → IsPrintedNarrow file → IsShortPath path
+    → IsAccepted file [] names (seen p) → status_of answer ≡ 0 → text ≡ text_of answer → IsExpandedTo path names p answer → IsPrinted file text
 expand_printed law file path names p answer text narrow short a z e (no_part n is) = absurd (refusing answer 3 z (ap status_of is) (omega arith))
 expand_printed law file path names p answer text narrow short a z e (no_par n is) = absurd (refusing answer 3 z (ap status_of is) (omega arith))
 expand_printed law file path names p answer text narrow short a z e (blocked b is) = absurd (refusing answer 3 z (ap status_of is) (omega arith))
 expand_printed law file path names p answer text narrow short a z e (expanded steps to x s) =
     printed file names names p to steps answer text a s e (law names path p to steps (first_program file names p narrow a) short x s.name s.params)
 
-derive_printed : KnownLaw → (file : Option (List ℕ)) (names : Table) (p : Program) (answer : _) (text : List ℕ) → IsPrintedNarrow file → IsAccepted file [] names p
+derive_printed : KnownLaw → (file : Option (List ℕ)) (names : Table) (p : Stored) (answer : _) (text : List ℕ) → IsPrintedNarrow file → IsAccepted file [] names (seen p)
     → status_of answer ≡ 0 → text ≡ text_of answer → normal.IsDerived names p answer → IsPrinted file text
 derive_printed law file names p answer text narrow a z e (normal.long body n c is) = absurd (refusing answer 3 z (ap status_of is) (omega arith))
 derive_printed law file names p answer text narrow a z e (normal.unfinished body n c is) = absurd (refusing answer 3 z (ap status_of is) (omega arith))
@@ -168,23 +169,26 @@ derive_printed law file names p answer text narrow a z e (normal.derived new ste
     (law names new p to steps (first_program file names p narrow a) k.grown k.written k.said moves s.name s.params)
 
 -- the program is accepted, and the rest decides
+stored : (file : Option (List ℕ)) (names : Table) (p : Program) (q : Stored) → p ≡ seen q → IsAccepted file [] names p → IsAccepted file [] names (seen q)
+stored file names p q e a = subst (IsAccepted file [] names) e a
+
 transform_taken : OrdersLaw → (file : Option (List ℕ)) (bytes : List ℕ) (answer : _) (text : List ℕ) → IsPrintedNarrow file → status_of answer ≡ 0 → text ≡ text_of answer
-    → Takes First file [] (IsTransformed bytes) answer → IsPrinted file text
+    → Takes First file [] (OfStored (IsTransformed bytes)) answer → IsPrinted file text
 transform_taken law file bytes answer text narrow z e (refused fault r is) = absurd (refusing answer 3 z (ap status_of is) (omega arith))
 transform_taken law file bytes answer text narrow z e (unusable new line fault u is) = absurd (refusing answer 3 z (ap status_of is) (omega arith))
-transform_taken law file bytes answer text narrow z e (accepted new p a h) = transform_printed law file bytes new p answer text narrow a z e h
+transform_taken law file bytes answer text narrow z e (accepted new p a h) = transform_printed law file bytes new h.stored answer text narrow (stored file new p h.stored h.program_is a) z e h.answered
 
 expand_taken : ExpandLaw → (file : Option (List ℕ)) (path : List ℕ) (answer : _) (text : List ℕ) → IsPrintedNarrow file → IsShortPath path → status_of answer ≡ 0
-    → text ≡ text_of answer → Takes First file [] (IsExpandedTo path) answer → IsPrinted file text
+    → text ≡ text_of answer → Takes First file [] (OfStored (IsExpandedTo path)) answer → IsPrinted file text
 expand_taken law file path answer text narrow short z e (refused fault r is) = absurd (refusing answer 3 z (ap status_of is) (omega arith))
 expand_taken law file path answer text narrow short z e (unusable new line fault u is) = absurd (refusing answer 3 z (ap status_of is) (omega arith))
-expand_taken law file path answer text narrow short z e (accepted new p a h) = expand_printed law file path new p answer text narrow short a z e h
+expand_taken law file path answer text narrow short z e (accepted new p a h) = expand_printed law file path new h.stored answer text narrow short (stored file new p h.stored h.program_is a) z e h.answered
 
 derive_taken : KnownLaw → (file : Option (List ℕ)) (answer : _) (text : List ℕ) → IsPrintedNarrow file → status_of answer ≡ 0
-    → text ≡ text_of answer → Takes First file [] normal.IsDerived answer → IsPrinted file text
+    → text ≡ text_of answer → Takes First file [] (OfStored normal.IsDerived) answer → IsPrinted file text
 derive_taken law file answer text narrow z e (refused fault r is) = absurd (refusing answer 3 z (ap status_of is) (omega arith))
 derive_taken law file answer text narrow z e (unusable new line fault u is) = absurd (refusing answer 3 z (ap status_of is) (omega arith))
-derive_taken law file answer text narrow z e (accepted new p a h) = derive_printed law file new p answer text narrow a z e h
+derive_taken law file answer text narrow z e (accepted new p a h) = derive_printed law file new h.stored answer text narrow (stored file new p h.stored h.program_is a) z e h.answered
 
 -- ---- the whole
 
@@ -195,7 +199,7 @@ transformed_joined one law ordered files later words again program orders script
     let t = transform_asked files words a.answer program orders j a.is in
     let z : status_of a.answer ≡ 0 = sym a.status_is in
     join law one (files program) text later again script
-    (transform_taken ordered (files program) t.bytes a.answer text narrow z a.text_is t.judged) short k e
+    (transform_taken ordered (files program) t.bytes a.answer text narrow z a.text_is t.text) short k e
 
 pub expanded_joined : OneLaw → PrintedLaw → ExpandLaw → PathLaw → (files later : Files) (words again : Table) (program path script text : List ℕ)
     → job_of words ≡ Some (expand program path) → Answers files words 0 text → IsPrintedNarrow (files program) → length text ≤ most_script_bytes

@@ -3,25 +3,25 @@ use Rattle.std.specs.Prelude.{ℕ, ◌≡◌, List, [], length, Option, codes}
 use Rattle.occ_print_back.specs.Back.{IsNarrow}
 use Rattle.occ_script_write.specs.declared.writing.Done.{Done}
 use Rattle.occ_script_write.specs.Text.{script_text}
-use Rattle.occ_syntax.specs.declared.scope.Program.{Program}
-use Rattle.occ_syntax.specs.View.{tree}
-use Rattle.occ_tool_run.specs.Accepts.{IsAccepted}
+use Rattle.occ_syntax.specs.declared.scope.Program.{Program as Stored}
+use Rattle.occ_tool_run.specs.Accepts.{IsAccepted, Program}
 use Rattle.occ_tool_run.specs.Answers.{Answers}
 use Rattle.occ_tool_run.specs.Files.{Files}
+use Rattle.occ_tool_run.specs.Stored.{seen}
 use Rattle.occ_tool_run.specs.Texts.{figure_text}
 
 -- no line on which the program of a file is printed has more than 4,096 tokens
 abbrev pub IsPrintedNarrow : Option (List ℕ) → Type 0
-IsPrintedNarrow file = (names : List (List ℕ)) (p : Program) → IsAccepted file [] names p → IsNarrow p.name.0 p.params (tree p.body)
+IsPrintedNarrow file = (names : List (List ℕ)) (p : Program) → IsAccepted file [] names p → IsNarrow p.name.0 p.params p.body
 
 -- A text is a script of so many steps that begins with the program of a file.
 pub record IsScriptFrom (file : Option (List ℕ)) (text : List ℕ) (count : ℕ) : Type 0 where
   pub first : List (List ℕ)
-  pub from : Program
-  pub accepted : IsAccepted file [] first from
+  pub from : Stored
+  pub accepted : IsAccepted file [] first (seen from)
   pub names : List (List ℕ)
   pub steps : List Done
-  pub to : Program
+  pub to : Stored
   pub text_is : text ≡ script_text names from steps to
   pub as_many : length steps ≡ count
 

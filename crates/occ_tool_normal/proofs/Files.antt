@@ -1,42 +1,55 @@
 -- Two files that have normal texts, and what is answered of the two.
-use Rattle.std.proofs.Common.{◌≡◌, ◌↔◌, ◌<◌, ◌^◌, ℕ, List, [], length, Some, refl, sym, ap, subst, ◌∙◌, arith}
+use Rattle.std.proofs.Common.{◌≡◌, ◌↔◌, ◌<◌, ◌^◌, ℕ, true, List, [], length, Some, Ok, refl, sym, ap, subst, ◌∙◌, arith}
 use Rattle.std.specs.Prelude.{codes}
 use Rattle.std.specs.declared.cmp.Ordering.{Ordering}
 use Rattle.std.specs.declared.cmp.Ordering.TheVariants.{Less, Equal, Greater}
 use Rattle.occ_nform.specs.Written.{IsNormalText}
+use Rattle.occ_nform_written.specs.Tables.{IsTextOf as IsOwnText}
+use Rattle.occ_nform_table.specs.Behaviours.{Stands}
+use Rattle.occ_nform_table.specs.Normal.{Parts, text_read}
+use Rattle.occ_nform_table.specs.Tables.{IsInterface, are_params}
+use Rattle.occ_base.specs.declared.names.Name.{Name}
+use Rattle.occ_syntax.specs.Tree.{Tree}
+use Rattle.occ_syntax.specs.declared.scope.Kind.{Kind}
 use Rattle.occ_base.specs.Names.{IsDistinct}
 use Rattle.occ_parse_reading.specs.declared.fault.ParseFault.{ParseFault}
 use Rattle.occ_usage.specs.declared.fault.UsageFault.{UsageFault}
-use Rattle.occ_syntax.specs.View.{tree}
-use Rattle.occ_syntax.specs.declared.scope.Program.{Program}
 use Rattle.occ_behaviour.specs.declared.behaviour.Side.{Side}
 use Rattle.occ_behaviour.specs.declared.behaviour.Side.TheVariants.{First, Second}
 use Rattle.occ_tool_normal.proofs.Texts.{File, IsTextOf, Laws, Table, Told, both, no_misuse, no_refusal, told}
 use Rattle.occ_tool_run.specs.declared.answer.Answer.{Answer}
 use Rattle.occ_tool_run.specs.declared.judge.Question.TheVariants.{WhetherSame}
-use Rattle.occ_tool_run.specs.Accepts.{IsAccepted, IsAcceptedText, IsRefused, IsUnusable}
+use Rattle.occ_tool_run.specs.Accepts.{IsAccepted, IsAcceptedText, IsRefused, IsUnusable, Program}
 use Rattle.occ_tool_run.specs.Answers.{Answers, Compares, IsNormalised, Settles, Takes, TakesBoth, Turned, accepted, accepted_behind, refused, refused_behind, unusable, unusable_behind}
 use Rattle.occ_tool_run.specs.Files.{Files, order_of, short_bytes}
 use Rattle.occ_tool_run.specs.Texts.{status_of, text_of}
-use Rattle.occ_usage.specs.Accepted.{IsTyped}
-use Rattle.occ_tool_run.proofs.Accepting.{read_typed}
+use Rattle.occ_engine_written.proofs.Typed.{AreKept}
+use Rattle.occ_tool_run.proofs.Accepting.{names_read, read_kept}
 use Rattle.occ_tool_run.proofs.EitherOrder.{kept_bytes, one_text}
 use Rattle.occ_tool_run.proofs.Judging.{no_name_twice}
 use Rattle.occ_tool_run.proofs.OneAnswer.{Does, back, does, short}
 use Rattle.occ_tool_run.proofs.Taken.{AreOne, agree, as_taken}
 use Rattle.occ_tool_words.specs.Words.{Job, job_of, normalise, same}
 
+-- a text is read as a table that stands for a program exactly where it is the text of such a table
+abbrev pub TextsLaw : Type 0
+TextsLaw = (names : Table) (params : List (Name × Kind)) (p : Tree) (text : List ℕ) → IsDistinct names → IsInterface names params → are_params names [] params ≡ true
+    → length text < 2 ^ 64
+    → ((t : Parts) × (text_read names text ≡ Ok t) × (t.names ≡ names) × (t.params ≡ params) × Stands params t.rows t.states p) ↔ IsOwnText names params p text
+
 -- a file whose normal text is the answer
-pub normal_of : (file : File) (a : Answer) → Takes First file [] IsNormalised a → status_of a ≡ 0 → IsTextOf file (text_of a)
-normal_of file a (refused f r e) h = let no : status_of a ≡ 3 = ap status_of e in absurd (omega (arith, no, h))
-normal_of file a (unusable n l f r e) h = let no : status_of a ≡ 3 = ap status_of e in absurd (omega (arith, no, h))
-normal_of file a (accepted n p r x) h =
+pub normal_of : TextsLaw → (file : File) (a : Answer) → Takes First file [] IsNormalised a → status_of a ≡ 0 → IsTextOf file (text_of a)
+normal_of law file a (refused f r e) h = let no : status_of a ≡ 3 = ap status_of e in absurd (omega (arith, no, h))
+normal_of law file a (unusable n l f r e) h = let no : status_of a ≡ 3 = ap status_of e in absurd (omega (arith, no, h))
+normal_of law file a (accepted n p r x) h =
     let text : x.text.items ≡ text_of a = sym (ap text_of x.answer_is) in
+    let o = names_read r.bytes [] n p r.text.numbers no_name_twice r.text.read in
+    let t = (law n p.params p.body x.text.items o.0 o.1 o.2 (short x.text)).1 x.is in
     record {
       names = n;
       program = p;
       accepted = r;
-      normal = subst (IsNormalText n p.params (tree p.body)) text x.is;
+      normal = subst (IsNormalText n p.params p.body) text (record { table = t.0; reads = t.1; names_are = t.2; params_are = t.3; stands = t.4 });
       small = subst (λ t. length t < 2 ^ 64) text (short x.text);
     }
 
@@ -53,8 +66,8 @@ pub asked : (files : Files) (words : List (List ℕ)) (job : Job) (status : ℕ)
 asked files words job status text e h = subst (λ j. Does files j h.answer) e (does files words h.answer h.is)
 
 -- the program of a file keeps types
-typed_in : (file : File) (old names : Table) (p : Program) → IsAccepted file old names p → IsDistinct old → IsTyped p
-typed_in file old names p a d = read_typed a.bytes old names p a.text.numbers d a.text.read
+typed_in : (file : File) (old names : Table) (p : Program) → IsAccepted file old names p → IsDistinct old → AreKept p.params p.body
+typed_in file old names p a d = read_kept a.bytes old names p a.text.numbers d a.text.read
 
 module _ (L : Laws) where
   taken_file : (place : Side) (file : File) (text : List ℕ) (x : IsTextOf file text) (old : Table) → IsDistinct old → (R : Table → Program → Answer → Type 0) (a : Answer) (P : Type 0)
@@ -62,7 +75,7 @@ module _ (L : Laws) where
   taken_file place file text x old d R a P h next = taken place file old R a P (no_refusal L file text x old d) (no_misuse L file text x old d) h next
 
   left_distinct : (file : File) (names : Table) (p : Program) → IsAccepted file [] names p → IsDistinct names
-  left_distinct file names p r = L.distinct r.bytes [] names p.name p.params (tree p.body) r.text.numbers no_name_twice r.text.read
+  left_distinct file names p r = L.distinct r.bytes [] names p.name p.params p.body r.text.numbers no_name_twice r.text.read
 
   module _ (c d : File) (s t : List ℕ) (x : IsTextOf c s) (y : IsTextOf d t) (a : Answer) where
     in_order : TakesBoth Less WhetherSame c d a → Told L s t a
@@ -92,8 +105,8 @@ module _ (L : Laws) where
         let theirs : AreOne n y.names p y.program = agree L.once c [] (as_taken n p) (as_taken y.names y.program) r other in
         told L n p p s t a (typed_in c [] n p r no_name_twice) (typed_in c [] n p r no_name_twice) x.small y.small (record {
           distinct = left_distinct c n p r;
-          first = back (λ ns ps u. IsNormalText ns ps u s) n x.names p.params x.program.params (tree p.body) (tree x.program.body) mine.names mine.params mine.body x.normal;
-          second = back (λ ns ps u. IsNormalText ns ps u t) n y.names p.params y.program.params (tree p.body) (tree y.program.body) theirs.names theirs.params theirs.body y.normal;
+          first = back (λ ns ps u. IsNormalText ns ps u s) n x.names p.params x.program.params p.body x.program.body mine.names mine.params mine.body x.normal;
+          second = back (λ ns ps u. IsNormalText ns ps u t) n y.names p.params y.program.params p.body y.program.body theirs.names theirs.params theirs.body y.normal;
         }) z)
 
     ways : (order : Ordering) → order_of c d ≡ order → TakesBoth order WhetherSame c d a → Told L s t a
@@ -102,16 +115,16 @@ module _ (L : Laws) where
     ways Greater e h = turned h
 
     settled : Settles WhetherSame c d a → Told L s t a
-    settled h = ways (order_of c d) refl h.judged
+    settled h = ways (order_of c d) refl h.text
 
-  pub files_apart : (files : Files) (words again pair : List (List ℕ)) (first second : List ℕ) (status : ℕ) (x y z : List ℕ) → job_of words ≡ Some (normalise first)
+  pub files_apart : TextsLaw → (files : Files) (words again pair : List (List ℕ)) (first second : List ℕ) (status : ℕ) (x y z : List ℕ) → job_of words ≡ Some (normalise first)
       → Answers files words 0 x → job_of again ≡ Some (normalise second) → Answers files again 0 y → job_of pair ≡ Some (same first second)
       → Answers files pair status z → (x ≡ y) ↔ (z ≡ codes "SAME\n")
-  files_apart files words again pair first second status x y z jx ax jy ay jz az =
-      let one = normal_of (files first) ax.answer (asked files words (normalise first) 0 x jx ax) (sym ax.status_is) in
-      let two = normal_of (files second) ay.answer (asked files again (normalise second) 0 y jy ay) (sym ay.status_is) in
-      let law = settled (files first) (files second) (text_of ax.answer) (text_of ay.answer) one two az.answer
+  files_apart law files words again pair first second status x y z jx ax jy ay jz az =
+      let one = normal_of law (files first) ax.answer (asked files words (normalise first) 0 x jx ax) (sym ax.status_is) in
+      let two = normal_of law (files second) ay.answer (asked files again (normalise second) 0 y jy ay) (sym ay.status_is) in
+      let both = settled (files first) (files second) (text_of ax.answer) (text_of ay.answer) one two az.answer
       (asked files pair (same first second) status z jz az) in (
-        λ e. az.text_is ∙ law.0 (sym ax.text_is ∙ (e ∙ ay.text_is)),
-        λ e. ax.text_is ∙ (law.1 (sym az.text_is ∙ e) ∙ sym ay.text_is),
+        λ e. az.text_is ∙ both.0 (sym ax.text_is ∙ (e ∙ ay.text_is)),
+        λ e. ax.text_is ∙ (both.1 (sym az.text_is ∙ e) ∙ sym ay.text_is),
       )

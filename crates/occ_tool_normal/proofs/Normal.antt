@@ -9,13 +9,13 @@ use Rattle.occ_nform_table.specs.Normal.{Parts, text_read}
 use Rattle.occ_parse_reading.specs.Reading.{IsRead}
 use Rattle.occ_parse_reading.specs.declared.bound.Bound.TheVariants as bound
 use Rattle.occ_syntax.specs.Tree.{Tree}
-use Rattle.occ_syntax.specs.View.{tree}
 use Rattle.occ_syntax.specs.declared.scope.Kind.{Kind}
-use Rattle.occ_tool_normal.proofs.Files.{asked, normal_of}
+use Rattle.occ_tool_normal.proofs.Files.{TextsLaw, asked, normal_of}
 use Rattle.occ_tool_normal.proofs.Rows.{counted}
 use Rattle.occ_tool_normal.proofs.Texts.{File, IsTextOf, Table}
 use Rattle.occ_tool_normal.specs.Rows.{rows_of}
 use Rattle.occ_tool_run.proofs.Judging.{no_name_twice}
+use Rattle.occ_tool_run.proofs.AsWritten.{TableFaultsLaw, TablesLaw, few_bytes}
 use Rattle.occ_tool_run.specs.Answers.{Answers, Checks, IsChecked, checking, faulty_table, normal_table, too_long_table}
 use Rattle.occ_tool_run.specs.declared.answer.Answer.{Answer}
 use Rattle.occ_tool_run.specs.declared.answer.Answer.TheVariants.{Counted}
@@ -34,7 +34,7 @@ Confirms status answer text = (status ≡ 0) × (answer ≡ figure_text (codes "
 not_both : (t : Parts) (f : TableFault) (r : Result Parts TableFault) → r ≡ Ok t → r ≡ Err f → ⊥
 not_both t f r e k = cc
 
-module _ (any : AnyNames) (file : File) (text : List ℕ) (x : IsTextOf file text) (d : IsDistinct x.names) where
+module _ (any : AnyNames) (tables : TablesLaw) (faults : TableFaultsLaw) (file : File) (text : List ℕ) (x : IsTextOf file text) (d : IsDistinct x.names) where
   abbrev read : IsReadWith [] text (length x.normal.table.rows)
   read = any x.names [] text x.normal.table d no_name_twice x.small x.normal.reads
 
@@ -43,8 +43,8 @@ module _ (any : AnyNames) (file : File) (text : List ℕ) (x : IsTextOf file tex
 
   checked : length text ≤ most_table_bytes → (a : Answer) → IsChecked text a → Confirms (status_of a) (text_of a) text
   checked few a (too_long_table l e) = absurd (omega (arith, few, l))
-  checked few a (faulty_table f l r e) = absurd (not_both read.table f (text_read [] text) read.reads r)
-  checked few a (normal_table t l r e) = (ap status_of e, ap text_of e ∙ rows_are (length t.rows) (counted [] text t r))
+  checked few a (faulty_table f l r e) = absurd (not_both read.table f (text_read [] text) read.reads ((faults text f (few_bytes text l)).1 r))
+  checked few a (normal_table t l r n e) = (ap status_of e, ap text_of e ∙ rows_are (length t.rows) (counted [] text t ((tables text t (few_bytes text l)).1 (r, n))))
 
   answered : (files : Files) (words : List (List ℕ)) (name : List ℕ) (status : ℕ) (answer : List ℕ) → job_of words ≡ Some (normal name) → files name ≡ Some text → length text ≤ most_table_bytes
       → Answers files words status answer ↔ Confirms status answer text
@@ -52,11 +52,11 @@ module _ (any : AnyNames) (file : File) (text : List ℕ) (x : IsTextOf file tex
     λ h.
         let c : Checks (files name) h.answer = asked files words (normal name) status answer j h in
         let same : c.bytes ≡ text = let k : Some c.bytes ≡ Some text = sym c.there ∙ there in cc in
-        let is = checked few h.answer (subst (λ bytes. IsChecked bytes h.answer) same c.checked) in
+        let is = checked few h.answer (subst (λ bytes. IsChecked bytes h.answer) same c.text) in
         (h.status_is ∙ is.0, h.text_is ∙ is.1),
-    λ h. record {
+    λ h. let w = (tables text read.table (few_bytes text few)).0 read.reads in record {
       answer = Counted (length read.table.rows);
-      is = checking name j (record { bytes = text; there = there; checked = normal_table read.table few read.reads refl });
+      is = checking name j (record { bytes = text; there = there; text = normal_table read.table few w.0 w.1 refl });
       status_is = h.0;
       text_is = h.1 ∙ sym (rows_are (length read.table.rows) (counted [] text read.table read.reads));
     },
@@ -66,13 +66,13 @@ module _ (any : AnyNames) (file : File) (text : List ℕ) (x : IsTextOf file tex
 abbrev pub NamesApart : Type 0
 NamesApart = (text : List ℕ) (old new : Table) (n : Name) (ps : List (Name × Kind)) (p : Tree) (ks : List ℕ) → IsDistinct old → IsRead bound.Program text old new n ps p ks → IsDistinct new
 
-pub written_is_normal : NamesApart → AnyNames → (files after : Files) (words again : List (List ℕ)) (program name text : List ℕ) (status : ℕ) (answer : List ℕ)
+pub written_is_normal : NamesApart → AnyNames → TextsLaw → TablesLaw → TableFaultsLaw → (files after : Files) (words again : List (List ℕ)) (program name text : List ℕ) (status : ℕ) (answer : List ℕ)
     → job_of words ≡ Some (normalise program) → Answers files words 0 text → job_of again ≡ Some (normal name) → after name ≡ Some text → length text ≤ most_table_bytes
     → Answers after again status answer ↔ Confirms status answer text
-written_is_normal apart any files after words again program name text status answer j a k there few =
-    let own : IsTextOf (files program) (text_of a.answer) = normal_of (files program) a.answer (asked files words (normalise program) 0 text j a) (sym a.status_is) in
+written_is_normal apart any texts tables faults files after words again program name text status answer j a k there few =
+    let own : IsTextOf (files program) (text_of a.answer) = normal_of texts (files program) a.answer (asked files words (normalise program) 0 text j a) (sym a.status_is) in
     let x : IsTextOf (files program) text = subst (IsTextOf (files program)) (sym a.text_is) own in
     let p = x.program in
     let distinct : IsDistinct x.names =
-    apart x.accepted.bytes [] x.names p.name p.params (tree p.body) x.accepted.text.numbers no_name_twice x.accepted.text.read in
-    answered any (files program) text x distinct after again name status answer k there few
+    apart x.accepted.bytes [] x.names p.name p.params p.body x.accepted.text.numbers no_name_twice x.accepted.text.read in
+    answered any tables faults (files program) text x distinct after again name status answer k there few

@@ -26,21 +26,19 @@ use Rattle.occ_syntax.specs.Same.{SAME}
 use Rattle.occ_syntax.specs.Scopes.{environment}
 use Rattle.occ_syntax.specs.Tree.{Tree}
 use Rattle.occ_syntax.specs.Types.{scope_kept, types_kept}
-use Rattle.occ_syntax.specs.Usage.{KeepsUsage}
-use Rattle.occ_syntax.specs.View.{tree}
+use Rattle.occ_syntax.specs.Usage.{Keeps, KeepsUsage}
 use Rattle.occ_syntax.specs.declared.scope.Kind.{Kind}
-use Rattle.occ_syntax.specs.declared.scope.Program.{Program}
-use Rattle.occ_usage.specs.Accepted.{IsTyped}
+use Rattle.occ_engine_written.proofs.Typed.{AreKept}
 use Rattle.occ_usage.specs.declared.fault.UsageFault.{UsageFault}
-use Rattle.occ_tool_run.specs.Accepts.{IsAccepted, IsAcceptedText, IsRefused, IsUnusable, ReadsAs}
+use Rattle.occ_tool_run.specs.Accepts.{IsAccepted, IsAcceptedText, IsRefused, IsUnusable, Program, ReadsAs}
 use Rattle.occ_tool_run.specs.Answers.{Compares, apart, compared}
 use Rattle.occ_tool_run.specs.Texts.{text_of}
 use Rattle.occ_tool_run.specs.declared.answer.Answer.{Answer}
-use Rattle.occ_tool_run.proofs.Accepting.{read_typed}
+use Rattle.occ_tool_run.proofs.Accepting.{keeps_usage, read_kept}
 use Rattle.occ_tool_run.proofs.BothWays.{begins_with, verdict_same}
 use Rattle.occ_tool_run.proofs.Judging.{no_name_twice}
-use Rattle.occ_tool_normal.proofs.Usage.{usage_kept}
-use Rattle.occ_tool_run.proofs.Once.{IsOnce, faultless}
+use Rattle.occ_tool_normal.proofs.Usage.{faultless, usage_kept}
+use Rattle.occ_tool_run.proofs.Once.{IsOnce}
 use Rattle.occ_tool_run.proofs.OneAnswer.{back}
 use Rattle.occ_tool_run.proofs.Taken.{AreOne, agree, as_taken}
 
@@ -81,18 +79,18 @@ pub record IsTextOf (file : File) (text : List ℕ) : Type 0 where
   pub names : Table
   pub program : Program
   pub accepted : IsAccepted file [] names program
-  pub normal : IsNormalText names program.params (tree program.body) text
+  pub normal : IsNormalText names program.params program.body text
   pub small : length text < 2 ^ 64
 
 module _ (L : Laws) where
   -- the normal text by the table with which the text was read again
   moved : (bytes : List ℕ) (between names other : Table) (p q : Program) (ks ls : List ℕ) (text : List ℕ) → IsDistinct between → length text < 2 ^ 64
-      → ReadsAs bytes [] names p ks → ReadsAs bytes between other q ls → IsNormalText names p.params (tree p.body) text → IsNormalText other q.params (tree q.body) text
+      → ReadsAs bytes [] names p ks → ReadsAs bytes between other q ls → IsNormalText names p.params p.body text → IsNormalText other q.params q.body text
   moved bytes between names other p q ks ls text d small x y h =
-      let r = L.readings bound.Program bytes [] between names other p.name q.name p.params q.params (tree p.body) (tree q.body) ks ls no_name_twice d (none_stands between) x y in
-      let e = L.distinct bytes between other q.name q.params (tree q.body) ls d y in
-      let k = L.texts r.number names other p.params (tree p.body) text e r.numbering small h in
-      subst (λ t. IsNormalText other q.params t text) (sym r.body) (subst (λ ps. IsNormalText other ps (renamed (tree p.body) r.number) text) (sym r.params) k)
+      let r = L.readings bound.Program bytes [] between names other p.name q.name p.params q.params p.body q.body ks ls no_name_twice d (none_stands between) x y in
+      let e = L.distinct bytes between other q.name q.params q.body ls d y in
+      let k = L.texts r.number names other p.params p.body text e r.numbering small h in
+      subst (λ t. IsNormalText other q.params t text) (sym r.body) (subst (λ ps. IsNormalText other ps (renamed p.body r.number) text) (sym r.params) k)
 
   -- a file that has a normal text isn't refused with any table, and its program keeps the rule of usage
   module _ (file : File) (text : List ℕ) (x : IsTextOf file text) (between : Table) (d : IsDistinct between) where
@@ -107,34 +105,36 @@ module _ (L : Laws) where
 
     pub no_refusal : (fault : ParseFault) → IsRefused file between fault → ⊥
     no_refusal fault r =
-        L.refused bound.Program bytes [] between x.names x.program.name x.program.params (tree x.program.body) own.numbers fault no_name_twice d (none_stands between) own.read
+        L.refused bound.Program bytes [] between x.names x.program.name x.program.params x.program.body own.numbers fault no_name_twice d (none_stands between) own.read
         (subst (λ u. IsRefusedText bound.Program u between fault) (one_file r.bytes r.there) r.text)
 
     pub no_misuse : (new : Table) (line : ℕ) (fault : UsageFault) → IsUnusable file between new line fault → ⊥
     no_misuse new line fault r =
         let q = r.text.program in
         let read = subst (λ u. ReadsAs u between new q r.text.numbers) (one_file r.bytes r.there) r.text.read in
-        let a = L.readings bound.Program bytes [] between x.names new x.program.name q.name x.program.params q.params (tree x.program.body) (tree q.body) own.numbers r.text.numbers
+        let a = L.readings bound.Program bytes [] between x.names new x.program.name q.name x.program.params q.params x.program.body q.body own.numbers r.text.numbers
         no_name_twice d (none_stands between) own.read read in
-        let keeps = usage_kept a.number a.numbering.one_for_one (environment x.program.params) (tree x.program.body) (record { types = (read_typed bytes [] x.names x.program own.numbers no_name_twice own.read).types; usage = own.usage }) in
+        let typed = read_kept bytes [] x.names x.program own.numbers no_name_twice own.read in
+        let own_keeps : Keeps (environment x.program.params) x.program.body = record { types = typed.types; usage = keeps_usage bytes [] x.names x.program no_name_twice own } in
+        let keeps = usage_kept a.number a.numbering.one_for_one (environment x.program.params) x.program.body own_keeps in
         faultless q fault r.text.later (subst KeepsUsage (sym a.body) keeps) r.text.found
 
   -- the texts of two files that are read one after the other, by the last table
   pub record AreBoth (names : Table) (p q : Program) (s t : List ℕ) : Type 0 where
     pub distinct : IsDistinct names
-    pub first : IsNormalText names p.params (tree p.body) s
-    pub second : IsNormalText names q.params (tree q.body) t
+    pub first : IsNormalText names p.params p.body s
+    pub second : IsNormalText names q.params q.body t
 
   pub both : (c d : File) (s t : List ℕ) → IsTextOf c s → IsTextOf d t → (between names : Table) (p q : Program) → IsAccepted c [] between p → IsAccepted d between names q
       → AreBoth names p q s t
   both c d s t x y between names p q a b =
       let same : AreOne x.names between x.program p = agree L.once c [] (as_taken x.names x.program) (as_taken between p) x.accepted a in
-      let own : IsNormalText between p.params (tree p.body) s =
-      back (λ ns ps u. IsNormalText ns ps u s) between x.names p.params x.program.params (tree p.body) (tree x.program.body) (sym same.names) (sym same.params) (sym same.body) x.normal in
-      let d1 = L.distinct a.bytes [] between p.name p.params (tree p.body) a.text.numbers no_name_twice a.text.read in
-      let d2 = L.distinct b.bytes between names q.name q.params (tree q.body) b.text.numbers d1 b.text.read in
-      let longer = read_extends b.bytes between names q.name q.params (tree q.body) b.text.numbers b.text.read in
-      let whole = L.again bound.Program a.bytes [] between names p.name p.params (tree p.body) a.text.numbers a.text.read longer in
+      let own : IsNormalText between p.params p.body s =
+      back (λ ns ps u. IsNormalText ns ps u s) between x.names p.params x.program.params p.body x.program.body (sym same.names) (sym same.params) (sym same.body) x.normal in
+      let d1 = L.distinct a.bytes [] between p.name p.params p.body a.text.numbers no_name_twice a.text.read in
+      let d2 = L.distinct b.bytes between names q.name q.params q.body b.text.numbers d1 b.text.read in
+      let longer = read_extends b.bytes between names q.name q.params q.body b.text.numbers b.text.read in
+      let whole = L.again bound.Program a.bytes [] between names p.name p.params p.body a.text.numbers a.text.read longer in
       let bytes : y.accepted.bytes ≡ b.bytes = let e : Some y.accepted.bytes ≡ Some b.bytes = sym y.accepted.there ∙ b.there in cc in
       let theirs = subst (λ u. ReadsAs u [] y.names y.program y.accepted.text.numbers) bytes y.accepted.text.read in
       record {
@@ -162,15 +162,14 @@ module _ (L : Laws) where
   differ : (s t : List ℕ) (a : Answer) → (s ≡ t → ⊥) → begins_with 83 (text_of a) ≡ false → Told s t a
   differ s t a h k = (λ e. absurd (h e), λ e. absurd (false≢true (sym k ∙ ap (begins_with 83) e)))
 
-  pub told : (names : Table) (p q : Program) (s t : List ℕ) (a : Answer) → IsTyped p → IsTyped q → length s < 2 ^ 64 → length t < 2 ^ 64 → AreBoth names p q s t
+  pub told : (names : Table) (p q : Program) (s t : List ℕ) (a : Answer) → AreKept p.params p.body → AreKept q.params q.body → length s < 2 ^ 64 → length t < 2 ^ 64 → AreBoth names p q s t
       → Compares p names q a → Told s t a
   told names p q s t a hp hq small less b (apart h e) =
-      differ s t a (λ k. h (one_interface names p.params q.params (tree p.body) (tree q.body) s t b.first b.second k)) (ap (λ z. begins_with 83 (text_of z)) e)
-  told names p q s t a hp hq small less b (compared v w e) =
-      let same = w.one_interface in
-      let types = subst (λ ps. types_kept (tree q.body) (environment ps) ≡ true) (sym same) hq.types in
-      let second = subst (λ ps. IsNormalText names ps (tree q.body) t) (sym same) b.second in
-      let law = L.apart names p.params (tree p.body) (tree q.body) s t b.distinct hp.scope hp.types types small less b.first second in (
-        λ k. ap text_of e ∙ ap (text_of_verdict names) (w.first.same.1 (law.0 k)),
-        λ k. law.1 (w.first.same.0 (verdict_same names v (sym (ap text_of e) ∙ k))),
+      differ s t a (λ k. h (one_interface names p.params q.params p.body q.body s t b.first b.second k)) (ap (λ z. begins_with 83 (text_of z)) e)
+  told names p q s t a hp hq small less b (compared v same w e) =
+      let types = subst (λ ps. types_kept q.body (environment ps) ≡ true) (sym same) hq.types in
+      let second = subst (λ ps. IsNormalText names ps q.body t) (sym same) b.second in
+      let law = L.apart names p.params p.body q.body s t b.distinct hp.scope hp.types types small less b.first second in (
+        λ k. ap text_of e ∙ ap (text_of_verdict names) (w.same.1 (law.0 k)),
+        λ k. law.1 (w.same.0 (verdict_same names v (sym (ap text_of e) ∙ k))),
       )

@@ -1,5 +1,5 @@
 -- A part keeps the rule of usage under other names.
-use Rattle.std.proofs.Common.{ℕ, [], ◌∷◌, sym, subst}
+use Rattle.std.proofs.Common.{◌≡◌, ◌∙◌, ℕ, List, [], ◌∷◌, sym, subst}
 use Rattle.occ_law_renamed.proofs.Usage.{keeps_under}
 use Rattle.occ_meaning.proofs.RenamedTrees.{trees_agree}
 use Rattle.occ_meaning.proofs.Renaming.{exchange_is}
@@ -10,6 +10,10 @@ use Rattle.occ_parse_renamed.specs.Standing.{IsOneForOne}
 use Rattle.occ_syntax.specs.Scopes.{Environment}
 use Rattle.occ_syntax.specs.Tree.{Tree}
 use Rattle.occ_syntax.specs.Usage.{Keeps, KeepsUsage}
+use Rattle.occ_usage.proofs.Law.{keeps_no_fault}
+use Rattle.occ_usage.specs.Faults.{names_of}
+use Rattle.occ_usage.specs.declared.fault.UsageFault.{UsageFault}
+use Rattle.occ_tool_run.specs.Accepts.{Program, usage_faults}
 
 -- of exchanged names, one pair after the other
 all_kept : (pairs : Exchanges) (Γ : Environment) (p : Tree) → Keeps Γ p → Keeps (under (unapplied pairs) Γ) (renamed p (applied pairs))
@@ -23,3 +27,9 @@ pub usage_kept : (f : ℕ → ℕ) → IsOneForOne f → (Γ : Environment) (p :
 usage_kept f one Γ p h =
     let b = so_below f one (top p) in
     subst KeepsUsage (trees_agree p (applied b.pairs) f (λ x k. b.same x (below_top p x k))) (all_kept b.pairs Γ p h).usage
+
+-- a program that keeps usage has no fault of it
+pub faultless : (q : Program) (f : UsageFault) (fs : List UsageFault) → KeepsUsage q.body → usage_faults q ≡ f ∷ fs → ⊥
+faultless q f fs keeps found =
+    let bad : [] ≡ f ∷ fs = sym (keeps_no_fault q.body 0 (names_of q.params) keeps) ∙ found in
+    cc

@@ -12,6 +12,10 @@ ghost use Rattle.occ_tool_words.specs.Words.{job_of, normal, normalise, same};
 use occ_nform::normal_texts_tell_programs_apart;
 use occ_nform_params::parameters_have_names;
 use occ_nform_renamed::{normal_texts_are_renamed, normal_texts_need_no_names};
+use occ_nform_written::{
+    faults_are_those_of_what_is_written, normal_texts_are_read_as_written,
+    texts_of_programs_are_those_of_their_tables,
+};
 use occ_parse_reading::one_reading;
 use occ_read_renamed::{readings_are_not_refused, readings_are_renamed};
 use occ_script_again::programs_read_again;
@@ -33,6 +37,7 @@ pub fn normal_texts_tell_files_apart()
     readings_are_not_refused();
     normal_texts_are_renamed();
     normal_texts_tell_programs_apart();
+    texts_of_programs_are_those_of_their_tables();
 }
 
 /// Where words that ask for the normal text of a file are answered with status 0, the answer is a normal text: words that ask of a file that
@@ -46,4 +51,7 @@ pub fn written_texts_are_normal()
 {
     parameters_have_names();
     normal_texts_need_no_names();
+    texts_of_programs_are_those_of_their_tables();
+    normal_texts_are_read_as_written();
+    faults_are_those_of_what_is_written();
 }

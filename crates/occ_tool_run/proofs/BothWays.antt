@@ -3,9 +3,7 @@ use Rattle.std.proofs.Common.{◌≡◌, ◌↔◌, ◌==◌, ℕ, List, [], ◌
 use Rattle.std.proofs.lemmas.Bool.{false≢true}
 use Rattle.occ_base.specs.declared.names.Name.{Name}
 use Rattle.occ_syntax.specs.declared.scope.Kind.{Kind}
-use Rattle.occ_syntax.specs.declared.scope.Program.{Program}
 use Rattle.occ_syntax.specs.Tree.{Tree}
-use Rattle.occ_syntax.specs.View.{tree}
 use Rattle.occ_behaviour.specs.declared.behaviour.Verdict.{Verdict}
 use Rattle.occ_behaviour.specs.declared.behaviour.Verdict.TheVariants.{Same, Differ}
 use Rattle.occ_behaviour.specs.Texts.{text_of_verdict}
@@ -16,6 +14,7 @@ use Rattle.occ_views.specs.Programs.{IsRefinement}
 use Rattle.occ_tool_run.specs.declared.answer.Answer.{Answer}
 use Rattle.occ_tool_run.specs.Texts.{text_of, refined_text}
 use Rattle.occ_tool_run.specs.Answers.{Compares, apart, compared, Refines, other, allowed}
+use Rattle.occ_tool_run.specs.Accepts.{Program}
 
 abbrev pub begins_with : ℕ → List ℕ → Bool
 begins_with c [] = false
@@ -41,12 +40,12 @@ same_where_both_refine agree p q k m n x y z (other d e) back (apart c h) = (
   λ t. absurd (false≢true (ap (begins_with 82) (sym (ap text_of e) ∙ t.0))),
   λ t. absurd (false≢true (ap (begins_with 83) (sym (ap text_of h) ∙ t))),
 )
-same_where_both_refine agree p q k m n x y z (other d e) back (compared u w h) = absurd (d w.one_interface)
-same_where_both_refine agree p q k m n x y z (allowed v r e) back (apart c h) = absurd (c r.one_interface)
-same_where_both_refine agree p q k m n x y z (allowed v r e) (other d f) (compared u w h) = absurd (d (sym r.one_interface))
-same_where_both_refine agree p q k m n x y z (allowed v r e) (allowed s t f) (compared u w h) =
-    let turned = subst (λ (ps : List (Name × Kind)). IsRefinement ps (tree q.body) (tree p.body) s) (sym r.one_interface) t.is in
-    let one = agree p.params (tree p.body) (tree q.body) v s u w.first r.is turned in (
+same_where_both_refine agree p q k m n x y z (other d e) back (compared u o w h) = absurd (d o)
+same_where_both_refine agree p q k m n x y z (allowed v o r e) back (apart c h) = absurd (c o)
+same_where_both_refine agree p q k m n x y z (allowed v o r e) (other d f) (compared u l w h) = absurd (d (sym o))
+same_where_both_refine agree p q k m n x y z (allowed v o r e) (allowed s j t f) (compared u l w h) =
+    let turned = subst (λ (ps : List (Name × Kind)). IsRefinement ps q.body p.body s) (sym o) t in
+    let one = agree p.params p.body q.body v s u w r turned in (
       λ g. ap text_of h ∙ ap (text_of_verdict n) (one.0 (refined_yes k v (sym (ap text_of e) ∙ g.0), refined_yes m s (sym (ap text_of f) ∙ g.1))),
       λ g. let both = one.1 (verdict_same n u (sym (ap text_of h) ∙ g)) in (ap text_of e ∙ ap (refined_text k) both.0, ap text_of f ∙ ap (refined_text m) both.1),
     )

@@ -8,12 +8,9 @@ use Rattle.std.specs.declared.cmp.Ordering.TheVariants.{Less, Equal, Greater}
 use Rattle.std.proofs.lemmas.Bool.{cases_Bool, false≢true}
 use Rattle.occ_base.specs.declared.names.Name.{Name}
 use Rattle.occ_syntax.specs.declared.scope.Kind.{Kind}
-use Rattle.occ_syntax.specs.declared.scope.Program.{Program}
 use Rattle.occ_syntax.specs.Tree.{Tree}
-use Rattle.occ_syntax.specs.View.{tree}
 use Rattle.occ_behaviour.specs.declared.behaviour.Side.{Side}
 use Rattle.occ_behaviour.specs.declared.behaviour.Side.TheVariants.{First, Second}
-use Rattle.occ_behaviour.specs.Members.{IsRight}
 use Rattle.occ_parse_reading.specs.Reading.{too_long}
 use Rattle.occ_verdict.specs.Verdict.{IsVerdictOf}
 use Rattle.occ_views.specs.Programs.{IsRefinement}
@@ -22,7 +19,7 @@ use Rattle.occ_tool_run.specs.declared.answer.Answer.{Answer}
 use Rattle.occ_tool_run.specs.declared.answer.Answer.TheVariants.{Refused, Unusable, Usage}
 use Rattle.occ_tool_run.specs.declared.judge.Question.{Question}
 use Rattle.occ_tool_run.specs.declared.judge.Question.TheVariants.{WhetherRefined, WhetherSame}
-use Rattle.occ_tool_run.specs.Accepts.{IsAccepted}
+use Rattle.occ_tool_run.specs.Accepts.{IsAccepted, Program}
 use Rattle.occ_tool_run.specs.Answers.{Answers, Compares, Refines, Replies, Settles, Takes, TakesBoth, Turned, accepted, accepted_behind, allowed, apart, compared, other, refused, refused_behind, unusable, unusable_behind}
 use Rattle.occ_tool_run.specs.Files.{Files, order_of, short_bytes, text_order}
 use Rattle.occ_tool_run.specs.Texts.{text_of}
@@ -59,24 +56,19 @@ not_same a l e = false≢true (sym (ap (λ n. n == 69) l) ∙ ap (λ text. lette
 
 -- ---- what is answered of programs that look alike
 
-refines_as : (p q r s : Program) (n : Table) (a : Answer) → p.params ≡ r.params → tree p.body ≡ tree r.body → q.params ≡ s.params → tree q.body ≡ tree s.body → Refines r n s a → Refines p n q a
+refines_as : (p q r s : Program) (n : Table) (a : Answer) → p.params ≡ r.params → p.body ≡ r.body → q.params ≡ s.params → q.body ≡ s.body → Refines r n s a → Refines p n q a
 refines_as p q r s n a e f g h (other d t) = other (λ u. d (sym e ∙ u ∙ g)) t
-refines_as p q r s n a e f g h (allowed v x t) =
+refines_as p q r s n a e f g h (allowed v o x t) =
     let F : List (Name × Kind) → Tree → Tree → Type 0 = λ ps x y. IsRefinement ps x y v in
-    allowed v (record { one_interface = e ∙ x.one_interface ∙ sym g; is = back F p.params r.params (tree p.body) (tree r.body) (tree q.body) (tree s.body) e f h x.is }) t
+    allowed v (e ∙ o ∙ sym g) (back F p.params r.params p.body r.body q.body s.body e f h x) t
 
-compares_as : (p q r s : Program) (n : Table) (a : Answer) → p.params ≡ r.params → tree p.body ≡ tree r.body → q.params ≡ s.params → tree q.body ≡ tree s.body → Compares r n s a → Compares p n q a
+compares_as : (p q r s : Program) (n : Table) (a : Answer) → p.params ≡ r.params → p.body ≡ r.body → q.params ≡ s.params → q.body ≡ s.body → Compares r n s a → Compares p n q a
 compares_as p q r s n a e f g h (apart d t) = apart (λ u. d (sym e ∙ u ∙ g)) t
-compares_as p q r s n a e f g h (compared v x t) =
-    let F : List (Name × Kind) → Tree → Tree → Type 0 = λ ps x y. IsRight ps x y v in
-    let G : List (Name × Kind) → Tree → Tree → Type 0 = λ ps x y. IsVerdictOf ps x y v in
-    compared v (record {
-      one_interface = e ∙ x.one_interface ∙ sym g;
-      right = back F p.params r.params (tree p.body) (tree r.body) (tree q.body) (tree s.body) e f h x.right;
-      first = back G p.params r.params (tree p.body) (tree r.body) (tree q.body) (tree s.body) e f h x.first;
-    }) t
+compares_as p q r s n a e f g h (compared v o x t) =
+    let F : List (Name × Kind) → Tree → Tree → Type 0 = λ ps x y. IsVerdictOf ps x y v in
+    compared v (e ∙ o ∙ sym g) (back F p.params r.params p.body r.body q.body s.body e f h x) t
 
-replies_as : (question : Question) (p q r s : Program) (n : Table) (a : Answer) → p.params ≡ r.params → tree p.body ≡ tree r.body → q.params ≡ s.params → tree q.body ≡ tree s.body
+replies_as : (question : Question) (p q r s : Program) (n : Table) (a : Answer) → p.params ≡ r.params → p.body ≡ r.body → q.params ≡ s.params → q.body ≡ s.body
     → Replies question r n s a → Replies question p n q a
 replies_as WhetherSame = compares_as
 replies_as WhetherRefined = refines_as
@@ -121,7 +113,7 @@ same_answers : AgreeBothWays → (straight : Bool) (p q : Program) (k m n : Tabl
 same_answers law true p q k m n x y z f g h = same_where_both_refine law p q k m n x y z f g h
 same_answers law false p q k m n x y z f g h = same_where_both_refine law q p k m n x y z f g h
 
-each_as : (straight : Bool) (question : Question) (p q r s : Program) (n : Table) (a : Answer) → p.params ≡ r.params → tree p.body ≡ tree r.body → q.params ≡ s.params → tree q.body ≡ tree s.body
+each_as : (straight : Bool) (question : Question) (p q r s : Program) (n : Table) (a : Answer) → p.params ≡ r.params → p.body ≡ r.body → q.params ≡ s.params → q.body ≡ s.body
     → Each straight question r n s a → Each straight question p n q a
 each_as true question p q r s n a e f g h x = replies_as question p q r s n a e f g h x
 each_as false question p q r s n a e f g h x = replies_as question q p s r n a g h e f x
@@ -250,7 +242,7 @@ module _ (once : IsOnce) (law : AgreeBothWays) where
   settled : (one two : File) (x y z : Answer) → Settles WhetherRefined one two x → Settles WhetherRefined two one y → Settles WhetherSame one two z → Law x y z
   settled one two x y z f g h =
       let P : Ordering → Type 0 = λ o. TakesBoth o WhetherRefined two one y in
-      ways (order_of one two) one two x y z refl f.judged (subst P (turned_order (short_bytes one) (short_bytes two)) g.judged) h.judged
+      ways (order_of one two) one two x y z refl f.text (subst P (turned_order (short_bytes one) (short_bytes two)) g.text) h.text
 
   -- ---- command lines
 

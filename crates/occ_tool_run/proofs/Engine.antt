@@ -49,6 +49,7 @@ use Rattle.occ_tool_run.specs.Files.{IsLoaded, most_bytes, most_script_bytes}
 use Rattle.occ_tool_run.specs.Judged.{IsAcceptedFrom, IsRefusalAnswer, IsRefusedFrom}
 use Rattle.occ_tool_run.specs.Transformed.{CanBeWritten, HasKnownNames, IsOfExpansion, IsOrderRefusal, IsOrdersRefusal, IsPathRefusal}
 use Rattle.occ_tool_run.specs.Transforms.{IsExpandedTo, IsScriptOf, IsTransformed, blocked, expanded, faulty_orders, followed_orders, no_par, no_part, stopped_orders}
+use Rattle.occ_tool_run.specs.Stored.{OfStored, seen}
 use Rattle.occ_tool_run.proofs.Judging.{accepted_file, refusal_taken, there}
 use Rattle.occ_tool_run.proofs.Scripted.{IsTold, bad_head_told, text_told}
 
@@ -69,7 +70,7 @@ refuse_transforming (Err m) first second old new f e is why = tt
 refuse_transforming (Ok a) first second old new f e is why = λ one two h k.
     let t = there most_script_bytes second two k in
     let P : Table → Type 0 = λ o. IsRefusedFrom first o new f in
-    record { bytes = t.0; there = t.1; judged = refusal_taken First first one [] new (IsTransformed t.0) f a is (subst P e why) h }
+    record { bytes = t.0; there = t.1; text = refusal_taken First first one [] new (OfStored (IsTransformed t.0)) f a is (subst P e why) h }
 
 -- or it is accepted
 pub take_transforming : (r : Result Answer Memory) (first second : Loaded) (old new : Table) (p : Program) → old ≡ []
@@ -81,7 +82,7 @@ take_transforming (Ok a) first second old new p e read h = λ one two j k.
     let t = there most_script_bytes second two k in
     let P : Option (List ℕ) → Type 0 = λ file. IsLoaded most_script_bytes file second in
     let Q : Table → Type 0 = λ o. IsAcceptedFrom first o new p in
-    record { bytes = t.0; there = t.1; judged = accepted new p (accepted_file first one [] new p (subst Q e read) j) (h t.0 (subst P t.1 k)) }
+    record { bytes = t.0; there = t.1; text = accepted new (seen p) (accepted_file first one [] new p (subst Q e read) j) (record { stored = p; program_is = refl; answered = h t.0 (subst P t.1 k) }) }
 
 abbrev TransformedAll : Table → Program → Loaded → Answer → Type 0
 TransformedAll names p l a = (bytes : List ℕ) → IsLoaded most_script_bytes (Some bytes) l → IsTransformed bytes names p a

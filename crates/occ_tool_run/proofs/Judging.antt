@@ -5,7 +5,7 @@ use Rattle.occ_base.specs.Names.{IsDistinct}
 use Rattle.occ_base.specs.declared.memory.Memory.{Memory}
 use Rattle.occ_base.specs.declared.names.Name.{Name}
 use Rattle.occ_syntax.specs.declared.scope.Kind.{Kind}
-use Rattle.occ_syntax.specs.declared.scope.Program.{Program}
+use Rattle.occ_syntax.specs.declared.scope.Program.{Program as Stored}
 use Rattle.occ_syntax.specs.Tree.{Tree}
 use Rattle.occ_syntax.specs.View.{tree}
 use Rattle.occ_nform_table.specs.Tables.{IsInterface, are_params}
@@ -23,17 +23,18 @@ use Rattle.occ_tool_run.specs.declared.accept.Refusal.TheVariants as refusal
 use Rattle.occ_tool_run.specs.declared.load.Loaded.{Loaded}
 use Rattle.occ_tool_run.specs.declared.load.Loaded.TheVariants.{Bytes, TooLong}
 use Rattle.occ_tool_run.specs.Files.{IsLoaded, most_bytes}
-use Rattle.occ_tool_run.specs.Accepts.{IsThere, IsAccepted, IsRefused, IsUnusable}
+use Rattle.occ_tool_run.specs.Accepts.{IsAccepted, IsRefused, IsUnusable, Program}
+use Rattle.occ_tool_run.specs.Stored.{OfStored, seen}
 use Rattle.occ_tool_run.specs.Answers.{Takes, refused, unusable, accepted, IsJudged, Judges}
 use Rattle.occ_tool_run.specs.Judged.{HasInterface, IsAcceptedFrom, IsRefusedFrom, IsRefusedFor, IsRefusalAnswer, IsSayable}
 
-pub there : (most : ℕ) (l : Loaded) (file : Option (List ℕ)) → IsLoaded most file l → IsThere file
+pub there : (most : ℕ) (l : Loaded) (file : Option (List ℕ)) → IsLoaded most file l → (bytes : List ℕ) × (file ≡ Some bytes)
 there most (Bytes text) file h = (text.items, h.0)
 there most TooLong None h = absurd h
 there most TooLong (Some bytes) h = (bytes, refl)
 
-pub accepted_file : (l : Loaded) (file : Option (List ℕ)) (old new : List (List ℕ)) (program : Program) → IsAcceptedFrom l old new program → IsLoaded most_bytes file l
-    → IsAccepted file old new program
+pub accepted_file : (l : Loaded) (file : Option (List ℕ)) (old new : List (List ℕ)) (program : Stored) → IsAcceptedFrom l old new program → IsLoaded most_bytes file l
+    → IsAccepted file old new (seen program)
 accepted_file (Bytes text) file old new program r h = record { bytes = text.items; there = h.0; text = r.accepted }
 accepted_file TooLong file old new program r h = absurd r
 
@@ -66,10 +67,15 @@ pub refuse : (r : Result Answer Memory) (l : Loaded) (new : List (List ℕ)) (f 
 refuse (Err m) l new f rest is why = tt
 refuse (Ok a) l new f rest is why = λ file h. refusal_taken First l file [] new rest f a is why h
 
-pub take : (r : Result Answer Memory) (l : Loaded) (new : List (List ℕ)) (p : Program) (rest : List (List ℕ) → Program → Answer → Type 0) → IsAcceptedFrom l [] new p
-    → IfOk r (rest new p) → IfOk r (λ a. (file : Option (List ℕ)) → IsLoaded most_bytes file l → Takes First file [] rest a)
+pub take : (r : Result Answer Memory) (l : Loaded) (new : List (List ℕ)) (p : Stored) (rest : List (List ℕ) → Program → Answer → Type 0) → IsAcceptedFrom l [] new p
+    → IfOk r (rest new (seen p)) → IfOk r (λ a. (file : Option (List ℕ)) → IsLoaded most_bytes file l → Takes First file [] rest a)
 take (Err m) l new p rest read h = tt
-take (Ok a) l new p rest read h = λ file k. accepted new p (accepted_file l file [] new p read k) h
+take (Ok a) l new p rest read h = λ file k. accepted new (seen p) (accepted_file l file [] new p read k) h
+
+pub take_stored : (r : Result Answer Memory) (l : Loaded) (new : List (List ℕ)) (p : Stored) (rest : List (List ℕ) → Stored → Answer → Type 0) → IsAcceptedFrom l [] new p
+    → IfOk r (rest new p) → IfOk r (λ a. (file : Option (List ℕ)) → IsLoaded most_bytes file l → Takes First file [] (OfStored rest) a)
+take_stored (Err m) l new p rest read h = tt
+take_stored (Ok a) l new p rest read h = λ file k. accepted new (seen p) (accepted_file l file [] new p read k) (record { stored = p; program_is = refl; answered = h })
 
 -- ---- a program and a behaviour
 
@@ -81,15 +87,15 @@ pub refuse_judging : (r : Result Answer Memory) (first second : Loaded) (new : L
 refuse_judging (Err m) first second new f is why = tt
 refuse_judging (Ok a) first second new f is why = λ one two h k.
     let t = there most_bytes second two k in
-    record { bytes = t.0; there = t.1; judged = refusal_taken First first one [] new (IsJudged t.0) f a is why h }
+    record { bytes = t.0; there = t.1; text = refusal_taken First first one [] new (IsJudged t.0) f a is why h }
 
-pub take_judging : (r : Result Answer Memory) (first second : Loaded) (new : List (List ℕ)) (p : Program) → IsAcceptedFrom first [] new p
-    → IfOk r (λ a. (bytes : List ℕ) → IsLoaded most_bytes (Some bytes) second → IsJudged bytes new p a) → IfOk r (JudgesAll first second)
+pub take_judging : (r : Result Answer Memory) (first second : Loaded) (new : List (List ℕ)) (p : Stored) → IsAcceptedFrom first [] new p
+    → IfOk r (λ a. (bytes : List ℕ) → IsLoaded most_bytes (Some bytes) second → IsJudged bytes new (seen p) a) → IfOk r (JudgesAll first second)
 take_judging (Err m) first second new p read h = tt
 take_judging (Ok a) first second new p read h = λ one two j k.
     let t = there most_bytes second two k in
     let P : Option (List ℕ) → Type 0 = λ file. IsLoaded most_bytes file second in
-    record { bytes = t.0; there = t.1; judged = accepted new p (accepted_file first one [] new p read j) (h t.0 (subst P t.1 k)) }
+    record { bytes = t.0; there = t.1; text = accepted new (seen p) (accepted_file first one [] new p read j) (h t.0 (subst P t.1 k)) }
 
 -- ---- what an accepted program and a refusal have
 
@@ -110,7 +116,18 @@ Law = (text : List ℕ) (old new : List (List ℕ)) (name : Name) (params : List
 pub no_name_twice : IsDistinct []
 no_name_twice i j text e f = absurd (let no : ⊥ = cc in no)
 
-has_interface : Law → (l : Loaded) (new : List (List ℕ)) (p : Program) → IsAcceptedFrom l [] new p → HasInterface new p
+-- each text stands once
+pub names_once : Law → (l : Loaded) (new : List (List ℕ)) (p : Stored) → IsAcceptedFrom l [] new p → IsDistinct new
+names_once law (Bytes text) new p read = (law text.items [] new p.name p.params (tree p.body) read.accepted.numbers no_name_twice read.accepted.read).0
+names_once law TooLong new p read = absurd read
+
+pub all_once : Law → (r : Result Accepted Refusal) (l : Loaded) (old new : List (List ℕ)) → old ≡ [] → IfOk r (λ a. IsAcceptedFrom l old new a.program) → IfOk r (λ a. IsDistinct new)
+all_once law (Err f) l old new e read = tt
+all_once law (Ok a) l old new e read =
+    let P : List (List ℕ) → Type 0 = λ o. IsAcceptedFrom l o new a.program in
+    names_once law l new a.program (subst P e read)
+
+has_interface : Law → (l : Loaded) (new : List (List ℕ)) (p : Stored) → IsAcceptedFrom l [] new p → HasInterface new p
 has_interface law (Bytes text) new p read =
     let h = law text.items [] new p.name p.params (tree p.body) read.accepted.numbers no_name_twice read.accepted.read in
     record { interface = h.1; params = h.2 }

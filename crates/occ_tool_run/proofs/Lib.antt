@@ -18,3 +18,4 @@ pub mod OneReplay
 pub mod OneTransform
 pub mod Engine
 pub mod Deriving
+pub mod AsWritten

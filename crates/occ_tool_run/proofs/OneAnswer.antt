@@ -1,12 +1,10 @@
 -- A command line over the same files has one answer.
-use Rattle.std.proofs.Common.{◌≡◌, ◌↔◌, ◌<◌, ◌^◌, ℕ, Bool, true, false, IsTrue, List, [], length, Option, Some, None, Result, Ok, Err, Vec, Global, refl, sym, ◌∙◌, ap, ap₂, subst, arith}
+use Rattle.std.proofs.Common.{◌≡◌, ◌≤◌, ◌↔◌, ◌<◌, ◌^◌, ℕ, Bool, true, false, IsTrue, List, [], length, Option, Some, None, Result, Ok, Err, Vec, Global, refl, sym, ◌∙◌, ap, ap₂, subst, arith}
 use Rattle.std.specs.declared.cmp.Ordering.{Ordering}
 use Rattle.std.specs.declared.cmp.Ordering.TheVariants.{Less, Equal, Greater}
 use Rattle.occ_base.specs.declared.names.Name.{Name}
-use Rattle.occ_syntax.specs.declared.scope.Program.{Program}
+use Rattle.occ_syntax.specs.declared.scope.Program.{Program as Stored}
 use Rattle.occ_syntax.specs.declared.scope.Kind.{Kind}
-use Rattle.occ_syntax.specs.Scopes.{environment}
-use Rattle.occ_syntax.specs.Same.{SAME}
 use Rattle.occ_syntax.specs.Tree.{Tree}
 use Rattle.occ_syntax.specs.View.{tree}
 use Rattle.occ_behaviour.specs.declared.behaviour.Behaviour.{Behaviour}
@@ -16,18 +14,24 @@ use Rattle.occ_behaviour.specs.Members.{IsMember}
 use Rattle.occ_verdict.specs.Verdict.{IsVerdictOf}
 use Rattle.occ_views.specs.declared.refined.Refined.{Refined as Refinement}
 use Rattle.occ_views.specs.Programs.{IsRefinement, IsDeadlockAnswer}
-use Rattle.occ_nform_table.specs.Normal.{Parts, text_read}
-use Rattle.occ_behaviour_read.specs.Claims.{claim_read}
+use Rattle.occ_lex.specs.Rows.{rows}
+use Rattle.occ_nform_table.specs.Normal.{Parts, table_fault, text_read}
+use Rattle.occ_nform_table.specs.Texts.{table_text}
+use Rattle.occ_nform_table.specs.declared.table.TableFault.{TableFault}
+use Rattle.occ_nform_table.specs.declared.table.TableRow.{TableRow}
+use Rattle.occ_behaviour_read.specs.Claims.{bare_lines, claim_read}
+use Rattle.occ_nform_written.specs.Behaviours.{AreBehaviourLines, IsBehaviourText}
+use Rattle.occ_nform_written.specs.Stops.{StopsAt}
+use Rattle.occ_nform_written.specs.Tables.{IsTableFault, IsTableOf, IsTableText, IsTextOf}
 use Rattle.occ_gen.specs.declared.shape.Shape.{Shape}
 use Rattle.occ_gen.specs.Programs.{program_text}
-use Rattle.occ_nform.specs.Written.{IsNormalText}
-use Rattle.occ_nform_program.specs.Counted.{HasCounts, counts_of}
+use Rattle.occ_nform_program.specs.Counted.{counts_of}
 use Rattle.occ_tool_words.specs.Words.{Job, same, normalise, normal, belongs, stress, refine, deadlock, replay, run, transform, expand, derive, job_of}
 use Rattle.occ_tool_run.specs.declared.answer.Answer.{Answer}
 use Rattle.occ_tool_run.specs.declared.answer.Answer.TheVariants.{Usage, Refused, Unusable, TooLong, RefusedTable, RefusedClaim, InterfacesDiffer, Compared, Counted, Member, Stressed, Allowed, Sought, RefusedSchedule, Stepped}
 use Rattle.occ_tool_run.specs.declared.judge.Question.{Question}
 use Rattle.occ_tool_run.specs.declared.judge.Question.TheVariants.{WhetherSame, WhetherRefined}
-use Rattle.occ_tool_run.specs.Files.{Files, order_of}
+use Rattle.occ_tool_run.specs.Files.{Files, most_table_bytes, order_of}
 use Rattle.occ_run_follow.specs.declared.following.Followed.{Followed}
 use Rattle.occ_run_follow.specs.Following.{IsFollowed}
 use Rattle.occ_run_read.specs.declared.schedule.Schedule.{Schedule}
@@ -36,15 +40,17 @@ use Rattle.occ_tool_run.specs.Derivations.{Replays}
 use Rattle.occ_tool_run.specs.Runs.{IsRun, too_long_schedule, faulty_schedule, followed_schedule}
 use Rattle.occ_tool_run.specs.Transforms.{IsExpandedTo, IsTransformed}
 use Rattle.occ_tool_run.specs.Texts.{status_of, text_of}
-use Rattle.occ_tool_run.specs.Accepts.{IsAccepted}
+use Rattle.occ_tool_run.specs.Accepts.{IsAccepted, Program}
+use Rattle.occ_tool_run.specs.Stored.{OfStored, seen}
 use Rattle.occ_tool_run.specs.Answers.{Takes, accepted, TakesBoth, Turned, refused_behind, unusable_behind, accepted_behind, Compares, apart, compared, Refines, other, allowed, Replies, Settles, IsSought, Seeks, IsNormalised, Normalises, IsChecked, too_long_table, faulty_table, normal_table, Checks}
 use Rattle.occ_tool_run.specs.Answers.{IsJudged, too_long_claim, faulty_claim, judged_claim, Judges, IsStressed, Stresses, IsAnswer, usage, comparison, normalisation, checking, membership, stressing, refinement, seeking, replaying, running, transforming, expanding, normalisation_by_laws, Answers, Steps, Transforms, Expands, Derives, IsDetermined}
-use Rattle.occ_tool_run.proofs.Accepting.{read_typed}
+use Rattle.occ_tool_run.proofs.AsWritten.{AreAsWritten, few_bytes}
+use Rattle.occ_tool_run.proofs.Accepting.{IsInterfaceIn, names_read, read_kept}
 use Rattle.occ_tool_run.proofs.Judging.{no_name_twice}
-use Rattle.occ_tool_run.proofs.Once.{AreAlike, IsOnce, IsOneText, alike, same_bytes}
+use Rattle.occ_tool_run.proofs.Once.{AreAlike, IsOnce, alike, same_bytes}
 use Rattle.occ_tool_run.proofs.OneReplay.{IsOneScript, replays_alike}
 use Rattle.occ_tool_run.proofs.OneTransform.{IsOneOutcome, expanded_alike, transformed_alike}
-use Rattle.occ_tool_run.proofs.Taken.{AreOne, agree, as_refused, as_taken, as_unusable, takes_alike}
+use Rattle.occ_tool_run.proofs.Taken.{AreOne, agree, as_refused, as_taken, as_unusable, of_stored, takes_alike}
 
 ok_is : {X E : Type 0} (x y : X) (r : Result X E) → r ≡ Ok x → r ≡ Ok y → x ≡ y
 ok_is x y r e f = cc
@@ -78,12 +84,9 @@ back {A} {B} {C} P x y z u v w e f g h =
     let H : C → Type 0 = λ t. P y u t in
     subst F (sym e) (subst G (sym f) (subst H (sym g) h))
 
-itself : (params : List (Name × Kind)) (p : Tree) → SAME (environment params) p p
-itself params p = record { same_failures = λ s t X i w. (λ h. h, λ h. h); same_ends = λ s t u i. (λ h. h, λ h. h) }
-
 -- a schedule leads to one place
 abbrev pub IsOneFollowing : Type 0
-IsOneFollowing = (p q : Program) (s : Schedule) (f g : Followed) → p.params ≡ q.params → tree p.body ≡ tree q.body → IsFollowed p s f → IsFollowed q s g → f ≡ g
+IsOneFollowing = (p q : Stored) (s : Schedule) (f g : Followed) → p.params ≡ q.params → tree p.body ≡ tree q.body → IsFollowed p s f → IsFollowed q s g → f ≡ g
 
 -- what the words ask for has this answer
 abbrev pub Does : Files → Option Job → Answer → Type 0
@@ -116,36 +119,36 @@ does files words a (transforming x y is s) = let P : Option Job → Type 0 = λ 
 does files words a (expanding x path is s) = let P : Option Job → Type 0 = λ j. Does files j a in subst P (sym is) s
 does files words a (normalisation_by_laws x is s) = let P : Option Job → Type 0 = λ j. Does files j a in subst P (sym is) s
 
--- what follows stands on the reading of a text being one, on the verdict being one, on the normal text being one, on scripts being
--- read and answered in one way, and on orders and expansions having one outcome
-module _ (once : IsOnce) (only : IsOneVerdict) (single : IsOneText) (scripts : IsOneScript) (following : IsOneFollowing) (outcome : IsOneOutcome) where
+-- what follows stands on the reading of a text being one, on the verdict being one, on texts being read as they are written, on scripts
+-- being read and answered in one way, and on orders and expansions having one outcome
+module _ (once : IsOnce) (only : IsOneVerdict) (written : AreAsWritten) (scripts : IsOneScript) (following : IsOneFollowing) (outcome : IsOneOutcome) where
   -- ---- two programs
 
-  decided_alike : (p q r s : Program) (v w : Verdict) → p.params ≡ r.params → tree p.body ≡ tree r.body → tree q.body ≡ tree s.body
-      → IsVerdictOf p.params (tree p.body) (tree q.body) v → IsVerdictOf r.params (tree r.body) (tree s.body) w → v ≡ w
+  decided_alike : (p q r s : Program) (v w : Verdict) → p.params ≡ r.params → p.body ≡ r.body → q.body ≡ s.body
+      → IsVerdictOf p.params p.body q.body v → IsVerdictOf r.params r.body s.body w → v ≡ w
   decided_alike p q r s v w e f g fv fw =
       let F : List (Name × Kind) → Tree → Tree → Type 0 = λ x y z. IsVerdictOf x y z w in
-      only.one p.params (tree p.body) (tree q.body) v w fv (back F _ _ _ _ _ _ e f g fw)
+      only.one p.params p.body q.body v w fv (back F _ _ _ _ _ _ e f g fw)
 
   compares_alike : (j k m n : List (List ℕ)) (p q r s : Program) (a b : Answer) → AreOne j k p r → AreOne m n q s → Compares p m q a → Compares r n s b → AreAlike a b
   compares_alike j k m n p q r s a b first second (apart d e) (apart c h) = alike a b InterfacesDiffer InterfacesDiffer e refl h
-  compares_alike j k m n p q r s a b first second (apart d e) (compared w y h) = absurd (d (first.params ∙ y.one_interface ∙ sym second.params))
-  compares_alike j k m n p q r s a b first second (compared v x e) (apart c h) = absurd (c (sym first.params ∙ x.one_interface ∙ second.params))
-  compares_alike j k m n p q r s a b first second (compared v x e) (compared w y h) =
-      alike a b (Compared m v) (Compared n w) e (ap₂ Compared second.names (decided_alike p q r s v w first.params first.body second.body x.first y.first)) h
+  compares_alike j k m n p q r s a b first second (apart d e) (compared w o y h) = absurd (d (first.params ∙ o ∙ sym second.params))
+  compares_alike j k m n p q r s a b first second (compared v o x e) (apart c h) = absurd (c (sym first.params ∙ o ∙ second.params))
+  compares_alike j k m n p q r s a b first second (compared v o x e) (compared w l y h) =
+      alike a b (Compared m v) (Compared n w) e (ap₂ Compared second.names (decided_alike p q r s v w first.params first.body second.body x y)) h
 
-  refined_alike : (p q r s : Program) (v w : Refinement) → p.params ≡ r.params → tree p.body ≡ tree r.body → tree q.body ≡ tree s.body
-      → IsRefinement p.params (tree p.body) (tree q.body) v → IsRefinement r.params (tree r.body) (tree s.body) w → v ≡ w
+  refined_alike : (p q r s : Program) (v w : Refinement) → p.params ≡ r.params → p.body ≡ r.body → q.body ≡ s.body
+      → IsRefinement p.params p.body q.body v → IsRefinement r.params r.body s.body w → v ≡ w
   refined_alike p q r s v w e f g fv fw =
       let F : List (Name × Kind) → Tree → Tree → Type 0 = λ x y z. IsRefinement x y z w in
-      only.refinement p.params (tree p.body) (tree q.body) v w fv (back F _ _ _ _ _ _ e f g fw)
+      only.refinement p.params p.body q.body v w fv (back F _ _ _ _ _ _ e f g fw)
 
   refines_alike : (j k m n : List (List ℕ)) (p q r s : Program) (a b : Answer) → AreOne j k p r → AreOne m n q s → Refines p m q a → Refines r n s b → AreAlike a b
   refines_alike j k m n p q r s a b first second (other d e) (other c h) = alike a b InterfacesDiffer InterfacesDiffer e refl h
-  refines_alike j k m n p q r s a b first second (other d e) (allowed w y h) = absurd (d (first.params ∙ y.one_interface ∙ sym second.params))
-  refines_alike j k m n p q r s a b first second (allowed v x e) (other c h) = absurd (c (sym first.params ∙ x.one_interface ∙ second.params))
-  refines_alike j k m n p q r s a b first second (allowed v x e) (allowed w y h) =
-      alike a b (Allowed m v) (Allowed n w) e (ap₂ Allowed second.names (refined_alike p q r s v w first.params first.body second.body x.is y.is)) h
+  refines_alike j k m n p q r s a b first second (other d e) (allowed w o y h) = absurd (d (first.params ∙ o ∙ sym second.params))
+  refines_alike j k m n p q r s a b first second (allowed v o x e) (other c h) = absurd (c (sym first.params ∙ o ∙ second.params))
+  refines_alike j k m n p q r s a b first second (allowed v o x e) (allowed w l y h) =
+      alike a b (Allowed m v) (Allowed n w) e (ap₂ Allowed second.names (refined_alike p q r s v w first.params first.body second.body x y)) h
 
   replies_alike : (question : Question) (j k m n : List (List ℕ)) (p q r s : Program) (a b : Answer) → AreOne j k p r → AreOne m n q s → Replies question p m q a → Replies question r n s b → AreAlike a b
   replies_alike WhetherSame j k m n p q r s a b first second f g = compares_alike j k m n p q r s a b first second f g
@@ -184,29 +187,34 @@ module _ (once : IsOnce) (only : IsOneVerdict) (single : IsOneText) (scripts : I
   both_alike Greater question one two a b s t = turned_alike question one two a b s t
 
   settles_alike : (question : Question) (one two : Option (List ℕ)) (a b : Answer) → Settles question one two a → Settles question one two b → AreAlike a b
-  settles_alike question one two a b s t = both_alike (order_of one two) question one two a b s.judged t.judged
+  settles_alike question one two a b s t = both_alike (order_of one two) question one two a b s.text t.text
 
   -- ---- where a program can be stuck
 
   sought_alike : (m n : List (List ℕ)) (p q : Program) (a b : Answer) → AreOne m n p q → IsSought m p a → IsSought n q b → AreAlike a b
   sought_alike m n p q a b d f g =
       let P : List (Name × Kind) → Tree → Option Behaviour → Type 0 = IsDeadlockAnswer in
-      let one : f.found ≡ g.found = only.deadlock p.params (tree p.body) f.found g.found f.is (back P p.params q.params (tree p.body) (tree q.body) g.found g.found d.params d.body refl g.is) in
+      let one : f.found ≡ g.found = only.deadlock p.params p.body f.found g.found f.is (back P p.params q.params p.body q.body g.found g.found d.params d.body refl g.is) in
       alike a b (Sought m f.found) (Sought n g.found) f.answer_is (ap₂ Sought d.names one) g.answer_is
 
   -- ---- normal texts
 
-  one_text : (file : Option (List ℕ)) (m : List (List ℕ)) (p : Program) (s t : List ℕ) → IsAccepted file [] m p → length s < 2 ^ 64 → length t < 2 ^ 64
-      → IsNormalText m p.params (tree p.body) s → IsNormalText m p.params (tree p.body) t → s ≡ t
-  one_text file m p s t x f g a b =
-      let typed = read_typed x.bytes [] m p x.text.numbers no_name_twice x.text.read in
-      (single.one m p.params (tree p.body) (tree p.body) s t (single.distinct x.bytes m p x.text.numbers x.text.read) typed.scope typed.types typed.types f g a b).1
-      (itself p.params (tree p.body))
+  -- a program has one normal table
+  one_table : (file : Option (List ℕ)) (m : List (List ℕ)) (p : Program) (r v : List TableRow) (u w : List ℕ) → IsAccepted file [] m p → IsTableOf m p.params p.body r u
+      → IsTableOf m p.params p.body v w → (r ≡ v) × (u ≡ w)
+  one_table file m p r v u w x a b =
+      let o = names_read x.bytes [] m p x.text.numbers no_name_twice x.text.read in
+      written.one_table m p.params p.body r v u w (read_kept x.bytes [] m p x.text.numbers no_name_twice x.text.read).scope
+      (record { interface = o.1; params = o.2; rows = a.rows_are; count = a.count; states = a.low; fine = a.fine })
+      (record { interface = o.1; params = o.2; rows = b.rows_are; count = b.count; states = b.low; fine = b.fine }) a.stands b.stands
 
   normalised_alike : (file : Option (List ℕ)) (m n : List (List ℕ)) (p q : Program) (a b : Answer) → IsAccepted file [] m p → AreOne m n p q → IsNormalised m p a → IsNormalised n q b → AreAlike a b
   normalised_alike file m n p q a b x d f g =
-      let P : List (List ℕ) → List (Name × Kind) → Tree → Type 0 = λ ns ps t. IsNormalText ns ps t g.text.items in
-      let e : f.text.items ≡ g.text.items = one_text file m p f.text.items g.text.items x (short f.text) (short g.text) f.is (back P m n p.params q.params (tree p.body) (tree q.body) d.names d.params d.body g.is) in
+      let P : List (List ℕ) → List (Name × Kind) → Tree → Type 0 = λ ns ps t. IsTextOf ns ps t g.text.items in
+      let y = f.is in
+      let z : IsTextOf m p.params p.body g.text.items = back P m n p.params q.params p.body q.body d.names d.params d.body g.is in
+      let one = one_table file m p y.rows z.rows y.states z.states x y.table z.table in
+      let e : f.text.items ≡ g.text.items = y.written ∙ (λ i. table_text m p.params (one.0 i) (one.1 i)) ∙ sym z.written in
       record { status = ap status_of f.answer_is ∙ sym (ap status_of g.answer_is); text = ap text_of f.answer_is ∙ e ∙ sym (ap text_of g.answer_is) }
 
   stress_taken : (shape : Shape) (stages : ℕ) (a : Answer) → Stresses shape stages a → Takes First (Some (program_text shape stages)) [] (IsStressed shape stages) a
@@ -215,64 +223,87 @@ module _ (once : IsOnce) (only : IsOneVerdict) (single : IsOneText) (scripts : I
   stressed_alike : (file : Option (List ℕ)) (shape : Shape) (stages : ℕ) (m n : List (List ℕ)) (p q : Program) (a b : Answer) → IsAccepted file [] m p → AreOne m n p q
       → IsStressed shape stages m p a → IsStressed shape stages n q b → AreAlike a b
   stressed_alike file shape stages m n p q a b x d f g =
-      let P : List (List ℕ) → List (Name × Kind) → Tree → Type 0 = λ ns ps t. HasCounts ns ps t g.counts in
-      let y = f.has in
-      let z : HasCounts m p.params (tree p.body) g.counts = back P m n p.params q.params (tree p.body) (tree q.body) d.names d.params d.body g.has in
-      let e : y.text ≡ z.text = one_text file m p y.text z.text x y.short z.short y.is z.is in
-      let tables : y.is.table ≡ z.is.table = ok_is y.is.table z.is.table (text_read m y.text) y.is.reads (ap (text_read m) e ∙ z.is.reads) in
-      alike a b (Stressed shape stages f.counts) (Stressed shape stages g.counts) f.answer_is (ap (Stressed shape stages) (y.counts_are ∙ ap counts_of tables ∙ sym z.counts_are)) g.answer_is
+      let P : List (List ℕ) → List (Name × Kind) → Tree → Type 0 = λ ns ps t. IsTableOf ns ps t g.rows g.states in
+      let z : IsTableOf m p.params p.body g.rows g.states = back P m n p.params q.params p.body q.body d.names d.params d.body g.is in
+      let one = one_table file m p f.rows g.rows f.states g.states x f.is z in
+      let same : f.counts ≡ g.counts =
+      f.counts_are ∙ (λ i. counts_of (record { names = d.names i; params = d.params i; rows = one.0 i; states = one.1 i })) ∙ sym g.counts_are in
+      alike a b (Stressed shape stages f.counts) (Stressed shape stages g.counts) f.answer_is (ap (Stressed shape stages) same) g.answer_is
 
   -- ---- a text that may be a normal one
+
+  table_read : (bytes : List ℕ) (t : Parts) → length bytes ≤ most_table_bytes → IsTableText t (rows bytes) → table_fault t ≡ None → text_read [] bytes ≡ Ok t
+  table_read bytes t l r n = (written.tables bytes t (few_bytes bytes l)).1 (r, n)
+
+  table_fault_read : (bytes : List ℕ) (f : TableFault) → length bytes ≤ most_table_bytes → IsTableFault (rows bytes) f → text_read [] bytes ≡ Err f
+  table_fault_read bytes f l r = (written.table_faults bytes f (few_bytes bytes l)).1 r
 
   checked_alike : (bytes : List ℕ) (a b : Answer) → IsChecked bytes a → IsChecked bytes b → AreAlike a b
   checked_alike bytes a b (too_long_table l e) (too_long_table k h) = alike a b (TooLong First) (TooLong First) e refl h
   checked_alike bytes a b (too_long_table l e) (faulty_table g k s h) = absurd (omega (arith, l, k))
-  checked_alike bytes a b (too_long_table l e) (normal_table u k s h) = absurd (omega (arith, l, k))
+  checked_alike bytes a b (too_long_table l e) (normal_table u k s n h) = absurd (omega (arith, l, k))
   checked_alike bytes a b (faulty_table f l r e) (too_long_table k h) = absurd (omega (arith, l, k))
-  checked_alike bytes a b (faulty_table f l r e) (faulty_table g k s h) = alike a b (RefusedTable f) (RefusedTable g) e (ap RefusedTable (err_is f g (text_read [] bytes) r s)) h
-  checked_alike bytes a b (faulty_table f l r e) (normal_table u k s h) = absurd (not_both u f (text_read [] bytes) s r)
-  checked_alike bytes a b (normal_table t l r e) (too_long_table k h) = absurd (omega (arith, l, k))
-  checked_alike bytes a b (normal_table t l r e) (faulty_table g k s h) = absurd (not_both t g (text_read [] bytes) r s)
-  checked_alike bytes a b (normal_table t l r e) (normal_table u k s h) =
-      alike a b (Counted (length t.rows)) (Counted (length u.rows)) e (ap (λ (v : Parts). Counted (length v.rows)) (ok_is t u (text_read [] bytes) r s)) h
+  checked_alike bytes a b (faulty_table f l r e) (faulty_table g k s h) =
+      alike a b (RefusedTable f) (RefusedTable g) e (ap RefusedTable (err_is f g (text_read [] bytes) (table_fault_read bytes f l r) (table_fault_read bytes g k s))) h
+  checked_alike bytes a b (faulty_table f l r e) (normal_table u k s n h) = absurd (not_both u f (text_read [] bytes) (table_read bytes u k s n) (table_fault_read bytes f l r))
+  checked_alike bytes a b (normal_table t l r m e) (too_long_table k h) = absurd (omega (arith, l, k))
+  checked_alike bytes a b (normal_table t l r m e) (faulty_table g k s h) = absurd (not_both t g (text_read [] bytes) (table_read bytes t l r m) (table_fault_read bytes g k s))
+  checked_alike bytes a b (normal_table t l r m e) (normal_table u k s n h) =
+      let one = ok_is t u (text_read [] bytes) (table_read bytes t l r m) (table_read bytes u k s n) in
+      alike a b (Counted (length t.rows)) (Counted (length u.rows)) e (ap (λ (v : Parts). Counted (length v.rows)) one) h
 
   checks_alike : (file : Option (List ℕ)) (a b : Answer) → Checks file a → Checks file b → AreAlike a b
   checks_alike file a b s t =
       let P : List ℕ → Type 0 = λ bytes. IsChecked bytes b in
-      checked_alike s.bytes a b s.checked (subst P (same_bytes file t.bytes s.bytes t.there s.there) t.checked)
+      checked_alike s.bytes a b s.text (subst P (same_bytes file t.bytes s.bytes t.there s.there) t.text)
 
   -- ---- a text that may be a behaviour
 
-  member_alike : (p q : Program) (c d : Behaviour) (x y : Bool) → p.params ≡ q.params → tree p.body ≡ tree q.body → c ≡ d
-      → IsTrue x ↔ IsMember p.params (tree p.body) c → IsTrue y ↔ IsMember q.params (tree q.body) d → x ≡ y
+  behaviour_read : (bytes : List ℕ) (m n : List (List ℕ)) (p q : Program) (b : Behaviour) → IsInterfaceIn m p.params → m ≡ n → p.params ≡ q.params
+      → IsBehaviourText n q.params b (bare_lines bytes) → claim_read m p.params bytes ≡ Ok b
+  behaviour_read bytes m n p q b o e f is =
+      let P : List (List ℕ) → List (Name × Kind) → Behaviour → Type 0 = λ ns ps c. IsBehaviourText ns ps c (bare_lines bytes) in
+      (written.behaviours m p.params bytes b o.0 o.1 o.2).1 (back P m n p.params q.params b b e f refl is)
+
+  claim_fault_read : (bytes : List ℕ) (m n : List (List ℕ)) (p q : Program) (line : ℕ) → IsInterfaceIn m p.params → m ≡ n → p.params ≡ q.params
+      → StopsAt (AreBehaviourLines n q.params) (bare_lines bytes) line → claim_read m p.params bytes ≡ Err line
+  claim_fault_read bytes m n p q line o e f is =
+      let P : List (List ℕ) → List (Name × Kind) → ℕ → Type 0 = λ ns ps k. StopsAt (AreBehaviourLines ns ps) (bare_lines bytes) k in
+      (written.behaviour_faults m p.params bytes line o.0 o.1 o.2).1 (back P m n p.params q.params line line e f refl is)
+
+  member_alike : (p q : Program) (c d : Behaviour) (x y : Bool) → p.params ≡ q.params → p.body ≡ q.body → c ≡ d
+      → IsTrue x ↔ IsMember p.params p.body c → IsTrue y ↔ IsMember q.params q.body d → x ≡ y
   member_alike p q c d x y e f g h k =
       let P : List (Name × Kind) → Tree → Behaviour → Type 0 = IsMember in
-      same_truth x y (λ t. k.1 (back P q.params p.params (tree q.body) (tree p.body) d c (sym e) (sym f) (sym g) (h.0 t)))
-      (λ t. h.1 (back P p.params q.params (tree p.body) (tree q.body) c d e f g (k.0 t)))
+      same_truth x y (λ t. k.1 (back P q.params p.params q.body p.body d c (sym e) (sym f) (sym g) (h.0 t)))
+      (λ t. h.1 (back P p.params q.params p.body q.body c d e f g (k.0 t)))
 
-  judged_alike : (bytes : List ℕ) (m n : List (List ℕ)) (p q : Program) (a b : Answer) → AreOne m n p q → IsJudged bytes m p a → IsJudged bytes n q b → AreAlike a b
-  judged_alike bytes m n p q a b d (too_long_claim l e) (too_long_claim k h) = alike a b (TooLong Second) (TooLong Second) e refl h
-  judged_alike bytes m n p q a b d (too_long_claim l e) (faulty_claim y k s h) = absurd (omega (arith, l, k))
-  judged_alike bytes m n p q a b d (too_long_claim l e) (judged_claim c is k s w h) = absurd (omega (arith, l, k))
-  judged_alike bytes m n p q a b d (faulty_claim x l r e) (too_long_claim k h) = absurd (omega (arith, l, k))
-  judged_alike bytes m n p q a b d (faulty_claim x l r e) (faulty_claim y k s h) =
-      alike a b (RefusedClaim x) (RefusedClaim y) e (ap RefusedClaim (err_is x y (claim_read m p.params bytes) r ((λ i. claim_read (d.names i) (d.params i) bytes) ∙ s))) h
-  judged_alike bytes m n p q a b d (faulty_claim x l r e) (judged_claim c is k s w h) = absurd (not_both c x (claim_read m p.params bytes) ((λ i. claim_read (d.names i) (d.params i) bytes) ∙ s) r)
-  judged_alike bytes m n p q a b d (judged_claim v is l r u e) (too_long_claim k h) = absurd (omega (arith, l, k))
-  judged_alike bytes m n p q a b d (judged_claim v is l r u e) (faulty_claim y k s h) = absurd (not_both v y (claim_read m p.params bytes) r ((λ i. claim_read (d.names i) (d.params i) bytes) ∙ s))
-  judged_alike bytes m n p q a b d (judged_claim v x l r u e) (judged_claim c y k s w h) =
-      let one : v ≡ c = ok_is v c (claim_read m p.params bytes) r ((λ i. claim_read (d.names i) (d.params i) bytes) ∙ s) in
+  judged_alike : (bytes : List ℕ) (m n : List (List ℕ)) (p q : Program) (a b : Answer) → IsInterfaceIn m p.params → AreOne m n p q → IsJudged bytes m p a → IsJudged bytes n q b → AreAlike a b
+  judged_alike bytes m n p q a b o d (too_long_claim l e) (too_long_claim k h) = alike a b (TooLong Second) (TooLong Second) e refl h
+  judged_alike bytes m n p q a b o d (too_long_claim l e) (faulty_claim y k s h) = absurd (omega (arith, l, k))
+  judged_alike bytes m n p q a b o d (too_long_claim l e) (judged_claim c is k s w h) = absurd (omega (arith, l, k))
+  judged_alike bytes m n p q a b o d (faulty_claim x l r e) (too_long_claim k h) = absurd (omega (arith, l, k))
+  judged_alike bytes m n p q a b o d (faulty_claim x l r e) (faulty_claim y k s h) =
+      let one = err_is x y (claim_read m p.params bytes) (claim_fault_read bytes m m p p x o refl refl r) (claim_fault_read bytes m n p q y o d.names d.params s) in
+      alike a b (RefusedClaim x) (RefusedClaim y) e (ap RefusedClaim one) h
+  judged_alike bytes m n p q a b o d (faulty_claim x l r e) (judged_claim c is k s w h) =
+      absurd (not_both c x (claim_read m p.params bytes) (behaviour_read bytes m n p q c o d.names d.params s) (claim_fault_read bytes m m p p x o refl refl r))
+  judged_alike bytes m n p q a b o d (judged_claim v is l r u e) (too_long_claim k h) = absurd (omega (arith, l, k))
+  judged_alike bytes m n p q a b o d (judged_claim v is l r u e) (faulty_claim y k s h) =
+      absurd (not_both v y (claim_read m p.params bytes) (behaviour_read bytes m m p p v o refl refl r) (claim_fault_read bytes m n p q y o d.names d.params s))
+  judged_alike bytes m n p q a b o d (judged_claim v x l r u e) (judged_claim c y k s w h) =
+      let one : v ≡ c = ok_is v c (claim_read m p.params bytes) (behaviour_read bytes m m p p v o refl refl r) (behaviour_read bytes m n p q c o d.names d.params s) in
       alike a b (Member x) (Member y) e (ap Member (member_alike p q v c x y d.params d.body one u w)) h
 
   judges_alike : (one two : Option (List ℕ)) (a b : Answer) → Judges one two a → Judges one two b → AreAlike a b
   judges_alike one two a b s t =
       let P : List ℕ → Type 0 = λ bytes. Takes First one [] (IsJudged bytes) b in
-      takes_alike once First one [] (IsJudged s.bytes) (IsJudged s.bytes) a b (λ m n p q x d. judged_alike s.bytes m n p q a b d) s.judged
-      (subst P (same_bytes two t.bytes s.bytes t.there s.there) t.judged)
+      takes_alike once First one [] (IsJudged s.bytes) (IsJudged s.bytes) a b (λ m n p q x d. judged_alike s.bytes m n p q a b (names_read x.bytes [] m p x.text.numbers no_name_twice x.text.read) d) s.text
+      (subst P (same_bytes two t.bytes s.bytes t.there s.there) t.text)
 
   -- ---- a text that may be a schedule
 
-  run_alike : (bytes : List ℕ) (m n : List (List ℕ)) (p q : Program) (a b : Answer) → AreOne m n p q → IsRun bytes m p a → IsRun bytes n q b → AreAlike a b
+  run_alike : (bytes : List ℕ) (m n : List (List ℕ)) (p q : Stored) (a b : Answer) → AreOne m n (seen p) (seen q) → IsRun bytes m p a → IsRun bytes n q b → AreAlike a b
   run_alike bytes m n p q a b d (too_long_schedule l e) (too_long_schedule k h) = alike a b (TooLong Second) (TooLong Second) e refl h
   run_alike bytes m n p q a b d (too_long_schedule l e) (faulty_schedule y k s h) = absurd (omega (arith, l, k))
   run_alike bytes m n p q a b d (too_long_schedule l e) (followed_schedule c g k s w h) = absurd (omega (arith, l, k))
@@ -289,17 +320,19 @@ module _ (once : IsOnce) (only : IsOneVerdict) (single : IsOneText) (scripts : I
 
   steps_alike : (one two : Option (List ℕ)) (a b : Answer) → Steps one two a → Steps one two b → AreAlike a b
   steps_alike one two a b s t =
-      let P : List ℕ → Type 0 = λ bytes. Takes First one [] (IsRun bytes) b in
-      takes_alike once First one [] (IsRun s.bytes) (IsRun s.bytes) a b (λ m n p q x d. run_alike s.bytes m n p q a b d) s.judged
-      (subst P (same_bytes two t.bytes s.bytes t.there s.there) t.judged)
+      let P : List ℕ → Type 0 = λ bytes. Takes First one [] (OfStored (IsRun bytes)) b in
+      takes_alike once First one [] (OfStored (IsRun s.bytes)) (OfStored (IsRun s.bytes)) a b
+      (λ m n p q x d. of_stored (IsRun s.bytes) (IsRun s.bytes) m n p q a b d (λ y z e. run_alike s.bytes m n y z a b e)) s.text
+      (subst P (same_bytes two t.bytes s.bytes t.there s.there) t.text)
 
   -- ---- orders, and an expansion
 
   transforms_alike : (one two : Option (List ℕ)) (a b : Answer) → Transforms one two a → Transforms one two b → AreAlike a b
   transforms_alike one two a b s t =
-      let P : List ℕ → Type 0 = λ bytes. Takes First one [] (IsTransformed bytes) b in
-      takes_alike once First one [] (IsTransformed s.bytes) (IsTransformed s.bytes) a b (λ m n p q x d. transformed_alike outcome s.bytes m n p q d a b) s.judged
-      (subst P (same_bytes two t.bytes s.bytes t.there s.there) t.judged)
+      let P : List ℕ → Type 0 = λ bytes. Takes First one [] (OfStored (IsTransformed bytes)) b in
+      takes_alike once First one [] (OfStored (IsTransformed s.bytes)) (OfStored (IsTransformed s.bytes)) a b
+      (λ m n p q x d. of_stored (IsTransformed s.bytes) (IsTransformed s.bytes) m n p q a b d (λ y z e. transformed_alike outcome s.bytes m n y z e a b)) s.text
+      (subst P (same_bytes two t.bytes s.bytes t.there s.there) t.text)
 
   -- ---- command lines
 
@@ -314,7 +347,8 @@ module _ (once : IsOnce) (only : IsOneVerdict) (single : IsOneText) (scripts : I
   does_alike files (Some (run x y)) a b fixed s t = steps_alike (files x) (files y) a b s t
   does_alike files (Some (transform x y)) a b fixed s t = transforms_alike (files x) (files y) a b s t
   does_alike files (Some (expand x path)) a b fixed s t =
-      takes_alike once First (files x) [] (IsExpandedTo path) (IsExpandedTo path) a b (λ m n p q y d. expanded_alike outcome path m n p q d a b) s t
+      takes_alike once First (files x) [] (OfStored (IsExpandedTo path)) (OfStored (IsExpandedTo path)) a b
+      (λ m n p q y d. of_stored (IsExpandedTo path) (IsExpandedTo path) m n p q a b d (λ z w e. expanded_alike outcome path m n z w e a b)) s t
   does_alike files (Some (belongs x y)) a b fixed s t = judges_alike (files x) (files y) a b s t
   does_alike files (Some (stress shape n)) a b fixed s t =
       takes_alike once First (Some (program_text shape n)) [] (IsStressed shape n) (IsStressed shape n) a b (λ j k p q y d. stressed_alike (Some (program_text shape n)) shape n j k p q a b y d)

@@ -25,6 +25,7 @@ use Rattle.occ_syntax.specs.View.{tree}
 use Rattle.occ_tool_run.specs.declared.answer.Answer.{Answer}
 use Rattle.occ_tool_run.specs.declared.answer.Answer.TheVariants.{RefusedOrder, RefusedOrders, RefusedPath, TooLong}
 use Rattle.occ_tool_run.specs.declared.reason.Reason.TheVariants.{NoPath, NotPar, NotAccepted}
+use Rattle.occ_tool_run.specs.Stored.{seen}
 use Rattle.occ_tool_run.specs.Texts.{status_of, text_of}
 use Rattle.occ_tool_run.specs.Transforms.{IsExpandedTo, IsScriptOf, IsTransformed, blocked, expanded, faulty_orders, followed_orders, no_par, no_part, reason_of, stopped_orders, too_long_orders}
 use Rattle.occ_tool_run.proofs.Once.{AreAlike, alike}
@@ -120,7 +121,7 @@ module _ (one : IsOneOutcome) where
   -- ---- orders
 
   -- the same text is read with the same names
-  module _ (bytes : List ℕ) (m n : Table) (p q : Program) (d : AreOne m n p q) where
+  module _ (bytes : List ℕ) (m n : Table) (p q : Program) (d : AreOne m n (seen p) (seen q)) where
     there : (new : Table) (orders : List Order) → IsOrders bytes n new orders → IsOrders bytes m new orders
     there new orders h = let P : Table → Type 0 = λ old. IsOrders bytes old new orders in subst P (sym d.names) h
 
@@ -143,9 +144,9 @@ module _ (one : IsOneOutcome) where
         let Q : List Wanted → Type 0 = λ os. Stops q.params (tree q.body) os k lack in
         as_parts P p q d.params d.body (subst Q (sym (same_orders xs ys e)) h)
 
-    seen : (u v : Table) (xs ys : List Order) → IsOrders bytes m u xs → IsOrders bytes n v ys
+    orders_alike : (u v : Table) (xs ys : List Order) → IsOrders bytes m u xs → IsOrders bytes n v ys
         → (map shown_order xs ≡ map shown_order ys) × (u ≡ v)
-    seen u v xs ys f g = one.one_orders bytes m u v xs ys f (there v ys g)
+    orders_alike u v xs ys f g = one.one_orders bytes m u v xs ys f (there v ys g)
 
     pub transformed_alike : (a b : Answer) → IsTransformed bytes m p a → IsTransformed bytes n q b → AreAlike a b
     transformed_alike a b (too_long_orders l x) (too_long_orders k y) = alike a b (TooLong Second) (TooLong Second) x refl y
@@ -160,22 +161,22 @@ module _ (one : IsOneOutcome) where
     transformed_alike a b (stopped_orders u xs i c l f s x) (too_long_orders k y) = absurd (omega (arith, l, k))
     transformed_alike a b (stopped_orders u xs i c l f s x) (faulty_orders h k g y) = absurd (one.not_both bytes m u xs h f (fault_there h g))
     transformed_alike a b (stopped_orders u xs i c l f s x) (stopped_orders v ys j e k g t y) =
-        let h = one.one_stop p.params (tree p.body) (orders_of xs) i j c e s (stops_there xs ys j e (seen u v xs ys f g).0 t) in
+        let h = one.one_stop p.params (tree p.body) (orders_of xs) i j c e s (stops_there xs ys j e (orders_alike u v xs ys f g).0 t) in
         alike a b (RefusedOrder i (reason_of c)) (RefusedOrder j (reason_of e)) x (λ w. RefusedOrder (h.0 w) (reason_of (h.1 w))) y
     transformed_alike a b (stopped_orders u xs i c l f s x) (followed_orders v ys ss o k g t y) =
-        absurd (one.follow_or_stop p.params (tree p.body) (tree o.body) (orders_of xs) (moves_of ss) i c (follows_there xs ys ss o (seen u v xs ys f g).0 t) s)
+        absurd (one.follow_or_stop p.params (tree p.body) (tree o.body) (orders_of xs) (moves_of ss) i c (follows_there xs ys ss o (orders_alike u v xs ys f g).0 t) s)
     transformed_alike a b (followed_orders u xs rs r l f s x) (too_long_orders k y) = absurd (omega (arith, l, k))
     transformed_alike a b (followed_orders u xs rs r l f s x) (faulty_orders h k g y) = absurd (one.not_both bytes m u xs h f (fault_there h g))
     transformed_alike a b (followed_orders u xs rs r l f s x) (stopped_orders v ys j e k g t y) =
-        absurd (one.follow_or_stop p.params (tree p.body) (tree r.body) (orders_of xs) (moves_of rs) j e s (stops_there xs ys j e (seen u v xs ys f g).0 t))
+        absurd (one.follow_or_stop p.params (tree p.body) (tree r.body) (orders_of xs) (moves_of rs) j e s (stops_there xs ys j e (orders_alike u v xs ys f g).0 t))
     transformed_alike a b (followed_orders u xs rs r l f s x) (followed_orders v ys ss o k g t y) =
-        let e = seen u v xs ys f g in
+        let e = orders_alike u v xs ys f g in
         let h = one.one_following p.params (tree p.body) (tree r.body) (tree o.body) (orders_of xs) (moves_of rs) (moves_of ss) s (follows_there xs ys ss o e.0 t) in
         scripts_alike u v p q rs ss r o a b e.1 (record { name = d.name; params = d.params; body = d.body }) h.1 h.0 x y
 
   -- ---- an expansion
 
-  module _ (path : List ℕ) (m n : Table) (p q : Program) (d : AreOne m n p q) where
+  module _ (path : List ℕ) (m n : Table) (p q : Program) (d : AreOne m n (seen p) (seen q)) where
     none_there : part_at path (tree q.body) ≡ None → part_at path (tree p.body) ≡ None
     none_there h = ap (part_at path) d.body ∙ h
 

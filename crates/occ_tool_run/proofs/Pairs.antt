@@ -6,7 +6,7 @@ use Rattle.std.specs.declared.cmp.Ordering.TheVariants.{Less, Equal, Greater}
 use Rattle.occ_base.specs.declared.memory.Memory.{Memory}
 use Rattle.occ_base.specs.declared.names.Name.{Name}
 use Rattle.occ_syntax.specs.declared.scope.Kind.{Kind}
-use Rattle.occ_syntax.specs.declared.scope.Program.{Program}
+use Rattle.occ_syntax.specs.declared.scope.Program.{Program as Stored}
 use Rattle.occ_parse.specs.Known.{is_below, params_declare}
 use Rattle.occ_behaviour.specs.declared.behaviour.Side.TheVariants.{First, Second}
 use Rattle.occ_tool_run.specs.declared.answer.Answer.{Answer}
@@ -19,6 +19,8 @@ use Rattle.occ_tool_run.specs.Files.{IsLoaded, loaded_bytes, most_bytes, order_o
 use Rattle.occ_tool_run.specs.Answers.{Replies, Settles, Takes, TakesBoth, accepted, accepted_behind, refused_behind, unusable_behind}
 use Rattle.occ_tool_run.specs.Judged.{IsAcceptedFrom, IsRefusalAnswer, IsRefusedFrom}
 use Rattle.occ_tool_run.specs.Pairs.{IsOneKnown, SettlesAll}
+use Rattle.occ_tool_run.specs.Accepts.{Program}
+use Rattle.occ_tool_run.specs.Stored.{seen}
 use Rattle.occ_tool_run.proofs.Judging.{accepted_file, refusal_taken, refused_file, there, unusable_file}
 
 -- ---- in which order
@@ -36,7 +38,8 @@ ordered order question (Err m) first second is h = tt
 ordered order question (Ok a) first second is h = λ one two j k.
     let same : order_of one two ≡ order = ap₂ text_order (short first one j) (short second two k) ∙ is in
     let P : Ordering → Type 0 = λ o. TakesBoth o question one two a in
-    record { there = there most_bytes second two k; judged = subst P (sym same) (h one two j k) }
+    let file = there most_bytes second two k in
+    record { bytes = file.0; there = file.1; text = subst P (sym same) (h one two j k) }
 
 -- ---- the first file is read first
 
@@ -48,17 +51,17 @@ pub refuse_first : (question : Question) (r : Result Answer Memory) (first secon
 refuse_first question (Err m) first second new f is why = tt
 refuse_first question (Ok a) first second new f is why = λ one two h k. refusal_taken First first one [] new (Behind question two) f a is why h
 
-pub refuse_second : (question : Question) (r : Result Answer Memory) (first second : Loaded) (between new : List (List ℕ)) (p : Program) (f : Refusal) → IsAcceptedFrom first [] between p
+pub refuse_second : (question : Question) (r : Result Answer Memory) (first second : Loaded) (between new : List (List ℕ)) (p : Stored) (f : Refusal) → IsAcceptedFrom first [] between p
     → IfOk r (IsRefusalAnswer new Second f) → IsRefusedFrom second between new f → IfOk r (SettlesAll Less question first second)
 refuse_second question (Err m) first second between new p f read is why = tt
 refuse_second question (Ok a) first second between new p f read is why = λ one two h k.
-    accepted between p (accepted_file first one [] between p read h) (refusal_taken Second second two between new (Replies question p) f a is why k)
+    accepted between (seen p) (accepted_file first one [] between p read h) (refusal_taken Second second two between new (Replies question (seen p)) f a is why k)
 
-pub settle : (question : Question) (r : Result Answer Memory) (first second : Loaded) (between new : List (List ℕ)) (p q : Program) → IsAcceptedFrom first [] between p → IsAcceptedFrom second between new q
-    → IfOk r (Replies question p new q) → IfOk r (SettlesAll Less question first second)
+pub settle : (question : Question) (r : Result Answer Memory) (first second : Loaded) (between new : List (List ℕ)) (p q : Stored) → IsAcceptedFrom first [] between p → IsAcceptedFrom second between new q
+    → IfOk r (Replies question (seen p) new (seen q)) → IfOk r (SettlesAll Less question first second)
 settle question (Err m) first second between new p q read also h = tt
 settle question (Ok a) first second between new p q read also h = λ one two j k.
-    accepted between p (accepted_file first one [] between p read j) (accepted new q (accepted_file second two between new q also k) h)
+    accepted between (seen p) (accepted_file first one [] between p read j) (accepted new (seen q) (accepted_file second two between new q also k) h)
 
 -- ---- both files have one text
 
@@ -70,10 +73,10 @@ pub refuse_alike : (question : Question) (r : Result Answer Memory) (text : Load
 refuse_alike question (Err m) text new f is why = tt
 refuse_alike question (Ok a) text new f is why = λ second one two h k. refusal_taken First text one [] new (λ names p. Replies question p names p) f a is why h
 
-pub settle_alike : (question : Question) (r : Result Answer Memory) (text : Loaded) (new : List (List ℕ)) (p : Program) → IsAcceptedFrom text [] new p → IfOk r (Replies question p new p)
+pub settle_alike : (question : Question) (r : Result Answer Memory) (text : Loaded) (new : List (List ℕ)) (p : Stored) → IsAcceptedFrom text [] new p → IfOk r (Replies question (seen p) new (seen p))
     → IfOk r (AlikeAll question text)
 settle_alike question (Err m) text new p read h = tt
-settle_alike question (Ok a) text new p read h = λ second one two j k. accepted new p (accepted_file text one [] new p read j) h
+settle_alike question (Ok a) text new p read h = λ second one two j k. accepted new (seen p) (accepted_file text one [] new p read j) h
 
 pub of_alike : (question : Question) (r : Result Answer Memory) (text second : Loaded) → IfOk r (AlikeAll question text) → IfOk r (SettlesAll Equal question text second)
 of_alike question (Err m) text second h = tt
@@ -92,17 +95,17 @@ pub refuse_behind : (question : Question) (r : Result Answer Memory) (first seco
 refuse_behind question (Err m) first second names f why kept told = tt
 refuse_behind question (Ok a) first second names f why kept told = λ one two h k. behind question first second names f a one two why kept (told one h) k
 
-pub refuse_turned : (question : Question) (r : Result Answer Memory) (first second : Loaded) (between new : List (List ℕ)) (q : Program) (f : Refusal) → IsAcceptedFrom second [] between q
+pub refuse_turned : (question : Question) (r : Result Answer Memory) (first second : Loaded) (between new : List (List ℕ)) (q : Stored) (f : Refusal) → IsAcceptedFrom second [] between q
     → IfOk r (IsRefusalAnswer new First f) → IsRefusedFrom first between new f → IfOk r (SettlesAll Greater question first second)
 refuse_turned question (Err m) first second between new q f read is why = tt
 refuse_turned question (Ok a) first second between new q f read is why = λ one two h k.
-    accepted_behind between q (accepted_file second two [] between q read k) (refusal_taken First first one between new (λ names p. Replies question p names q) f a is why h)
+    accepted_behind between (seen q) (accepted_file second two [] between q read k) (refusal_taken First first one between new (λ names p. Replies question p names (seen q)) f a is why h)
 
-pub settle_turned : (question : Question) (r : Result Answer Memory) (first second : Loaded) (between new : List (List ℕ)) (p q : Program) → IsAcceptedFrom second [] between q → IsAcceptedFrom first between new p
-    → IfOk r (Replies question p new q) → IfOk r (SettlesAll Greater question first second)
+pub settle_turned : (question : Question) (r : Result Answer Memory) (first second : Loaded) (between new : List (List ℕ)) (p q : Stored) → IsAcceptedFrom second [] between q → IsAcceptedFrom first between new p
+    → IfOk r (Replies question (seen p) new (seen q)) → IfOk r (SettlesAll Greater question first second)
 settle_turned question (Err m) first second between new p q read also h = tt
 settle_turned question (Ok a) first second between new p q read also h = λ one two j k.
-    accepted_behind between q (accepted_file second two [] between q read k) (accepted new p (accepted_file first one between new p also j) h)
+    accepted_behind between (seen q) (accepted_file second two [] between q read k) (accepted new (seen p) (accepted_file first one between new p also j) h)
 
 pub not_memory : (r : Result Answer Memory) (f : Refusal) (b : Bool) → b ≡ false → (f ≡ refusal.Memory → b ≡ true) → IfOk r (λ a. f ≢ refusal.Memory)
 not_memory (Err m) f b other is = tt
@@ -111,6 +114,6 @@ not_memory (Ok a) f b other is = λ e. false≢true (sym other ∙ is e)
 -- ---- names that have texts
 
 -- the names of the parameters of two programs of one interface have texts, where those of one of them have
-pub parameters_known : (names : List (List ℕ)) (p q : Program) → p.params ≡ q.params → IsOneKnown names p q → params_declare (is_below (length names)) p.params ≡ true
+pub parameters_known : (names : List (List ℕ)) (p q : Stored) → p.params ≡ q.params → IsOneKnown names p q → params_declare (is_below (length names)) p.params ≡ true
 parameters_known names p q same (inl h) = h.params
 parameters_known names p q same (inr h) = subst (λ (ps : List (Name × Kind)). params_declare (is_below (length names)) ps ≡ true) (sym same) h.params

@@ -24,6 +24,7 @@ use Rattle.occ_tool_run.specs.Answers.{Steps, accepted}
 use Rattle.occ_tool_run.specs.Files.{IsLoaded, most_bytes}
 use Rattle.occ_tool_run.specs.Judged.{IsAcceptedFrom, IsRefusalAnswer, IsRefusedFrom}
 use Rattle.occ_tool_run.specs.Runs.{IsRun, IsScheduleRefusal, faulty_schedule, followed_schedule}
+use Rattle.occ_tool_run.specs.Stored.{OfStored, seen}
 use Rattle.occ_tool_run.proofs.Judging.{accepted_file, refusal_taken, there}
 
 abbrev StepsAll : Loaded → Loaded → Answer → Type 0
@@ -34,7 +35,7 @@ pub refuse_running : (r : Result Answer Memory) (first second : Loaded) (new : L
 refuse_running (Err m) first second new f is why = tt
 refuse_running (Ok a) first second new f is why = λ one two h k.
     let t = there most_bytes second two k in
-    record { bytes = t.0; there = t.1; judged = refusal_taken First first one [] new (IsRun t.0) f a is why h }
+    record { bytes = t.0; there = t.1; text = refusal_taken First first one [] new (OfStored (IsRun t.0)) f a is why h }
 
 pub take_running : (r : Result Answer Memory) (first second : Loaded) (new : List (List ℕ)) (p : Program) → IsAcceptedFrom first [] new p
     → IfOk r (λ a. (bytes : List ℕ) → IsLoaded most_bytes (Some bytes) second → IsRun bytes new p a) → IfOk r (StepsAll first second)
@@ -42,7 +43,7 @@ take_running (Err m) first second new p read h = tt
 take_running (Ok a) first second new p read h = λ one two j k.
     let t = there most_bytes second two k in
     let P : Option (List ℕ) → Type 0 = λ file. IsLoaded most_bytes file second in
-    record { bytes = t.0; there = t.1; judged = accepted new p (accepted_file first one [] new p read j) (h t.0 (subst P t.1 k)) }
+    record { bytes = t.0; there = t.1; text = accepted new (seen p) (accepted_file first one [] new p read j) (record { stored = p; program_is = refl; answered = h t.0 (subst P t.1 k) }) }
 
 abbrev RunAll : List (List ℕ) → Program → Loaded → Answer → Type 0
 RunAll names p l a = (bytes : List ℕ) → IsLoaded most_bytes (Some bytes) l → IsRun bytes names p a

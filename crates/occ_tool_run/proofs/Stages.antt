@@ -1,10 +1,10 @@
 -- A generated program that the words ask for has from 1 to 48 stages.
-use Rattle.std.proofs.Common.{◌≡◌, ◌+◌, ◌*◌, ◌≤◌, ◌==◌, ℕ, Bool, true, false, ◌&&◌, List, [], ◌∷◌, Option, Some, None, codes, if◌then◌else◌, option_and_then, option_map, leb, refl, sym, subst}
+use Rattle.std.proofs.Common.{◌≡◌, ◌+◌, ◌≤◌, ℕ, zero, suc, Bool, true, false, cond, ◌&&◌, List, [], ◌∷◌, Option, Some, None, codes, decimal, if◌then◌else◌, find, option_and_then, option_map, arith, sym, subst}
+use Rattle.std.specs.List.{range_with_len}
 use Rattle.std.specs.Str.{bytes_eq}
-use Rattle.std.proofs.lemmas.Bool.{and_parts, leb-true}
 use Rattle.occ_gen.specs.declared.shape.Shape.{Shape}
 use Rattle.occ_script_path.specs.Texts.{path_of}
-use Rattle.occ_tool_words.specs.Words.{Job, same, normalise, normal, belongs, stress, refine, deadlock, replay, run, transform, expand, derive, expand_of, digit_of, in_range, is_plain, job_of, shape_of, stages_of, stress_of, two_digits, with_one, with_two, with_two_later}
+use Rattle.occ_tool_words.specs.Words.{Job, same, normalise, normal, belongs, stress, refine, deadlock, replay, run, transform, expand, derive, expand_of, is_plain, job_of, shape_of, stages_of, stress_of, with_one, with_two, with_two_later}
 
 abbrev pub InRange : ℕ → Type 0
 InRange n = (1 ≤ n) × (n ≤ 48)
@@ -33,30 +33,21 @@ choice : (b : Bool) (x y : Option Job) → IsFit x → IsFit y → IsFit (if b t
 choice true x y h k = h
 choice false x y h k = k
 
-behind : (f : ℕ → Option ℕ) (o : Option ℕ) → ((n : ℕ) → IsInRange (f n)) → IsInRange (option_and_then f o)
-behind f None h = tt
-behind f (Some n) h = h n
+-- ---- numbers of stages
 
-either : (b : Bool) (x y : Option ℕ) → IsInRange x → IsInRange y → IsInRange (if b then x else y)
+either : (b : Bool) (x y : Option ℕ) → IsInRange x → IsInRange y → IsInRange (cond b x y)
 either true x y h k = h
 either false x y h k = k
 
--- ---- numbers of stages
-
-limited : (n : ℕ) → IsInRange (in_range n)
-limited n = at (leb 1 n && leb n 48) refl
-  where
-    at : (b : Bool) → (leb 1 n && leb n 48) ≡ b → IsInRange (if b then Some n else None)
-    at true e = let p = and_parts (leb 1 n) (leb n 48) e in (leb-true 1 n p.0, leb-true n 48 p.1)
-    at false e = tt
+found : (test : ℕ → Bool) (n k : ℕ) → 1 ≤ n → n + k ≤ 49 → IsInRange (find test (range_with_len n k))
+found test n zero low high = tt
+found test n (suc k) low high =
+    let one : InRange n = (low, omega (arith, high)) in
+    either (test n) (Some n) (find test (range_with_len (n + 1) k)) one (found test (n + 1) k (omega (arith, low)) (omega (arith, high)))
 
 staged : (word : List ℕ) → IsInRange (stages_of word)
-staged [] = tt
-staged (ones ∷ []) = behind in_range (digit_of ones) limited
-staged (tens ∷ ones ∷ []) =
-    either (tens == 48) None (two_digits tens ones) tt
-    (behind (λ t. option_and_then (λ o. in_range (10 * t + o)) (digit_of ones)) (digit_of tens) (λ t. behind (λ o. in_range (10 * t + o)) (digit_of ones) (λ o. limited (10 * t + o))))
-staged (first ∷ second ∷ third ∷ rest) = tt
+unfolding stages_of
+staged word = found (λ n. bytes_eq (decimal n) word) 1 48 (omega arith) (omega arith)
 
 -- ---- commands
 

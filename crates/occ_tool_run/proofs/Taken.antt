@@ -1,21 +1,18 @@
 -- What becomes of a text is one.
-use Rattle.std.proofs.Common.{◌≡◌, ℕ, List, ◌∷◌, Option, sym, ◌∙◌, ap, subst, slice_index_or}
-use Rattle.occ_syntax.specs.declared.scope.Program.{Program}
-use Rattle.occ_syntax.specs.Tree.{Tree}
-use Rattle.occ_syntax.specs.View.{tree}
-use Rattle.occ_syntax.specs.Usage.{KeepsUsage}
+use Rattle.std.proofs.Common.{◌≡◌, ℕ, List, [], ◌∷◌, Option, sym, ◌∙◌, ap, subst, slice_index_or}
+use Rattle.occ_syntax.specs.declared.scope.Program.{Program as Stored}
 use Rattle.occ_parse_reading.specs.Reading.{IsRefused as IsRefusedText}
 use Rattle.occ_parse_reading.specs.declared.bound.Bound.TheVariants as bound
 use Rattle.occ_parse_reading.specs.declared.fault.ParseFault.{ParseFault}
-use Rattle.occ_usage.specs.Accepted.{usage_faults}
 use Rattle.occ_usage.specs.Faults.{faults, names_of}
 use Rattle.occ_usage.specs.declared.fault.UsageFault.{UsageFault}
 use Rattle.occ_behaviour.specs.declared.behaviour.Side.{Side}
 use Rattle.occ_tool_run.specs.declared.answer.Answer.{Answer}
 use Rattle.occ_tool_run.specs.declared.answer.Answer.TheVariants.{Refused, Unusable}
-use Rattle.occ_tool_run.specs.Accepts.{ReadsAs, IsAccepted, IsRefused, IsUnusable, node_of}
+use Rattle.occ_tool_run.specs.Accepts.{IsAccepted, IsRefused, IsUnusable, Program, ReadsAs, node_of, usage_faults}
+use Rattle.occ_tool_run.specs.Stored.{OfStored, seen}
 use Rattle.occ_tool_run.specs.Answers.{Takes, refused, unusable, accepted}
-use Rattle.occ_tool_run.proofs.Once.{AreAlike, IsOneReading, IsOnce, alike, faultless, same_bytes}
+use Rattle.occ_tool_run.proofs.Once.{AreAlike, IsOneReading, IsOnce, alike, same_bytes}
 
 pub data Outcome : Type 0 where
   as_taken : List (List ℕ) → Program → Outcome
@@ -31,7 +28,7 @@ pub record AreOne (m n : List (List ℕ)) (p q : Program) : Type 0 where
   pub names : m ≡ n
   pub name : p.name ≡ q.name
   pub params : p.params ≡ q.params
-  pub body : tree p.body ≡ tree q.body
+  pub body : p.body ≡ q.body
 
 pub record AreOneFault (m n : List (List ℕ)) (k l : ℕ) (f g : UsageFault) : Type 0 where
   pub names : m ≡ n
@@ -49,6 +46,14 @@ Agree (as_unusable m k f) (as_taken n q) = ⊥
 Agree (as_unusable m k f) (as_refused g) = ⊥
 Agree (as_unusable m k f) (as_unusable n l g) = AreOneFault m n k l f g
 
+-- answers to programs are alike where those to the programs in memory are
+pub of_stored : (R S : List (List ℕ) → Stored → Answer → Type 0) (m n : List (List ℕ)) (p q : Program) (a b : Answer) → AreOne m n p q
+    → ((x y : Stored) → AreOne m n (seen x) (seen y) → R m x a → S n y b → AreAlike a b) → OfStored R m p a → OfStored S n q b → AreAlike a b
+of_stored R S m n p q a b d rest f g =
+    let P : Program → Type 0 = λ r. AreOne m n r q in
+    let Q : Program → Type 0 = λ r. AreOne m n (seen f.stored) r in
+    rest f.stored g.stored (subst Q g.program_is (subst P f.program_is d)) f.answered g.answered
+
 head_is : {X : Type 0} (x y : X) (xs ys : List X) → x ∷ xs ≡ y ∷ ys → x ≡ y
 head_is x y xs ys e = cc
 
@@ -64,15 +69,16 @@ module _ (once : IsOnce) where
       let P : List ℕ → Type 0 = λ t. IsRefusedText bound.Program t old f in
       once.not_both a old m p ls f r (subst P alike s)
 
-  one_fault_of : (p q : Program) (f g : UsageFault) (fs gs : List UsageFault) → p.params ≡ q.params → tree p.body ≡ tree q.body → usage_faults p ≡ f ∷ fs → usage_faults q ≡ g ∷ gs → f ≡ g
+  one_fault_of : (p q : Program) (f g : UsageFault) (fs gs : List UsageFault) → p.params ≡ q.params → p.body ≡ q.body → usage_faults p ≡ f ∷ fs → usage_faults q ≡ g ∷ gs → f ≡ g
   one_fault_of p q f g fs gs params body x y =
       let alike : usage_faults p ≡ usage_faults q = λ i. faults (body i) 0 (names_of (params i)) in
       head_is f g fs gs (sym x ∙ alike ∙ y)
 
-  no_fault : (p q : Program) (f : UsageFault) (fs : List UsageFault) → p.params ≡ q.params → tree p.body ≡ tree q.body → KeepsUsage (tree p.body) → usage_faults q ≡ f ∷ fs → ⊥
-  no_fault p q f fs params body keeps found =
-      let P : Tree → Type 0 = KeepsUsage in
-      faultless q f fs (subst P body keeps) found
+  no_fault : (p q : Program) (f : UsageFault) (fs : List UsageFault) → p.params ≡ q.params → p.body ≡ q.body → usage_faults p ≡ [] → usage_faults q ≡ f ∷ fs → ⊥
+  no_fault p q f fs params body none found =
+      let alike : usage_faults p ≡ usage_faults q = λ i. faults (body i) 0 (names_of (params i)) in
+      let bad : [] ≡ f ∷ fs = sym none ∙ alike ∙ found in
+      cc
 
   pub agree : (file : Option (List ℕ)) (old : List (List ℕ)) (x y : Outcome) → Comes file old x → Comes file old y → Agree x y
   agree file old (as_taken m p) (as_taken n q) a b =

@@ -1,26 +1,28 @@
 -- Which answer a command line has over the files.
-use Rattle.std.specs.Prelude.{ℕ, ◌≡◌, ◌≤◌, ◌<◌, ◌↔◌, Bool, List, [], length, Option, None, Some, Ok, Err, IsTrue, Vec}
+use Rattle.std.specs.Prelude.{ℕ, ◌≡◌, ◌≤◌, ◌<◌, ◌↔◌, Bool, List, [], length, Option, None, Some, IsTrue, Vec}
 use Rattle.std.specs.declared.alloc.Global.{Global}
 use Rattle.std.specs.declared.cmp.Ordering.{Ordering}
 use Rattle.std.specs.declared.cmp.Ordering.TheVariants.{Less, Equal, Greater}
-use Rattle.occ_syntax.specs.declared.scope.Program.{Program}
-use Rattle.occ_syntax.specs.View.{tree}
 use Rattle.occ_parse_reading.specs.declared.fault.ParseFault.{ParseFault}
 use Rattle.occ_usage.specs.declared.fault.UsageFault.{UsageFault}
 use Rattle.occ_behaviour.specs.declared.behaviour.Behaviour.{Behaviour}
 use Rattle.occ_behaviour.specs.declared.behaviour.Side.{Side}
 use Rattle.occ_behaviour.specs.declared.behaviour.Side.TheVariants.{First, Second}
 use Rattle.occ_behaviour.specs.declared.behaviour.Verdict.{Verdict}
-use Rattle.occ_behaviour.specs.Members.{IsMember, IsRight}
+use Rattle.occ_behaviour.specs.Members.{IsMember}
 use Rattle.occ_verdict.specs.Verdict.{IsVerdictOf}
 use Rattle.occ_nform_table.specs.declared.table.TableFault.{TableFault}
-use Rattle.occ_nform_table.specs.Normal.{Parts, text_read}
-use Rattle.occ_behaviour_read.specs.Claims.{claim_read}
+use Rattle.occ_lex.specs.Rows.{rows}
+use Rattle.occ_nform_table.specs.Normal.{Parts, table_fault}
+use Rattle.occ_nform_table.specs.declared.table.TableRow.{TableRow}
+use Rattle.occ_behaviour_read.specs.Claims.{bare_lines}
+use Rattle.occ_nform_written.specs.Stops.{StopsAt}
+use Rattle.occ_nform_written.specs.Behaviours.{AreBehaviourLines, IsBehaviourText}
+use Rattle.occ_nform_written.specs.Tables.{IsTableFault, IsTableOf, IsTableText, IsTextOf}
 use Rattle.occ_gen.specs.declared.shape.Shape.{Shape}
 use Rattle.occ_gen.specs.Programs.{program_text}
 use Rattle.occ_nform.specs.declared.figures.Counts.{Counts}
-use Rattle.occ_nform.specs.Written.{IsNormalText}
-use Rattle.occ_nform_program.specs.Counted.{HasCounts}
+use Rattle.occ_nform_program.specs.Counted.{counts_of}
 use Rattle.occ_views.specs.declared.refined.Refined.{Refined as Refinement}
 use Rattle.occ_views.specs.Programs.{IsRefinement, IsDeadlockAnswer}
 use Rattle.occ_tool_words.specs.Words.{Job, same, normalise, normal, belongs, stress, refine, deadlock, replay, run, transform, expand, derive, job_of}
@@ -28,13 +30,14 @@ use Rattle.occ_tool_run.specs.declared.answer.Answer.{Answer}
 use Rattle.occ_tool_run.specs.declared.answer.Answer.TheVariants.{Usage, Refused, Unusable, TooLong, RefusedTable, RefusedClaim, InterfacesDiffer, Compared, Written, Counted, Member, Stressed, Allowed, Sought}
 use Rattle.occ_tool_run.specs.declared.judge.Question.{Question}
 use Rattle.occ_tool_run.specs.declared.judge.Question.TheVariants.{WhetherSame, WhetherRefined}
-use Rattle.occ_tool_run.specs.Accepts.{IsAccepted, IsAcceptedText, IsRefused, IsUnusable, IsThere}
+use Rattle.occ_tool_run.specs.Accepts.{Holds, Program, IsAccepted, IsAcceptedText, IsRefused, IsUnusable}
 use Rattle.occ_tool_run.specs.Derivations.{Replays}
 use Rattle.occ_tool_run.specs.Derived.{IsDerived}
 use Rattle.occ_tool_run.specs.Runs.{IsRun}
 use Rattle.occ_tool_run.specs.Transforms.{IsExpandedTo, IsTransformed}
 use Rattle.occ_tool_run.specs.Files.{Files, most_bytes, most_table_bytes, order_of}
-use Rattle.occ_tool_run.specs.Texts.{status_of, text_of}
+use Rattle.occ_tool_run.specs.Stored.{OfStored}
+use Rattle.occ_tool_run.specs.Texts.{told}
 
 -- What the answer is where a file's text is read as a program, with these names so far: the text is refused, or its program
 -- breaks the rule of usage, or the program is accepted and the rest decides.
@@ -45,26 +48,15 @@ pub data Takes (place : Side) (file : Option (List ℕ)) (old : List (List ℕ))
 
 -- ---- two programs
 
--- Both programs have one interface, and the verdict on them is right: the one that they have.
-pub record IsVerdictOn (p q : Program) (verdict : Verdict) : Type 0 where
-  pub one_interface : p.params ≡ q.params
-  pub right : IsRight p.params (tree p.body) (tree q.body) verdict
-  pub first : IsVerdictOf p.params (tree p.body) (tree q.body) verdict
-
 -- the answer to two accepted programs
 pub data Compares (p : Program) (names : List (List ℕ)) (q : Program) (answer : Answer) : Type 0 where
   apart : (p.params ≡ q.params → ⊥) → answer ≡ InterfacesDiffer → Compares p names q answer
-  compared : (verdict : Verdict) → IsVerdictOn p q verdict → answer ≡ Compared names verdict → Compares p names q answer
-
--- Both programs have one interface, and this says whether the second does no more than the first allows.
-pub record IsRefinementOn (p q : Program) (refined : Refinement) : Type 0 where
-  pub one_interface : p.params ≡ q.params
-  pub is : IsRefinement p.params (tree p.body) (tree q.body) refined
+  compared : (verdict : Verdict) → p.params ≡ q.params → IsVerdictOf p.params p.body q.body verdict → answer ≡ Compared names verdict → Compares p names q answer
 
 -- the answer to two accepted programs, of which the second may refine the first
 pub data Refines (p : Program) (names : List (List ℕ)) (q : Program) (answer : Answer) : Type 0 where
   other : (p.params ≡ q.params → ⊥) → answer ≡ InterfacesDiffer → Refines p names q answer
-  allowed : (refined : Refinement) → IsRefinementOn p q refined → answer ≡ Allowed names refined → Refines p names q answer
+  allowed : (refined : Refinement) → p.params ≡ q.params → IsRefinement p.params p.body q.body refined → answer ≡ Allowed names refined → Refines p names q answer
 
 -- what is asked of two accepted programs
 abbrev pub Replies : Question → Program → List (List ℕ) → Program → Answer → Type 0
@@ -87,16 +79,15 @@ TakesBoth Greater question one two answer = Turned question one two answer
 
 -- The answer to two files of whose programs this is asked. Both are there. They are read in the order of their bytes, so that
 -- names have the same numbers whichever file is given first.
-pub record Settles (question : Question) (one two : Option (List ℕ)) (answer : Answer) : Type 0 where
-  pub there : IsThere two
-  pub judged : TakesBoth (order_of one two) question one two answer
+abbrev pub Settles : Question → Option (List ℕ) → Option (List ℕ) → Answer → Type 0
+Settles question one two answer = Holds two (λ bytes. TakesBoth (order_of one two) question one two answer)
 
 -- ---- where a program can be stuck
 
 -- the answer tells where the accepted program can be stuck
 pub record IsSought (names : List (List ℕ)) (p : Program) (answer : Answer) : Type 0 where
   pub found : Option Behaviour
-  pub is : IsDeadlockAnswer p.params (tree p.body) found
+  pub is : IsDeadlockAnswer p.params p.body found
   pub answer_is : answer ≡ Sought names found
 
 -- the answer to a file whose program may be stuck
@@ -108,7 +99,7 @@ Seeks file answer = Takes First file [] IsSought answer
 -- the answer is the normal text of the accepted program
 pub record IsNormalised (names : List (List ℕ)) (p : Program) (answer : Answer) : Type 0 where
   pub text : Vec ℕ Global
-  pub is : IsNormalText names p.params (tree p.body) text.items
+  pub is : IsTextOf names p.params p.body text.items
   pub answer_is : answer ≡ Written text
 
 -- the answer to a file whose program's normal text is asked for
@@ -120,58 +111,53 @@ Normalises file answer = Takes First file [] IsNormalised answer
 -- The answer to the bytes of a file that is to be a normal text. It is read with an empty table of names.
 pub data IsChecked (bytes : List ℕ) (answer : Answer) : Type 0 where
   too_long_table : most_table_bytes < length bytes → answer ≡ TooLong First → IsChecked bytes answer
-  faulty_table : (fault : TableFault) → length bytes ≤ most_table_bytes → text_read [] bytes ≡ Err fault → answer ≡ RefusedTable fault → IsChecked bytes answer
-  normal_table : (t : Parts) → length bytes ≤ most_table_bytes → text_read [] bytes ≡ Ok t → answer ≡ Counted (length t.rows) → IsChecked bytes answer
+  faulty_table : (fault : TableFault) → length bytes ≤ most_table_bytes → IsTableFault (rows bytes) fault → answer ≡ RefusedTable fault → IsChecked bytes answer
+  normal_table : (t : Parts) → length bytes ≤ most_table_bytes → IsTableText t (rows bytes) → table_fault t ≡ None → answer ≡ Counted (length t.rows) → IsChecked bytes answer
 
-pub record Checks (file : Option (List ℕ)) (answer : Answer) : Type 0 where
-  pub bytes : List ℕ
-  pub there : file ≡ Some bytes
-  pub checked : IsChecked bytes answer
+abbrev pub Checks : Option (List ℕ) → Answer → Type 0
+Checks file answer = Holds file (λ bytes. IsChecked bytes answer)
 
 -- ---- a program and a behaviour
 
 -- the answer to an accepted program and the bytes of a file that is to be a behaviour
 pub data IsJudged (bytes : List ℕ) (names : List (List ℕ)) (p : Program) (answer : Answer) : Type 0 where
   too_long_claim : most_bytes < length bytes → answer ≡ TooLong Second → IsJudged bytes names p answer
-  faulty_claim : (line : ℕ) → length bytes ≤ most_bytes → claim_read names p.params bytes ≡ Err line → answer ≡ RefusedClaim line → IsJudged bytes names p answer
-  judged_claim : (b : Behaviour) (is : Bool) → length bytes ≤ most_bytes → claim_read names p.params bytes ≡ Ok b → IsTrue is ↔ IsMember p.params (tree p.body) b
+  faulty_claim : (line : ℕ) → length bytes ≤ most_bytes → StopsAt (AreBehaviourLines names p.params) (bare_lines bytes) line → answer ≡ RefusedClaim line → IsJudged bytes names p answer
+  judged_claim : (b : Behaviour) (is : Bool) → length bytes ≤ most_bytes → IsBehaviourText names p.params b (bare_lines bytes) → IsTrue is ↔ IsMember p.params p.body b
       → answer ≡ Member is → IsJudged bytes names p answer
 
 -- The answer to two files: of a program, and of a behaviour that may be one of the program's. Both are there, and the
 -- program is judged first.
-pub record Judges (one two : Option (List ℕ)) (answer : Answer) : Type 0 where
-  pub bytes : List ℕ
-  pub there : two ≡ Some bytes
-  pub judged : Takes First one [] (IsJudged bytes) answer
+abbrev pub Judges : Option (List ℕ) → Option (List ℕ) → Answer → Type 0
+Judges one two answer = Holds two (λ bytes. Takes First one [] (IsJudged bytes) answer)
 
 -- The answer to two files: of a program, and of a schedule that its steps are to follow. Both are there, and the program is
 -- judged first.
-pub record Steps (one two : Option (List ℕ)) (answer : Answer) : Type 0 where
-  pub bytes : List ℕ
-  pub there : two ≡ Some bytes
-  pub judged : Takes First one [] (IsRun bytes) answer
+abbrev pub Steps : Option (List ℕ) → Option (List ℕ) → Answer → Type 0
+Steps one two answer = Holds two (λ bytes. Takes First one [] (OfStored (IsRun bytes)) answer)
 
 -- The answer to two files: of a program, and of orders that are to be followed from it. Both are there, and the program is judged
 -- first.
-pub record Transforms (one two : Option (List ℕ)) (answer : Answer) : Type 0 where
-  pub bytes : List ℕ
-  pub there : two ≡ Some bytes
-  pub judged : Takes First one [] (IsTransformed bytes) answer
+abbrev pub Transforms : Option (List ℕ) → Option (List ℕ) → Answer → Type 0
+Transforms one two answer = Holds two (λ bytes. Takes First one [] (OfStored (IsTransformed bytes)) answer)
 
 -- the answer to a file, the PAR of whose program at a path is to be expanded
 abbrev pub Expands : Option (List ℕ) → List ℕ → Answer → Type 0
-Expands file path answer = Takes First file [] (IsExpandedTo path) answer
+Expands file path answer = Takes First file [] (OfStored (IsExpandedTo path)) answer
 
 -- the answer to a file, whose program's normal program is to be derived
 abbrev pub Derives : Option (List ℕ) → Answer → Type 0
-Derives file answer = Takes First file [] IsDerived answer
+Derives file answer = Takes First file [] (OfStored IsDerived) answer
 
 -- ---- a generated program
 
 -- the answer tells the figures of the normal text of the accepted program
 pub record IsStressed (shape : Shape) (stages : ℕ) (names : List (List ℕ)) (p : Program) (answer : Answer) : Type 0 where
   pub counts : Counts
-  pub has : HasCounts names p.params (tree p.body) counts
+  pub rows : List TableRow
+  pub states : List ℕ
+  pub is : IsTableOf names p.params p.body rows states
+  pub counts_are : counts ≡ counts_of (record { names = names; params = p.params; rows = rows; states = states })
   pub answer_is : answer ≡ Stressed shape stages counts
 
 -- The answer to the order to measure a generated program, whose text is that of an accepted one.
@@ -208,5 +194,5 @@ IsDetermined asked = Unit {0}
 pub record Answers (files : Files) (words : List (List ℕ)) (status : ℕ) (text : List ℕ) : Type 0 where
   pub answer : Answer
   pub is : IsAnswer files words answer
-  pub status_is : status ≡ status_of answer
-  pub text_is : text ≡ text_of answer
+  pub status_is : status ≡ (told answer).0
+  pub text_is : text ≡ (told answer).1

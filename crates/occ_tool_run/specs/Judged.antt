@@ -21,11 +21,12 @@ use Rattle.occ_tool_run.specs.declared.accept.Refusal.TheVariants as refusal
 use Rattle.occ_tool_run.specs.declared.load.Loaded.{Loaded}
 use Rattle.occ_tool_run.specs.declared.load.Loaded.TheVariants.{Bytes, TooLong}
 use Rattle.occ_tool_run.specs.Accepts.{IsAcceptedText, IsUnusableText, node_of}
+use Rattle.occ_tool_run.specs.Stored.{seen}
 use Rattle.occ_tool_run.specs.Texts.{FaultIsNamed}
 
 -- The text is accepted, and all names of its program have texts.
 pub record IsAcceptedAs (text : List ℕ) (old new : List (List ℕ)) (program : Program) : Type 0 where
-  pub accepted : IsAcceptedText text old new program
+  pub accepted : IsAcceptedText text old new (seen program)
   pub known : NamesAreKnown new program
 
 abbrev pub IsAcceptedFrom : Loaded → List (List ℕ) → List (List ℕ) → Program → Type 0

@@ -1,6 +1,7 @@
 pub mod Files
 pub mod Texts
 pub mod Accepts
+pub mod Stored
 pub mod Derivations
 pub mod Runs
 pub mod Transforms

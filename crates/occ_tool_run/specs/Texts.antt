@@ -1,7 +1,5 @@
 -- The status and the text of each answer.
-use Rattle.std.specs.Prelude.{ℕ, ◌≢◌, ◌<◌, Bool, true, false, List, [], ◌++◌, codes, decimal, length, slice_index_or, Option, Some, None}
-use Rattle.occ_base.specs.declared.event.Dir.{Dir}
-use Rattle.occ_base.specs.declared.event.Dir.TheVariants.{Input, Output}
+use Rattle.std.specs.Prelude.{ℕ, ◌≢◌, ◌<◌, true, false, List, [], ◌++◌, codes, decimal, length, slice_index_or, Option, Some, None}
 use Rattle.occ_usage.specs.declared.fault.UsageFault.{UsageFault}
 use Rattle.occ_usage.specs.declared.fault.UsageFault.TheVariants as shared
 use Rattle.occ_lex.specs.declared.fault.LineFault.{LineFault}
@@ -16,13 +14,11 @@ use Rattle.occ_behaviour.specs.declared.behaviour.Verdict.{Verdict}
 use Rattle.occ_behaviour.specs.declared.behaviour.Verdict.TheVariants.{Same, Differ}
 use Rattle.occ_behaviour.specs.declared.behaviour.Behaviour.{Behaviour}
 use Rattle.occ_behaviour.specs.Members.{VerdictIsNamed, IsNamed}
-use Rattle.occ_behaviour.specs.Texts.{text_of_verdict, text_of_behaviour}
+use Rattle.occ_behaviour.specs.Texts.{mark_text, text_of_verdict, text_of_behaviour}
 use Rattle.occ_views.specs.declared.refined.Refined.{Refined as Refinement}
 use Rattle.occ_views.specs.declared.refined.Refined.TheVariants.{Yes, No}
 use Rattle.occ_nform_table.specs.declared.table.TableFault.{TableFault}
 use Rattle.occ_nform_table.specs.declared.table.TableFault.TheVariants as table
-use Rattle.occ_gen.specs.declared.shape.Shape.{Shape}
-use Rattle.occ_gen.specs.declared.shape.Shape.TheVariants.{Buffers, Adders, Muxes}
 use Rattle.occ_nform.specs.declared.figures.Counts.{Counts}
 use Rattle.occ_replay.specs.declared.result.Rejected.{Rejected}
 use Rattle.occ_replay.specs.declared.result.Rejected.TheVariants as rejected
@@ -32,56 +28,11 @@ use Rattle.occ_run_follow.specs.Following.{FollowedIsNamed}
 use Rattle.occ_run_follow.specs.Texts.{followed_text}
 use Rattle.occ_script.specs.declared.fault.ScriptFault.{ScriptFault}
 use Rattle.occ_script.specs.declared.fault.ScriptFault.TheVariants as script
+use Rattle.occ_tool_words.specs.Words.{shape_text}
 use Rattle.occ_tool_run.specs.declared.answer.Answer.{Answer}
 use Rattle.occ_tool_run.specs.declared.answer.Answer.TheVariants.{Usage, Refused, Unusable, TooLong, RefusedTable, RefusedClaim, InterfacesDiffer, Compared, Written, Counted, Member, Stressed, Allowed, Sought, RefusedScript, Joined, Unjoined, RefusedSchedule, Stepped, RefusedOrders, RefusedOrder, RefusedPath, Long, Unfinished}
 use Rattle.occ_tool_run.specs.declared.reason.Reason.{Reason}
 use Rattle.occ_tool_run.specs.declared.reason.Reason.TheVariants.{NoLaw, NoPath, NotPar, NotAccepted, NotApplicable}
-
-abbrev pub status_of_verdict : Verdict → ℕ
-status_of_verdict Same = 0
-status_of_verdict (Differ behaviour only) = 1
-
-abbrev pub status_of_member : Bool → ℕ
-status_of_member true = 0
-status_of_member false = 1
-
-abbrev pub status_of_refined : Refinement → ℕ
-status_of_refined Yes = 0
-status_of_refined (No behaviour) = 1
-
-abbrev pub status_of_found : Option Behaviour → ℕ
-status_of_found None = 0
-status_of_found (Some behaviour) = 1
-
-abbrev pub status_of_followed : Followed → ℕ
-status_of_followed (Stood shown) = 0
-status_of_followed (NoStep step) = 3
-
-abbrev pub status_of : Answer → ℕ
-status_of Usage = 2
-status_of (Refused place fault) = 3
-status_of (Unusable names place line fault) = 3
-status_of (TooLong place) = 3
-status_of (RefusedTable fault) = 3
-status_of (RefusedClaim line) = 3
-status_of InterfacesDiffer = 7
-status_of (Compared names verdict) = status_of_verdict verdict
-status_of (Written text) = 0
-status_of (Counted rows) = 0
-status_of (Member is) = status_of_member is
-status_of (Stressed shape stages counts) = 0
-status_of (Allowed names refined) = status_of_refined refined
-status_of (Sought names found) = status_of_found found
-status_of (RefusedScript fault) = 3
-status_of (Joined steps) = 0
-status_of (Unjoined names line cause) = 1
-status_of (RefusedSchedule line) = 3
-status_of (Stepped names followed) = status_of_followed followed
-status_of (RefusedOrders fault) = 3
-status_of (RefusedOrder number reason) = 3
-status_of (RefusedPath reason) = 3
-status_of Long = 3
-status_of Unfinished = 3
 
 abbrev pub place_text : Side → List ℕ
 place_text First = codes "FIRST"
@@ -104,31 +55,18 @@ limit_text Controls = codes "Limit Controls"
 limit_text InterfaceBits = codes "Limit InterfaceBits"
 limit_text ScopeBits = codes "Limit ScopeBits"
 
--- the line on which a text is refused
-abbrev pub line_of : ParseFault → ℕ
-line_of (Line line fault) = line
-line_of (Form line) = line
-line_of (Undeclared line) = line
-line_of (Redeclared line) = line
-line_of (Index line) = line
-line_of (TypeClash line) = line
-line_of (NoType line) = line
-line_of (Direction line) = line
-line_of (Limit which line) = line
-line_of Memory = 0
-
--- the words for a fault
-abbrev pub fault_words : ParseFault → List ℕ
-fault_words (Line line fault) = line_fault_text fault
-fault_words (Form line) = codes "Form"
-fault_words (Undeclared line) = codes "Undeclared"
-fault_words (Redeclared line) = codes "Redeclared"
-fault_words (Index line) = codes "Index"
-fault_words (TypeClash line) = codes "TypeClash"
-fault_words (NoType line) = codes "NoType"
-fault_words (Direction line) = codes "Direction"
-fault_words (Limit which line) = limit_text which
-fault_words Memory = []
+-- the line on which a text is refused, and the words for its fault
+abbrev pub told_of : ParseFault → ℕ × List ℕ
+told_of (Line line fault) = (line, line_fault_text fault)
+told_of (Form line) = (line, codes "Form")
+told_of (Undeclared line) = (line, codes "Undeclared")
+told_of (Redeclared line) = (line, codes "Redeclared")
+told_of (Index line) = (line, codes "Index")
+told_of (TypeClash line) = (line, codes "TypeClash")
+told_of (NoType line) = (line, codes "NoType")
+told_of (Direction line) = (line, codes "Direction")
+told_of (Limit which line) = (line, limit_text which)
+told_of Memory = (0, [])
 
 -- the place of the text and the line, in front of the words for the fault
 abbrev pub refused_at_text : Side → ℕ → List ℕ
@@ -140,14 +78,10 @@ refusal_text place line words = codes "REFUSED " ++ place_text place ++ codes " 
 
 -- ---- what the parts of a PAR share
 
-abbrev pub mark_text : Dir → List ℕ
-mark_text Input = codes " ?"
-mark_text Output = codes " !"
-
 -- the words for a fault of usage: the name, and the mark of the end
 abbrev pub words_of_usage : List (List ℕ) → UsageFault → List ℕ
 words_of_usage names (shared.SharedVariable node name) = codes "SharedVariable " ++ slice_index_or names name.0 []
-words_of_usage names (shared.SharedEnd node name dir) = codes "SharedEnd " ++ slice_index_or names name.0 [] ++ mark_text dir
+words_of_usage names (shared.SharedEnd node name dir) = codes "SharedEnd " ++ slice_index_or names name.0 [] ++ codes " " ++ mark_text dir
 words_of_usage names shared.Memory = []
 
 -- the fault names what has a text, and isn't want of memory
@@ -175,7 +109,7 @@ table_refusal_text table.Memory = []
 abbrev pub script_refusal_text : Side → ScriptFault → List ℕ
 script_refusal_text place (script.Form line) = refusal_text place line (codes "Form")
 script_refusal_text place (script.Version line) = refusal_text place line (codes "Version")
-script_refusal_text place (script.Text fault) = refusal_text place (line_of fault) (fault_words fault)
+script_refusal_text place (script.Text fault) = refusal_text place (told_of fault).0 (told_of fault).1
 script_refusal_text place script.Memory = []
 
 -- a fault that isn't out of memory
@@ -228,25 +162,24 @@ order_refusal_text number reason = codes "REFUSED ORDER " ++ decimal number ++ c
 abbrev pub path_refusal_text : Reason → List ℕ
 path_refusal_text reason = codes "REFUSED PATH " ++ reason_text reason ++ codes "\n"
 
--- ---- the answers that aren't refusals
+-- ---- the parts of other answers
 
-abbrev pub member_text : Bool → List ℕ
-member_text true = codes "YES\n"
-member_text false = codes "NO\n"
+abbrev pub status_of_verdict : Verdict → ℕ
+status_of_verdict Same = 0
+status_of_verdict (Differ behaviour only) = 1
+
+abbrev pub status_of_refined : Refinement → ℕ
+status_of_refined Yes = 0
+status_of_refined (No behaviour) = 1
 
 -- what the second program does and the first doesn't allow is told as a difference
 abbrev pub refined_text : List (List ℕ) → Refinement → List ℕ
 refined_text names Yes = codes "REFINES\n"
 refined_text names (No behaviour) = text_of_verdict names (Differ behaviour Second)
 
-abbrev pub found_text : List (List ℕ) → Option Behaviour → List ℕ
-found_text names None = codes "FREE\n"
-found_text names (Some behaviour) = codes "DEADLOCK\n" ++ text_of_behaviour names behaviour
-
-abbrev pub shape_text : Shape → List ℕ
-shape_text Buffers = codes "buffers"
-shape_text Adders = codes "adders"
-shape_text Muxes = codes "muxes"
+abbrev pub status_of_followed : Followed → ℕ
+status_of_followed (Stood shown) = 0
+status_of_followed (NoStep step) = 3
 
 -- a line with a figure
 abbrev pub figure_text : List ℕ → ℕ → List ℕ
@@ -257,37 +190,45 @@ abbrev pub counts_text : Counts → List ℕ
 counts_text counts = figure_text (codes "ROWS") counts.rows ++ figure_text (codes "OFFERS") counts.offers
     ++ figure_text (codes "HEIGHT") counts.height ++ figure_text (codes "STATES") counts.states
 
-abbrev pub stress_text : Shape → ℕ → List ℕ
-stress_text shape stages = codes "STRESS " ++ figure_text (shape_text shape) stages
-
 abbrev pub usage_text : List ℕ
 usage_text = codes "USAGE same A B, normalise A, normal T, belongs A T, transform A T, expand A PATH, replay T, stress KIND N, refine A B, deadlock A, run A T, derive A\n"
 
+-- ---- answers
+
+-- the status and the text of an answer
+abbrev pub told : Answer → ℕ × List ℕ
+told Usage = (2, usage_text)
+told (Refused place fault) = (3, refusal_text place (told_of fault).0 (told_of fault).1)
+told (Unusable names place line fault) = (3, refusal_text place line (words_of_usage names fault))
+told (TooLong place) = (3, refusal_text place 1 (codes "Limit Bytes"))
+told (RefusedTable fault) = (3, table_refusal_text fault)
+told (RefusedClaim line) = (3, refusal_text Second line (codes "Form"))
+told InterfacesDiffer = (7, codes "INTERFACES DIFFER\n")
+told (Compared names verdict) = (status_of_verdict verdict, text_of_verdict names verdict)
+told (Written text) = (0, text.items)
+told (Counted rows) = (0, figure_text (codes "NORMAL") rows)
+told (Member true) = (0, codes "YES\n")
+told (Member false) = (1, codes "NO\n")
+told (Stressed shape stages counts) = (0, codes "STRESS " ++ figure_text (shape_text shape) stages ++ counts_text counts)
+told (Allowed names refined) = (status_of_refined refined, refined_text names refined)
+told (Sought names None) = (0, codes "FREE\n")
+told (Sought names (Some behaviour)) = (1, codes "DEADLOCK\n" ++ text_of_behaviour names behaviour)
+told (RefusedScript fault) = (3, script_refusal_text First fault)
+told (Joined steps) = (0, figure_text (codes "JOINED") steps)
+told (Unjoined names line cause) = (1, rejection_text names line cause)
+told (RefusedSchedule line) = (3, refusal_text Second line (codes "Form"))
+told (Stepped names followed) = (status_of_followed followed, followed_text names followed)
+told (RefusedOrders fault) = (3, script_refusal_text Second fault)
+told (RefusedOrder number reason) = (3, order_refusal_text number reason)
+told (RefusedPath reason) = (3, path_refusal_text reason)
+told Long = (3, codes "REFUSED FIRST 1 Long\n")
+told Unfinished = (3, codes "REFUSED FIRST 1 Unfinished\n")
+
+abbrev pub status_of : Answer → ℕ
+status_of answer = (told answer).0
+
 abbrev pub text_of : Answer → List ℕ
-text_of Usage = usage_text
-text_of (Refused place fault) = refusal_text place (line_of fault) (fault_words fault)
-text_of (Unusable names place line fault) = refusal_text place line (words_of_usage names fault)
-text_of (TooLong place) = refusal_text place 1 (codes "Limit Bytes")
-text_of (RefusedTable fault) = table_refusal_text fault
-text_of (RefusedClaim line) = refusal_text Second line (codes "Form")
-text_of InterfacesDiffer = codes "INTERFACES DIFFER\n"
-text_of (Compared names verdict) = text_of_verdict names verdict
-text_of (Written text) = text.items
-text_of (Counted rows) = figure_text (codes "NORMAL") rows
-text_of (Member is) = member_text is
-text_of (Stressed shape stages counts) = stress_text shape stages ++ counts_text counts
-text_of (Allowed names refined) = refined_text names refined
-text_of (Sought names found) = found_text names found
-text_of (RefusedScript fault) = script_refusal_text First fault
-text_of (Joined steps) = figure_text (codes "JOINED") steps
-text_of (Unjoined names line cause) = rejection_text names line cause
-text_of (RefusedSchedule line) = refusal_text Second line (codes "Form")
-text_of (Stepped names followed) = followed_text names followed
-text_of (RefusedOrders fault) = script_refusal_text Second fault
-text_of (RefusedOrder number reason) = order_refusal_text number reason
-text_of (RefusedPath reason) = path_refusal_text reason
-text_of Long = codes "REFUSED FIRST 1 Long\n"
-text_of Unfinished = codes "REFUSED FIRST 1 Unfinished\n"
+text_of answer = (told answer).1
 
 abbrev pub RefinementIsNamed : List (List ℕ) → Refinement → Type 0
 RefinementIsNamed names Yes = Unit {0}

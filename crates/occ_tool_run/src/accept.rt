@@ -1,6 +1,7 @@
 //! Files as programs: accepted, or refused, and why.
 
 ghost use Rattle.std.specs.Prelude.{◌≡◌, ◌≢◌, ◌≤◌, [], IfOk, IfErr, length, slice_index_or};
+ghost use Rattle.occ_base.specs.Names.{IsDistinct};
 ghost use Rattle.occ_syntax.specs.View.{tree};
 ghost use Rattle.occ_syntax.specs.Usage.{KeepsUsage};
 ghost use Rattle.occ_usage.specs.Accepted.{IsTyped};
@@ -35,6 +36,7 @@ pub fn accept_first(alloc: Global, names: &mut Names, loaded: &Loaded) -> Result
     requires short { IsShort most_bytes loaded.now }
     requires empty { names.old ≡ [] }
     ensures accepted { IfOk result (λ a. IsAcceptedFrom loaded.now [] names.new a.program) }
+    ensures distinct { IfOk result (λ a. IsDistinct names.new) }
     ensures interface { IfOk result (λ a. HasInterface names.new a.program) }
     ensures refused { IfErr result (IsRefusedFrom loaded.now [] names.new) }
     ensures sayable { IfErr result (IsSayable names.new) }
@@ -128,7 +130,7 @@ pub fn refused(names: Names, place: Side, refusal: Refusal) -> Result<Answer, Me
     ensures usage { IfOk result (λ answer. answer ≢ Answer.Usage) }
 {
     match refusal {
-        Refusal::Text(fault) => Ok(Answer::Refused { place, fault }),
+        Refusal::Text(fault) => Ok(Answer::Refused(place, fault)),
         Refusal::Usage { line, fault } => Ok(Answer::Unusable {
             names,
             place,

@@ -1,7 +1,8 @@
 //! Answers, their statuses and their texts.
 
 ghost use Rattle.std.specs.Prelude.{◌≡◌, ◌++◌, codes, IfOk, OnOk};
-ghost use Rattle.occ_tool_run.specs.Texts.{status_of, text_of, figure_text, counts_text, found_text, member_text, refined_text, shape_text, stress_text, FoundIsNamed, RefinementIsNamed, IsPrintable};
+ghost use Rattle.occ_tool_words.specs.Words.{shape_text};
+ghost use Rattle.occ_tool_run.specs.Texts.{told, status_of, text_of, figure_text, counts_text, refined_text, FoundIsNamed, RefinementIsNamed, IsPrintable};
 
 use crate::reason::{Reason, order_refusal, path_refusal};
 use crate::refusal::{
@@ -28,10 +29,7 @@ pub enum Answer {
     /// The words don't fit.
     Usage,
     /// The text of a program is refused, the first that is. The fault is no want of memory.
-    Refused {
-        place: Side,
-        fault: ParseFault,
-    },
+    Refused(Side, ParseFault),
     /// A text reads as a program in which the parts of a PAR share what they may not, the first text that is refused.
     /// The PAR stands on the line. The names are those of the texts so far, and the fault is no want of memory.
     Unusable {
@@ -41,36 +39,21 @@ pub enum Answer {
         fault: UsageFault,
     },
     /// A text that is no program has more bytes than a text of its kind may have.
-    TooLong {
-        place: Side,
-    },
+    TooLong(Side),
     /// The first text isn't a normal one. The fault is no want of memory.
-    RefusedTable {
-        fault: TableFault,
-    },
+    RefusedTable(TableFault),
     /// The second text is no behaviour of the program's interface, by this line.
-    RefusedClaim {
-        line: u32,
-    },
+    RefusedClaim(u32),
     /// Both programs are accepted, and their interfaces differ.
     InterfacesDiffer,
     /// Both programs are accepted and have one interface. The names are those of both.
-    Compared {
-        names: Names,
-        verdict: Verdict,
-    },
+    Compared(Names, Verdict),
     /// The normal text of the program, or the script of what laws made of it.
-    Written {
-        text: Vec<u8>,
-    },
+    Written(Vec<u8>),
     /// The text is a normal one, with so many rows.
-    Counted {
-        rows: u64,
-    },
+    Counted(u64),
     /// Whether the behaviour is one of the program's.
-    Member {
-        is: bool,
-    },
+    Member(bool),
     /// The figures of the normal text of a generated program.
     Stressed {
         shape: Shape,
@@ -78,23 +61,13 @@ pub enum Answer {
         counts: Counts,
     },
     /// Whether the second program does no more than the first allows. The names are those of both.
-    Allowed {
-        names: Names,
-        refined: Refined,
-    },
+    Allowed(Names, Refined),
     /// Where the program can be stuck, if it can.
-    Sought {
-        names: Names,
-        found: Option<Behaviour>,
-    },
+    Sought(Names, Option<Behaviour>),
     /// The first text isn't a script. The fault is never out of memory.
-    RefusedScript {
-        fault: ScriptFault,
-    },
+    RefusedScript(ScriptFault),
     /// The steps of a script, so many, join its two programs.
-    Joined {
-        steps: u32,
-    },
+    Joined(u32),
     /// A script doesn't join its two programs. Where the first one breaks the usage rule, the PAR stands on the line. The cause is
     /// never out of memory.
     Unjoined {
@@ -103,27 +76,18 @@ pub enum Answer {
         cause: Rejected,
     },
     /// The second text isn't a schedule.
-    RefusedSchedule {
-        line: u32,
-    },
+    RefusedSchedule(u32),
     /// Where the steps of a schedule lead.
-    Stepped {
-        names: Names,
-        followed: Followed,
-    },
+    Stepped(Names, Followed),
     /// The second text isn't orders. The fault is never out of memory.
-    RefusedOrders {
-        fault: ScriptFault,
-    },
+    RefusedOrders(ScriptFault),
     /// The order of that number, from 1, can't be followed.
     RefusedOrder {
         order: u32,
         reason: Reason,
     },
     /// The part at a path can't be expanded.
-    RefusedPath {
-        reason: Reason,
-    },
+    RefusedPath(Reason),
     /// The normal program of the program has more than 4,096 controls.
     Long,
     /// No derivation of the normal program was found.
@@ -136,33 +100,33 @@ pub fn status(answer: &Answer) -> u8
 {
     match answer {
         Answer::Usage => 2,
-        Answer::Refused { .. } | Answer::Unusable { .. } | Answer::TooLong { .. } => 3,
-        Answer::RefusedTable { .. } | Answer::RefusedClaim { .. } => 3,
+        Answer::Refused(..) | Answer::Unusable { .. } | Answer::TooLong(_) => 3,
+        Answer::RefusedTable(_) | Answer::RefusedClaim(_) => 3,
         Answer::InterfacesDiffer => 7,
-        Answer::Compared { verdict, .. } => match verdict {
+        Answer::Compared(_, verdict) => match verdict {
             Verdict::Same => 0,
             Verdict::Differ { .. } => 1,
         },
-        Answer::Written { .. } | Answer::Counted { .. } | Answer::Stressed { .. } => 0,
-        Answer::Member { is } => { if *is { 0 } else { 1 } }
-        Answer::Allowed { refined, .. } => match refined {
+        Answer::Written(_) | Answer::Counted(_) | Answer::Stressed { .. } => 0,
+        Answer::Member(is) => { if *is { 0 } else { 1 } }
+        Answer::Allowed(_, refined) => match refined {
             Refined::Yes => 0,
             Refined::No(_) => 1,
         },
-        Answer::Sought { found, .. } => match found {
+        Answer::Sought(_, found) => match found {
             None => 0,
             Some(_) => 1,
         },
-        Answer::RefusedScript { .. } => 3,
-        Answer::Joined { .. } => 0,
+        Answer::RefusedScript(_) => 3,
+        Answer::Joined(_) => 0,
         Answer::Unjoined { .. } => 1,
-        Answer::RefusedSchedule { .. } => 3,
-        Answer::Stepped { followed, .. } => match followed {
+        Answer::RefusedSchedule(_) => 3,
+        Answer::Stepped(_, followed) => match followed {
             Followed::Stood(_) => 0,
             Followed::NoStep { .. } => 3,
         },
-        Answer::RefusedOrders { .. } | Answer::RefusedOrder { .. } => 3,
-        Answer::RefusedPath { .. } => 3,
+        Answer::RefusedOrders(_) | Answer::RefusedOrder { .. } => 3,
+        Answer::RefusedPath(_) => 3,
         Answer::Long | Answer::Unfinished => 3,
     }
 }
@@ -177,36 +141,36 @@ pub fn text(alloc: Global, answer: Answer) -> Result<Vec<u8>, Memory>
             alloc,
             b"USAGE same A B, normalise A, normal T, belongs A T, transform A T, expand A PATH, replay T, stress KIND N, refine A B, deadlock A, run A T, derive A\n",
         )?),
-        Answer::Refused { place, fault } => refusal(alloc, place, fault),
+        Answer::Refused(place, fault) => refusal(alloc, place, fault),
         Answer::Unusable {
             names,
             place,
             line,
             fault,
         } => usage_refusal(alloc, &names, place, line, fault),
-        Answer::TooLong { place } => too_long(alloc, place),
-        Answer::RefusedTable { fault } => table_refusal(alloc, fault),
-        Answer::RefusedClaim { line } => claim_refusal(alloc, line),
+        Answer::TooLong(place) => too_long(alloc, place),
+        Answer::RefusedTable(fault) => table_refusal(alloc, fault),
+        Answer::RefusedClaim(line) => claim_refusal(alloc, line),
         Answer::InterfacesDiffer => Ok(Vec::from_slice(alloc, b"INTERFACES DIFFER\n")?),
-        Answer::Compared { names, verdict } => verdict_text(alloc, &names, &verdict),
-        Answer::Written { text } => Ok(text),
-        Answer::Counted { rows } => figure(alloc, b"NORMAL", rows),
-        Answer::Member { is } => Ok(Vec::from_slice(alloc, member_words(is))?),
+        Answer::Compared(names, verdict) => verdict_text(alloc, &names, &verdict),
+        Answer::Written(text) => Ok(text),
+        Answer::Counted(rows) => figure(alloc, b"NORMAL", rows),
+        Answer::Member(is) => Ok(Vec::from_slice(alloc, member_words(is))?),
         Answer::Stressed {
             shape,
             stages,
             counts,
         } => stress_figures(alloc, shape, stages, counts),
-        Answer::Allowed { names, refined } => refined_lines(alloc, &names, refined),
-        Answer::Sought { names, found } => found_lines(alloc, &names, found),
-        Answer::RefusedScript { fault } => script_refusal(alloc, Side::First, fault),
-        Answer::Joined { steps } => figure(alloc, b"JOINED", u64::from(steps)),
+        Answer::Allowed(names, refined) => refined_lines(alloc, &names, refined),
+        Answer::Sought(names, found) => found_lines(alloc, &names, found),
+        Answer::RefusedScript(fault) => script_refusal(alloc, Side::First, fault),
+        Answer::Joined(steps) => figure(alloc, b"JOINED", u64::from(steps)),
         Answer::Unjoined { names, line, cause } => rejection(alloc, &names, line, cause),
-        Answer::RefusedSchedule { line } => claim_refusal(alloc, line),
-        Answer::Stepped { names, followed } => followed_text(alloc, &names, followed),
-        Answer::RefusedOrders { fault } => script_refusal(alloc, Side::Second, fault),
+        Answer::RefusedSchedule(line) => claim_refusal(alloc, line),
+        Answer::Stepped(names, followed) => followed_text(alloc, &names, followed),
+        Answer::RefusedOrders(fault) => script_refusal(alloc, Side::Second, fault),
         Answer::RefusedOrder { order, reason } => order_refusal(alloc, order, reason),
-        Answer::RefusedPath { reason } => path_refusal(alloc, reason),
+        Answer::RefusedPath(reason) => path_refusal(alloc, reason),
         Answer::Long => Ok(Vec::from_slice(alloc, b"REFUSED FIRST 1 Long\n")?),
         Answer::Unfinished => Ok(Vec::from_slice(alloc, b"REFUSED FIRST 1 Unfinished\n")?),
     }
@@ -232,7 +196,7 @@ fn refined_lines(alloc: Global, names: &Names, refined: Refined) -> Result<Vec<u
 /// The lines about a program that may be stuck.
 fn found_lines(alloc: Global, names: &Names, found: Option<Behaviour>) -> Result<Vec<u8>, Memory>
     requires { FoundIsNamed names.now found }
-    ensures { IfOk result (λ text. text.items ≡ found_text names.now found) }
+    ensures { IfOk result (λ text. text.items ≡ (told (Answer.Sought names.now found)).1) }
 {
     match found {
         None => Ok(Vec::from_slice(alloc, b"FREE\n")?),
@@ -267,7 +231,7 @@ fn figure(alloc: Global, word: &[u8], figure: u64) -> Result<Vec<u8>, Memory>
 }
 
 fn member_words(is: bool) -> &'static [u8]
-    ensures { result.now ≡ member_text is }
+    ensures { result.now ≡ (told (Answer.Member is)).1 }
 {
     if is { b"YES\n" } else { b"NO\n" }
 }
@@ -289,7 +253,7 @@ fn stress_figures(
     stages: u64,
     counts: Counts,
 ) -> Result<Vec<u8>, Memory>
-    ensures { IfOk result (λ text. text.items ≡ stress_text shape stages ++ counts_text counts) }
+    ensures { IfOk result (λ text. text.items ≡ codes "STRESS " ++ figure_text (shape_text shape) stages ++ counts_text counts) }
 {
     let mut text = Vec::from_slice(alloc, b"STRESS ")?;
     push_figure(&mut text, shape_word(shape), stages)?;

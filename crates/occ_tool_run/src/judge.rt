@@ -3,6 +3,7 @@
 ghost use Rattle.std.specs.Prelude.{◌≡◌, ◌≢◌, ◌↔◌, ℕ, List, [], Option, IfOk, IsTrue};
 ghost use Rattle.std.specs.declared.cmp.Ordering.TheVariants.{Less, Equal, Greater};
 ghost use Rattle.occ_behaviour.specs.declared.behaviour.Side.TheVariants.{First, Second};
+ghost use Rattle.occ_tool_run.specs.Stored.{seen};
 ghost use Rattle.occ_tool_run.specs.Files.{IsLoaded, IsShort, most_bytes};
 ghost use Rattle.occ_tool_run.specs.Texts.{IsPrintable};
 ghost use Rattle.occ_tool_run.specs.Answers.{Compares, Refines, Replies, Settles, Takes};
@@ -154,7 +155,7 @@ fn reply(
     right: &Accepted,
 ) -> Result<Answer, Memory>
     requires { IsOneKnown names left.now.program right.now.program }
-    ensures settles { IfOk result (Replies question left.now.program names right.now.program) }
+    ensures settles { IfOk result (Replies question (seen left.now.program) names (seen right.now.program)) }
     ensures printable { IfOk result IsPrintable }
     ensures usage { IfOk result (λ answer. answer ≢ Answer.Usage) }
 {
@@ -167,7 +168,7 @@ fn reply(
 /// Whether the second of two accepted programs refines the first.
 fn allowed(alloc: Global, names: Names, left: &Accepted, right: &Accepted) -> Result<Answer, Memory>
     requires { IsOneKnown names left.now.program right.now.program }
-    ensures settles { IfOk result (Refines left.now.program names right.now.program) }
+    ensures settles { IfOk result (Refines (seen left.now.program) names (seen right.now.program)) }
     ensures printable { IfOk result IsPrintable }
     ensures usage { IfOk result (λ answer. answer ≢ Answer.Usage) }
 {
@@ -177,7 +178,7 @@ fn allowed(alloc: Global, names: Names, left: &Accepted, right: &Accepted) -> Re
         return Ok(Answer::InterfacesDiffer);
     }
     let refined = refined(alloc, left, right)?;
-    Ok(Answer::Allowed { names, refined })
+    Ok(Answer::Allowed(names, refined))
 }
 
 /// Whether two accepted programs mean the same.
@@ -188,7 +189,7 @@ fn compared(
     right: &Accepted,
 ) -> Result<Answer, Memory>
     requires { IsOneKnown names left.now.program right.now.program }
-    ensures settles { IfOk result (Compares left.now.program names right.now.program) }
+    ensures settles { IfOk result (Compares (seen left.now.program) names (seen right.now.program)) }
     ensures printable { IfOk result IsPrintable }
     ensures usage { IfOk result (λ answer. answer ≢ Answer.Usage) }
 {
@@ -198,7 +199,7 @@ fn compared(
         return Ok(Answer::InterfacesDiffer);
     }
     let verdict = decide(alloc, left, right)?;
-    Ok(Answer::Compared { names, verdict })
+    Ok(Answer::Compared(names, verdict))
 }
 
 /// Whether two parameter lists are equal.

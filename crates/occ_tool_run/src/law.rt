@@ -1,4 +1,7 @@
 ghost use Rattle.std.specs.Prelude.{ℕ, ◌≡◌, ◌↔◌, List, [], ◌∷◌, codes};
+ghost use Rattle.occ_base.specs.Names.{IsDistinct};
+ghost use Rattle.occ_syntax.specs.Usage.{KeepsUsage};
+ghost use Rattle.occ_tool_run.specs.Accepts.{IsAcceptedText, Program};
 ghost use Rattle.occ_tool_run.specs.Files.{Files};
 ghost use Rattle.occ_tool_run.specs.Answers.{Answers, IsDetermined};
 ghost use Rattle.occ_tool_words.specs.Words.{job_of};
@@ -7,8 +10,11 @@ use occ_engine_once::{
     expansions_have_no_fault, expansions_have_one_fault, expansions_have_one_outcome,
     followed_orders_have_one_outcome, orders_follow_or_stop, orders_stop_once,
 };
-use occ_nform::normal_texts_tell_programs_apart;
-use occ_nform_params::parameters_have_names;
+use occ_nform::programs_have_one_table;
+use occ_nform_written::{
+    behaviours_are_read_as_written, faults_are_those_of_what_is_written,
+    faults_stand_where_nothing_goes_on, normal_texts_are_read_as_written,
+};
 use occ_parse_reading::one_reading;
 use occ_replay_rules::scripts_have_one_answer;
 use occ_run_follow::one_following;
@@ -22,8 +28,11 @@ pub fn one_answer()
         → IsDetermined (job_of words) → Answers files words s a → Answers files words t b → (s ≡ t) × (a ≡ b) }
 {
     one_reading();
-    parameters_have_names();
-    normal_texts_tell_programs_apart();
+    normal_texts_are_read_as_written();
+    faults_are_those_of_what_is_written();
+    behaviours_are_read_as_written();
+    faults_stand_where_nothing_goes_on();
+    programs_have_one_table();
     one_verdict();
     one_refinement();
     one_deadlock();
@@ -38,6 +47,13 @@ pub fn one_answer()
     expansions_have_no_fault();
     expansions_have_one_fault();
 }
+
+/// The program of an accepted text keeps the rule of usage: at each PAR no part names a variable that another writes, and no end of a channel
+/// is used in two parts.
+pub fn accepted_programs_keep_usage()
+    ensures { (text : List ℕ) (old new : List (List ℕ)) (program : Program) → IsDistinct old → IsAcceptedText text old new program
+        → KeepsUsage program.body }
+{}
 
 /// Two files are answered with SAME exactly where each of them is answered to refine the other, whichever is given first.
 pub fn same_where_both_refine()

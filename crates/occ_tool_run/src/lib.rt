@@ -20,5 +20,5 @@ mod to_normal;
 mod top;
 pub mod transforming;
 
-pub use law::{one_answer, same_where_both_refine};
+pub use law::{accepted_programs_keep_usage, one_answer, same_where_both_refine};
 pub use top::run;

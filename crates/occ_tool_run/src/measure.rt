@@ -1,6 +1,7 @@
 ghost use Rattle.std.specs.Prelude.{◌≢◌, ◌≤◌, Some, IfOk};
 ghost use Rattle.occ_tool_run.specs.Files.{IsLoaded, IsShort, most_bytes};
 ghost use Rattle.occ_tool_run.specs.Judged.{HasInterface};
+ghost use Rattle.occ_tool_run.specs.Stored.{seen};
 ghost use Rattle.occ_tool_run.specs.Texts.{IsPrintable};
 ghost use Rattle.occ_tool_run.specs.Answers.{IsStressed, Stresses};
 
@@ -9,8 +10,10 @@ use crate::answer::Answer;
 use crate::load::{Loaded, MOST_BYTES};
 use occ_base::{Memory, Names};
 use occ_gen::{GenFault, Shape, generate};
-use occ_gen_accepted::generated_programs_are_never_refused;
+use occ_gen_accepted::{generated_programs_are_accepted, generated_programs_are_never_refused};
 use occ_nform_program::measured;
+use occ_nform_text::a_normal_text_is_its_tables;
+use occ_parse_reading::one_reading;
 use occ_usage::Accepted;
 use std::alloc::Global;
 
@@ -30,6 +33,8 @@ pub fn stress(alloc: Global, shape: Shape, stages: u64) -> Result<Answer, Memory
     let loaded = as_loaded(text);
     let mut names = Names::new(alloc);
     generated_programs_are_never_refused();
+    generated_programs_are_accepted();
+    one_reading();
     match accept_first(alloc, &mut names, &loaded) {
         Ok(accepted) => figures(alloc, &names, &accepted, shape, stages),
         Err(Refusal::Memory) => Err(Memory),
@@ -59,10 +64,11 @@ fn figures(
     stages: u64,
 ) -> Result<Answer, Memory>
     requires { HasInterface names.now accepted.now.program }
-    ensures stressed { IfOk result (IsStressed shape stages names.now accepted.now.program) }
+    ensures stressed { IfOk result (IsStressed shape stages names.now (seen accepted.now.program)) }
     ensures printable { IfOk result IsPrintable }
     ensures usage { IfOk result (λ answer. answer ≢ Answer.Usage) }
 {
+    a_normal_text_is_its_tables();
     let counts = measured(alloc, names, accepted)?;
     Ok(Answer::Stressed {
         shape,

@@ -1,9 +1,11 @@
 ghost use Rattle.std.specs.Prelude.{◌≡◌, ◌≢◌, ◌≤◌, ◌↔◌, ℕ, List, Option, Some, IfOk, IsTrue, length};
+ghost use Rattle.occ_base.specs.Names.{IsDistinct};
 ghost use Rattle.occ_syntax.specs.View.{tree};
 ghost use Rattle.occ_behaviour.specs.Members.{IsMember};
 ghost use Rattle.occ_behaviour_read.specs.Claims.{IsOf};
 ghost use Rattle.occ_tool_run.specs.Files.{IsLoaded, IsShort, most_bytes};
 ghost use Rattle.occ_tool_run.specs.Judged.{HasInterface, IsClaimRefusal};
+ghost use Rattle.occ_tool_run.specs.Stored.{seen};
 ghost use Rattle.occ_tool_run.specs.Texts.{IsPrintable};
 ghost use Rattle.occ_tool_run.specs.Answers.{IsJudged, Judges};
 
@@ -14,6 +16,7 @@ use occ_base::{Memory, Names};
 use occ_behaviour::{Behaviour, Last, Side};
 use occ_behaviour_read::{ClaimFault, read};
 use occ_member::{ends, fails};
+use occ_nform_written::{behaviours_are_read_as_written, faults_stand_where_nothing_goes_on};
 use occ_usage::Accepted;
 use std::alloc::Global;
 
@@ -40,16 +43,15 @@ fn judge_text(
     text: &Loaded,
 ) -> Result<Answer, Memory>
     requires short { IsShort most_bytes text.now }
+    requires distinct { IsDistinct names.now }
     requires interface { HasInterface names.now accepted.now.program }
-    ensures judged { IfOk result (λ answer. (bytes : List ℕ) → IsLoaded most_bytes (Some bytes) text.now → IsJudged bytes names.now accepted.now.program answer) }
+    ensures judged { IfOk result (λ answer. (bytes : List ℕ) → IsLoaded most_bytes (Some bytes) text.now → IsJudged bytes names.now (seen accepted.now.program) answer) }
     ensures printable { IfOk result IsPrintable }
     ensures usage { IfOk result (λ answer. answer ≢ Answer.Usage) }
 {
     match text {
         Loaded::Bytes(bytes) => judge_bytes(alloc, names, accepted, bytes.as_slice()),
-        Loaded::TooLong => Ok(Answer::TooLong {
-            place: Side::Second,
-        }),
+        Loaded::TooLong => Ok(Answer::TooLong(Side::Second)),
     }
 }
 
@@ -61,16 +63,17 @@ fn judge_bytes(
     bytes: &[u8],
 ) -> Result<Answer, Memory>
     requires short { length bytes.now ≤ most_bytes }
+    requires distinct { IsDistinct names.now }
     requires interface { HasInterface names.now accepted.now.program }
-    ensures judged { IfOk result (IsJudged bytes.now names.now accepted.now.program) }
+    ensures judged { IfOk result (IsJudged bytes.now names.now (seen accepted.now.program)) }
     ensures printable { IfOk result IsPrintable }
     ensures usage { IfOk result (λ answer. answer ≢ Answer.Usage) }
 {
+    behaviours_are_read_as_written();
+    faults_stand_where_nothing_goes_on();
     let program = accepted.program();
     match read(alloc, names, program.params.items(), bytes) {
-        Ok(behaviour) => Ok(Answer::Member {
-            is: is_member(alloc, accepted, &behaviour)?,
-        }),
+        Ok(behaviour) => Ok(Answer::Member(is_member(alloc, accepted, &behaviour)?)),
         Err(fault) => refuse_claim(fault),
     }
 }
@@ -82,7 +85,7 @@ fn refuse_claim(fault: ClaimFault) -> Result<Answer, Memory>
     ensures usage { IfOk result (λ answer. answer ≢ Answer.Usage) }
 {
     match fault {
-        ClaimFault::Form { line } => Ok(Answer::RefusedClaim { line }),
+        ClaimFault::Form { line } => Ok(Answer::RefusedClaim(line)),
         ClaimFault::Memory => Err(Memory),
     }
 }

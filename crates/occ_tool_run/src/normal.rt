@@ -1,6 +1,7 @@
 ghost use Rattle.std.specs.Prelude.{◌≡◌, ◌≢◌, ◌≤◌, ℕ, List, Option, IfOk, length};
 ghost use Rattle.occ_tool_run.specs.Files.{IsLoaded, IsShort, most_bytes, most_table_bytes};
 ghost use Rattle.occ_tool_run.specs.Judged.{HasInterface};
+ghost use Rattle.occ_tool_run.specs.Stored.{seen};
 ghost use Rattle.occ_tool_run.specs.Texts.{IsPrintable};
 ghost use Rattle.occ_tool_run.specs.Answers.{Checks, IsChecked, IsNormalised, Normalises};
 
@@ -12,6 +13,8 @@ use occ_behaviour::Side;
 use occ_nform_program::normal_text;
 use occ_nform_read::read;
 use occ_nform_table::TableFault;
+use occ_nform_text::a_normal_text_is_its_tables;
+use occ_nform_written::{faults_are_those_of_what_is_written, normal_texts_are_read_as_written};
 use occ_usage::Accepted;
 use std::alloc::Global;
 
@@ -32,12 +35,13 @@ pub fn normalise(alloc: Global, program: &Loaded) -> Result<Answer, Memory>
 /// The normal text of an accepted program.
 fn write(alloc: Global, names: &Names, accepted: &Accepted) -> Result<Answer, Memory>
     requires { HasInterface names.now accepted.now.program }
-    ensures normalised { IfOk result (IsNormalised names.now accepted.now.program) }
+    ensures normalised { IfOk result (IsNormalised names.now (seen accepted.now.program)) }
     ensures printable { IfOk result IsPrintable }
     ensures usage { IfOk result (λ answer. answer ≢ Answer.Usage) }
 {
+    a_normal_text_is_its_tables();
     let text = normal_text(alloc, names, accepted)?;
-    Ok(Answer::Written { text })
+    Ok(Answer::Written(text))
 }
 
 /// The answer to a file that is to be a normal text.
@@ -49,7 +53,7 @@ pub fn check(alloc: Global, text: &Loaded) -> Result<Answer, Memory>
 {
     match text {
         Loaded::Bytes(bytes) => check_bytes(alloc, bytes.as_slice()),
-        Loaded::TooLong => Ok(Answer::TooLong { place: Side::First }),
+        Loaded::TooLong => Ok(Answer::TooLong(Side::First)),
     }
 }
 
@@ -60,11 +64,11 @@ fn check_bytes(alloc: Global, bytes: &[u8]) -> Result<Answer, Memory>
     ensures printable { IfOk result IsPrintable }
     ensures usage { IfOk result (λ answer. answer ≢ Answer.Usage) }
 {
+    normal_texts_are_read_as_written();
+    faults_are_those_of_what_is_written();
     let mut names = Names::new(alloc);
     match read(alloc, &mut names, bytes) {
-        Ok(table) => Ok(Answer::Counted {
-            rows: table.rows.items().len() as u64,
-        }),
+        Ok(table) => Ok(Answer::Counted(table.rows.items().len() as u64)),
         Err(fault) => refuse_table(fault),
     }
 }
@@ -79,5 +83,5 @@ fn refuse_table(fault: TableFault) -> Result<Answer, Memory>
     if fault == TableFault::Memory {
         return Err(Memory);
     }
-    Ok(Answer::RefusedTable { fault })
+    Ok(Answer::RefusedTable(fault))
 }

@@ -1,7 +1,8 @@
 //! The lines that refuse texts.
 
 ghost use Rattle.std.specs.Prelude.{◌≡◌, ◌≢◌, ◌++◌, ◌∷◌, decimal, codes, IfOk};
-ghost use Rattle.occ_tool_run.specs.Texts.{place_text, line_of, fault_words, refusal_text, refused_at_text, words_of_usage, mark_text, line_fault_text, limit_text, row_refusal_text, script_refusal_text, table_refusal_text, FaultIsNamed, ScriptFaultIsTold};
+ghost use Rattle.occ_behaviour.specs.Texts.{mark_text};
+ghost use Rattle.occ_tool_run.specs.Texts.{place_text, told_of, refusal_text, refused_at_text, words_of_usage, line_fault_text, limit_text, row_refusal_text, script_refusal_text, table_refusal_text, FaultIsNamed, ScriptFaultIsTold};
 
 use itoa::Buffer;
 use occ_base::{Dir, Memory, Names};
@@ -16,7 +17,7 @@ use std::alloc::Global;
 /// The line that refuses a program.
 pub fn refusal(alloc: Global, place: Side, fault: ParseFault) -> Result<Vec<u8>, Memory>
     requires { fault ≢ ParseFault.Memory }
-    ensures { IfOk result (λ text. text.items ≡ refusal_text place (line_of fault) (fault_words fault)) }
+    ensures { IfOk result (λ text. text.items ≡ refusal_text place (told_of fault).0 (told_of fault).1) }
 {
     refusal_with(alloc, place, line(fault), words(fault))
 }
@@ -131,6 +132,7 @@ pub fn usage_words(alloc: Global, names: &Names, fault: UsageFault) -> Result<Ve
         UsageFault::SharedEnd { name, dir, .. } => {
             let mut text = Vec::from_slice(alloc, b"SharedEnd ")?;
             text.extend_from_slice(names.text(name))?;
+            text.extend_from_slice(b" ")?;
             text.extend_from_slice(mark(dir))?;
             Ok(text)
         }
@@ -138,13 +140,13 @@ pub fn usage_words(alloc: Global, names: &Names, fault: UsageFault) -> Result<Ve
     }
 }
 
-/// The mark of a channel's end, behind a space.
+/// The mark of a channel's end.
 fn mark(dir: Dir) -> &'static [u8]
     ensures { result.now ≡ mark_text dir }
 {
     match dir {
-        Dir::Input => b" ?",
-        Dir::Output => b" !",
+        Dir::Input => b"?",
+        Dir::Output => b"!",
     }
 }
 
@@ -160,7 +162,7 @@ fn place_words(place: Side) -> &'static [u8]
 /// The line on which a text is refused.
 fn line(fault: ParseFault) -> u32
     requires { fault ≢ ParseFault.Memory }
-    ensures { result ≡ line_of fault }
+    ensures { result ≡ (told_of fault).0 }
 {
     match fault {
         ParseFault::Line { line, .. } => line,
@@ -179,7 +181,7 @@ fn line(fault: ParseFault) -> u32
 /// The words for a fault.
 fn words(fault: ParseFault) -> &'static [u8]
     requires { fault ≢ ParseFault.Memory }
-    ensures { result.now ≡ fault_words fault }
+    ensures { result.now ≡ (told_of fault).1 }
 {
     match fault {
         ParseFault::Line { fault, .. } => line_fault_words(fault),

@@ -26,7 +26,7 @@ pub fn replay(alloc: Global, text: &Loaded) -> Result<Answer, Memory>
 {
     match text {
         Loaded::Bytes(bytes) => replay_bytes(alloc, bytes.as_slice()),
-        Loaded::TooLong => Ok(Answer::TooLong { place: Side::First }),
+        Loaded::TooLong => Ok(Answer::TooLong(Side::First)),
     }
 }
 
@@ -54,7 +54,7 @@ fn refuse_script(fault: ScriptFault) -> Result<Answer, Memory>
     if fault == ScriptFault::Memory {
         return Err(Memory);
     }
-    Ok(Answer::RefusedScript { fault })
+    Ok(Answer::RefusedScript(fault))
 }
 
 /// The answer to a script that was read.
@@ -68,9 +68,7 @@ fn replay_script(alloc: Global, names: Names, script: &Script) -> Result<Answer,
 {
     derivations_join_the_same();
     match occ_replay::replay(alloc, script) {
-        Ok(joined) => Ok(Answer::Joined {
-            steps: joined.steps,
-        }),
+        Ok(joined) => Ok(Answer::Joined(joined.steps)),
         Err(cause) => reject(names, script.from.lines.items(), cause),
     }
 }

@@ -49,9 +49,7 @@ fn run_text(
 {
     match text {
         Loaded::Bytes(bytes) => run_bytes(alloc, names, accepted, bytes.as_slice()),
-        Loaded::TooLong => Ok(Answer::TooLong {
-            place: Side::Second,
-        }),
+        Loaded::TooLong => Ok(Answer::TooLong(Side::Second)),
     }
 }
 
@@ -73,7 +71,7 @@ fn run_bytes(
     match read(alloc, program.params.items(), bytes) {
         Ok(schedule) => {
             let followed = follow(alloc, accepted, schedule)?;
-            Ok(Answer::Stepped { names, followed })
+            Ok(Answer::Stepped(names, followed))
         }
         Err(fault) => refuse_schedule(fault),
     }
@@ -86,7 +84,7 @@ fn refuse_schedule(fault: ScheduleFault) -> Result<Answer, Memory>
     ensures usage { IfOk result (λ answer. answer ≢ Answer.Usage) }
 {
     match fault {
-        ScheduleFault::Form { line } => Ok(Answer::RefusedSchedule { line }),
+        ScheduleFault::Form { line } => Ok(Answer::RefusedSchedule(line)),
         ScheduleFault::Memory => Err(Memory),
     }
 }

@@ -1,5 +1,6 @@
 ghost use Rattle.std.specs.Prelude.{◌≢◌, ℕ, List, Option, IfOk};
 ghost use Rattle.occ_tool_run.specs.Files.{IsLoaded, IsShort, most_bytes};
+ghost use Rattle.occ_tool_run.specs.Stored.{seen};
 ghost use Rattle.occ_tool_run.specs.Texts.{IsPrintable};
 ghost use Rattle.occ_tool_run.specs.Answers.{IsSought, Seeks};
 ghost use Rattle.occ_parse.specs.Known.{NamesAreKnown};
@@ -30,10 +31,10 @@ pub fn seek(alloc: Global, program: &Loaded) -> Result<Answer, Memory>
 /// Where an accepted program can be stuck.
 fn sought(alloc: Global, names: Names, accepted: &Accepted) -> Result<Answer, Memory>
     requires { NamesAreKnown names accepted.now.program }
-    ensures sought { IfOk result (IsSought names accepted.now.program) }
+    ensures sought { IfOk result (IsSought names (seen accepted.now.program)) }
     ensures printable { IfOk result IsPrintable }
     ensures usage { IfOk result (λ answer. answer ≢ Answer.Usage) }
 {
     let found = deadlocked(alloc, accepted)?;
-    Ok(Answer::Sought { names, found })
+    Ok(Answer::Sought(names, found))
 }

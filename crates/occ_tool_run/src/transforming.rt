@@ -60,9 +60,7 @@ fn transform_text(
 {
     match text {
         Loaded::Bytes(bytes) => transform_bytes(alloc, names, accepted, bytes.as_slice()),
-        Loaded::TooLong => Ok(Answer::TooLong {
-            place: Side::Second,
-        }),
+        Loaded::TooLong => Ok(Answer::TooLong(Side::Second)),
     }
 }
 
@@ -103,7 +101,7 @@ fn refuse_orders(fault: ScriptFault) -> Result<Answer, Memory>
     if fault == ScriptFault::Memory {
         return Err(Memory);
     }
-    Ok(Answer::RefusedOrders { fault })
+    Ok(Answer::RefusedOrders(fault))
 }
 
 /// The answer that refuses an order, or out of memory where that is why.
@@ -175,7 +173,7 @@ fn refuse_path(fault: EngineFault) -> Result<Answer, Memory>
         EngineFault::NotApplicable { .. } => unreachable!(),
         EngineFault::Memory => return Err(Memory),
     };
-    Ok(Answer::RefusedPath { reason })
+    Ok(Answer::RefusedPath(reason))
 }
 
 /// The script of what an engine made of an accepted program.
@@ -194,5 +192,5 @@ pub fn script(
     moves_keep_the_meaning();
     let from = accepted.program();
     let text = write(alloc, names, from, outcome.steps.items(), &outcome.to)?;
-    Ok(Answer::Written { text })
+    Ok(Answer::Written(text))
 }

@@ -12,7 +12,7 @@ use Rattle.clap.specs.Simple.{App, Shape, built, names_of, rows_at, subcommand_o
 use Rattle.clap.proofs.OnLiterals.{clap_on_literals}
 use Rattle.occ_base.specs.declared.memory.Memory.{Memory}
 use Rattle.occ_tool_words.specs.declared.words.Command.{Command}
-use Rattle.occ_tool_words.specs.Words.{Job, same, normalise, normal, belongs, refine, deadlock, replay, run, is_plain, job, job_of, stress_of, with_one, with_two}
+use Rattle.occ_tool_words.specs.Words.{Job, same, normalise, normal, belongs, refine, deadlock, replay, run, is_plain, job, job_of, with_one, with_two}
 use Rattle.occ_tool_words.specs.CommandLine.{line, job_found, job_named}
 use Rattle.std.proofs.Common.{String, Global, string_bytes, Result, Ok, Err, IfOk}
 use Rattle.std.specs.Prelude.{Box}

@@ -1,5 +1,7 @@
 -- What the words of a command line ask for.
-use Rattle.std.specs.Prelude.{ℕ, ◌+◌, ◌-◌, ◌*◌, ◌==◌, nat_le, Bool, false, not, ◌&&◌, List, [], ◌∷◌, Option, Some, None, option_map, option_and_then, codes, if◌then◌else◌}
+use Rattle.std.specs.Prelude.{ℕ, ◌==◌, Bool, false, not, ◌&&◌, List, [], ◌∷◌, find, Option, Some, None, option_map, option_and_then, codes, decimal, if◌then◌else◌}
+use Rattle.std.specs.List.{range_with_len}
+use Rattle.std.specs.Option.{option_map_or}
 use Rattle.std.specs.Str.{bytes_eq}
 use Rattle.occ_gen.specs.declared.shape.Shape.{Shape}
 use Rattle.occ_gen.specs.declared.shape.Shape.TheVariants.{Buffers, Adders, Muxes}
@@ -42,29 +44,18 @@ abbrev pub is_plain : List ℕ → Bool
 is_plain [] = false
 is_plain (first ∷ rest) = not (first == 45)
 
+abbrev pub shape_text : Shape → List ℕ
+shape_text Buffers = codes "buffers"
+shape_text Adders = codes "adders"
+shape_text Muxes = codes "muxes"
+
 -- the kind of chain that a word names
 abbrev pub shape_of : List ℕ → Option Shape
-shape_of word =
-    if bytes_eq word (codes "buffers") then Some Buffers
-    else (if bytes_eq word (codes "adders") then Some Adders
-    else (if bytes_eq word (codes "muxes") then Some Muxes else None))
+shape_of word = find (λ shape. bytes_eq word (shape_text shape)) (Buffers ∷ Adders ∷ Muxes ∷ [])
 
--- what a decimal digit stands for
-abbrev pub digit_of : ℕ → Option ℕ
-digit_of code = if nat_le 48 code && nat_le code 57 then Some (code - 48) else None
-
-abbrev pub in_range : ℕ → Option ℕ
-in_range n = if nat_le 1 n && nat_le n 48 then Some n else None
-
-abbrev pub two_digits : ℕ → ℕ → Option ℕ
-two_digits tens ones = option_and_then (λ t. option_and_then (λ o. in_range (10 * t + o)) (digit_of ones)) (digit_of tens)
-
--- the number of stages that a word says: a decimal numeral from 1 to 48, without a sign or a leading zero
-abbrev pub stages_of : List ℕ → Option ℕ
-stages_of [] = None
-stages_of (ones ∷ []) = option_and_then in_range (digit_of ones)
-stages_of (tens ∷ ones ∷ []) = if tens == 48 then None else two_digits tens ones
-stages_of (first ∷ second ∷ third ∷ rest) = None
+-- the number of stages that a word says: the one from 1 to 48 whose numeral it is
+unfoldable pub stages_of : List ℕ → Option ℕ
+stages_of word = find (λ n. bytes_eq (decimal n) word) (range_with_len 1 48)
 
 abbrev pub stress_of : List ℕ → List ℕ → Option Job
 stress_of kind stages = option_and_then (λ shape. option_map (stress shape) (stages_of stages)) (shape_of kind)
@@ -100,12 +91,9 @@ with_two command first second =
 -- The words fit where the second, after the program's own name, is a command, exactly that command's words follow, and
 -- no word after the first is empty or begins with a hyphen.
 abbrev pub job_of : List (List ℕ) → Option Job
-job_of [] = None
-job_of (name ∷ []) = None
-job_of (name ∷ command ∷ []) = None
 job_of (name ∷ command ∷ first ∷ []) = if is_plain first then with_one command first else None
 job_of (name ∷ command ∷ first ∷ second ∷ []) = if is_plain first && is_plain second then with_two command first second else None
-job_of (name ∷ command ∷ first ∷ second ∷ third ∷ rest) = None
+job_of other = None
 
 -- the words of a command that name files, in order
 abbrev pub files_of : Job → List (List ℕ)
@@ -122,9 +110,5 @@ files_of (transform program text) = program ∷ text ∷ []
 files_of (expand program path) = program ∷ []
 files_of (derive program) = program ∷ []
 
-abbrev pub file_words_of : Option Job → List (List ℕ)
-file_words_of None = []
-file_words_of (Some job) = files_of job
-
 abbrev pub file_words : List (List ℕ) → List (List ℕ)
-file_words words = file_words_of (job_of words)
+file_words words = option_map_or files_of (job_of words) []

@@ -1,6 +1,8 @@
-ghost use Rattle.std.specs.Prelude.{◌≡◌, ◌≤◌, [], ◌∷◌, IfSome};
-ghost use Rattle.occ_tool_words.specs.Words.{digit_of, in_range, shape_of, stages_of, two_digits};
+ghost use Rattle.std.specs.Prelude.{◌≡◌, decimal};
+ghost use Rattle.std.specs.Str.{bytes_eq};
+ghost use Rattle.occ_tool_words.specs.Words.{shape_of, stages_of};
 
+use itoa::Buffer;
 use occ_gen::Shape;
 
 /// The greatest number of stages.
@@ -25,38 +27,18 @@ pub(crate) fn shape_in(word: &str) -> Option<Shape>
 pub(crate) fn stages_in(word: &str) -> Option<u64>
     ensures { result ≡ stages_of word.now }
 {
-    match word.as_bytes() {
-        [ones] => checked(digit(*ones)?),
-        [tens, ones] => with_tens(*tens, *ones),
-        _ => None,
+    for stages in 1..=MOST {
+        if is_numeral(stages, word) {
+            return Some(stages);
+        }
     }
+    None
 }
 
-/// The number of two digits, the first of which isn't zero.
-fn with_tens(tens: u8, ones: u8) -> Option<u64>
-    ensures { result ≡ stages_of (tens ∷ ones ∷ []) }
+/// Whether a word is the decimal numeral of a number.
+fn is_numeral(number: u64, word: &str) -> bool
+    ensures { result ≡ bytes_eq (decimal number) word.now }
 {
-    if tens == b'0' {
-        return None;
-    }
-    checked(10 * digit(tens)? + digit(ones)?)
-}
-
-/// A number of stages, where it is in range.
-fn checked(n: u64) -> Option<u64>
-    ensures { result ≡ in_range n }
-{
-    if n < 1 || n > MOST { None } else { Some(n) }
-}
-
-/// What a decimal digit stands for.
-fn digit(code: u8) -> Option<u64>
-    ensures value { result ≡ digit_of code }
-    ensures most { IfSome result (λ n. n ≤ 9) }
-{
-    if code.is_ascii_digit() {
-        Some(u64::from(code - b'0'))
-    } else {
-        None
-    }
+    let mut buffer = Buffer::new();
+    buffer.format(number) == word
 }

@@ -1,20 +1,23 @@
 -- What is told of two files.
 use Rattle.std.proofs.Common.{◌≡◌, ◌≤◌, ◌∙◌, ℕ, true, false, List, [], length, Option, Some, Result, Ok, Err, IfOk, Vec, Global, refl, sym, ap, subst, arith}
 use Rattle.std.specs.Prelude.{◌≢◌}
+use Rattle.occ_base.specs.Names.{IsDistinct}
 use Rattle.occ_base.specs.declared.memory.Memory.{Memory}
 use Rattle.occ_base.specs.declared.names.Name.{Name}
 use Rattle.occ_behaviour.specs.declared.behaviour.Behaviour.{Behaviour}
 use Rattle.occ_behaviour.specs.declared.behaviour.Side.{Side}
 use Rattle.occ_behaviour.specs.declared.behaviour.Side.TheVariants.{First, Second}
-use Rattle.occ_behaviour_read.specs.Claims.{IsFaultOf, claim_read}
+use Rattle.occ_behaviour_read.specs.Claims.{IsFaultOf, bare_lines, claim_read}
 use Rattle.occ_behaviour_read.specs.declared.claim.ClaimFault.{ClaimFault}
 use Rattle.occ_behaviour_read.specs.declared.claim.ClaimFault.TheVariants as claim
+use Rattle.occ_nform_written.specs.Behaviours.{IsBehaviourText}
 use Rattle.occ_run_witness.specs.declared.witnessing.Witness.{Witness}
 use Rattle.occ_run_witness.specs.declared.witnessing.Witness.TheVariants as witness
 use Rattle.occ_run_witness.proofs.Inside.{claim_within}
 use Rattle.occ_run_witness.specs.Witnesses.{IsWithin, IsWitness}
 use Rattle.occ_syntax.specs.declared.scope.Kind.{Kind}
 use Rattle.occ_syntax.specs.declared.scope.Program.{Program}
+use Rattle.occ_tool_run.proofs.AsWritten.{BehaviourFaultsLaw, BehavioursLaw}
 use Rattle.occ_tool_run.proofs.Judging.{accepted_file, refuse_judging, there}
 use Rattle.occ_tool_run.specs.declared.accept.Refusal.{Refusal}
 use Rattle.occ_tool_run.specs.declared.accept.Refusal.TheVariants as refusal
@@ -26,7 +29,8 @@ use Rattle.occ_tool_run.specs.declared.load.Loaded.TheVariants as loaded
 use Rattle.occ_tool_run.specs.Accepts.{IsAccepted}
 use Rattle.occ_tool_run.specs.Answers.{accepted, faulty_claim, judged_claim, too_long_claim}
 use Rattle.occ_tool_run.specs.Files.{IsLoaded, most_bytes}
-use Rattle.occ_tool_run.specs.Judged.{IsAcceptedFrom, IsRefusalAnswer, IsRefusedFrom}
+use Rattle.occ_tool_run.specs.Judged.{HasInterface, IsAcceptedFrom, IsRefusalAnswer, IsRefusedFrom}
+use Rattle.occ_tool_run.specs.Stored.{seen}
 use Rattle.occ_tool_run.specs.Texts.{IsPrintable, status_of}
 use Rattle.occ_witness_run.specs.declared.finding.Finding.{Finding}
 use Rattle.occ_witness_run.specs.declared.finding.Finding.TheVariants.{Told, Schedule, Long}
@@ -67,9 +71,9 @@ refused_finding (Ok Long) first second new f is why = absurd is
 -- ---- a program that is accepted
 
 finds_of : (one two : Option (List ℕ)) (bytes : List ℕ) (names : List (List ℕ)) (p : Program) (finding : Finding) → two ≡ Some bytes
-    → IsAccepted one [] names p → FindsIn bytes names p finding → Finds one two finding
+    → IsAccepted one [] names (seen p) → FindsIn bytes names p finding → Finds one two finding
 finds_of one two bytes names p finding e read (as_judged a judged other is) =
-    as_belongs a (record { bytes = bytes; there = e; judged = accepted names p read judged }) other is
+    as_belongs a (record { bytes = bytes; there = e; text = accepted names (seen p) read judged }) other is
 finds_of one two bytes names p finding e read (found_in f) = found bytes names p e read f
 
 pub accepted_finding : (r : Result Finding Memory) (first second : Loaded) (new : List (List ℕ)) (p : Program) → IsAcceptedFrom first [] new p
@@ -102,19 +106,20 @@ found_too_long names p l e =
     subst P (sym e) (λ b k. as_judged (TooLong Second) (too_long_claim k refl) (λ s. absurd (let no : ⊥ = cc in no)) refl)
 
 -- the behaviour is read
-found_by : (bytes : List ℕ) (names : List (List ℕ)) (p : Program) (b : Behaviour) (w : Witness) (finding : Finding) → length bytes ≤ most_bytes → claim_read names p.params bytes ≡ Ok b
-    → IsWitness p b w → finding ≡ finding_of w → FindsIn bytes names p finding
-found_by bytes names p b (witness.Schedule text) finding short read is e =
-    found_in (record { behaviour = b; shown_by = witness.Schedule text; short = short; read = read; has = is.0; is = is; finding_is = e })
-found_by bytes names p b witness.Outside finding short read is e =
-    as_judged (Member false) (judged_claim b false short read ((λ no. absurd (let x : ⊥ = cc in x)), (λ m. absurd (is m))) refl) (λ s. absurd (let no : ⊥ = cc in no)) e
-found_by bytes names p b witness.Long finding short read is e =
-    found_in (record { behaviour = b; shown_by = witness.Long; short = short; read = read; has = is.0; is = is; finding_is = e })
+found_by : (bytes : List ℕ) (names : List (List ℕ)) (p : Program) (b : Behaviour) (w : Witness) (finding : Finding) → length bytes ≤ most_bytes
+    → IsBehaviourText names p.params b (bare_lines bytes) → IsWitness p b w → finding ≡ finding_of w → FindsIn bytes names p finding
+found_by bytes names p b (witness.Schedule text) finding short written is e =
+    found_in (record { behaviour = b; shown_by = witness.Schedule text; short = short; written = written; has = is.0; is = is; finding_is = e })
+found_by bytes names p b witness.Outside finding short written is e =
+    as_judged (Member false) (judged_claim b false short written ((λ no. absurd (let x : ⊥ = cc in x)), (λ m. absurd (is m))) refl) (λ s. absurd (let no : ⊥ = cc in no)) e
+found_by bytes names p b witness.Long finding short written is e =
+    found_in (record { behaviour = b; shown_by = witness.Long; short = short; written = written; has = is.0; is = is; finding_is = e })
 
-pub claim_found : (bytes : List ℕ) (names : List (List ℕ)) (params : List (Name × Kind)) (p : Program) (b : Behaviour) (w : Witness) (finding : Finding) → params ≡ p.params
-    → length bytes ≤ most_bytes → claim_read names params bytes ≡ Ok b → IsWitness p b w → finding ≡ finding_of w → FindsIn bytes names p finding
-claim_found bytes names params p b w finding e short read is told =
-    let P : List (Name × Kind) → Type 0 = λ ps. claim_read names ps bytes ≡ Ok b in found_by bytes names p b w finding short (subst P e read) is told
+pub claim_found : BehavioursLaw → (bytes : List ℕ) (names : List (List ℕ)) (params : List (Name × Kind)) (p : Program) (b : Behaviour) (w : Witness) (finding : Finding) → params ≡ p.params
+    → length bytes ≤ most_bytes → IsDistinct names → HasInterface names p → claim_read names params bytes ≡ Ok b → IsWitness p b w → finding ≡ finding_of w → FindsIn bytes names p finding
+claim_found law bytes names params p b w finding e short d i read is told =
+    let P : List (Name × Kind) → Type 0 = λ ps. claim_read names ps bytes ≡ Ok b in
+    found_by bytes names p b w finding short ((law names p.params bytes b d i.interface i.params).0 (subst P e read)) is told
 
 -- its events are of the interface
 pub claim_inside : (bytes : List ℕ) (names : List (List ℕ)) (shown params : List (Name × Kind)) (b : Behaviour) → shown ≡ params → claim_read names shown bytes ≡ Ok b
@@ -123,15 +128,15 @@ claim_inside bytes names shown params b e read =
     let P : List (Name × Kind) → Type 0 = λ ps. claim_read names ps bytes ≡ Ok b in claim_within names params bytes b (subst P e read)
 
 -- or it is refused
-pub claim_refused : (r : Result Finding Memory) (bytes : List ℕ) (names : List (List ℕ)) (params : List (Name × Kind)) (p : Program) (f : ClaimFault) → params ≡ p.params
-    → length bytes ≤ most_bytes → IfOk r (IsClaimRefused f) → IsFaultOf (claim_read names params bytes) f → IfOk r (FindsIn bytes names p)
-claim_refused (Err m) bytes names params p f e short is read = tt
-claim_refused (Ok (Told a)) bytes names params p (claim.Form line) e short is read =
+pub claim_refused : BehaviourFaultsLaw → (r : Result Finding Memory) (bytes : List ℕ) (names : List (List ℕ)) (params : List (Name × Kind)) (p : Program) (f : ClaimFault) → params ≡ p.params
+    → length bytes ≤ most_bytes → IsDistinct names → HasInterface names p → IfOk r (IsClaimRefused f) → IsFaultOf (claim_read names params bytes) f → IfOk r (FindsIn bytes names p)
+claim_refused law (Err m) bytes names params p f e short d i is read = tt
+claim_refused law (Ok (Told a)) bytes names params p (claim.Form line) e short d i is read =
     let P : List (Name × Kind) → Type 0 = λ ps. claim_read names ps bytes ≡ Err line in
-    as_judged a (faulty_claim line short (subst P e read) is) (λ s. absurd (let no : ⊥ = cc in no)) refl
-claim_refused (Ok (Told a)) bytes names params p claim.Memory e short is read = absurd is
-claim_refused (Ok (Schedule text)) bytes names params p f e short is read = absurd is
-claim_refused (Ok Long) bytes names params p f e short is read = absurd is
+    as_judged a (faulty_claim line short ((law names p.params bytes line d i.interface i.params).0 (subst P e read)) is) (λ s. absurd (let no : ⊥ = cc in no)) refl
+claim_refused law (Ok (Told a)) bytes names params p claim.Memory e short d i is read = absurd is
+claim_refused law (Ok (Schedule text)) bytes names params p f e short d i is read = absurd is
+claim_refused law (Ok Long) bytes names params p f e short d i is read = absurd is
 
 -- ---- what is told
 

@@ -1,9 +1,10 @@
 -- What two files are answered with, of a program and of a behaviour: a schedule that shows it, or what `belongs` says.
-use Rattle.std.specs.Prelude.{ℕ, ◌≡◌, ◌≢◌, ◌≤◌, true, false, List, [], length, Option, Some, Ok, codes}
+use Rattle.std.specs.Prelude.{ℕ, ◌≡◌, ◌≢◌, ◌≤◌, true, false, List, [], length, Option, Some, codes}
 use Rattle.occ_behaviour.specs.declared.behaviour.Behaviour.{Behaviour}
 use Rattle.occ_behaviour.specs.declared.behaviour.Side.TheVariants.{First, Second}
-use Rattle.occ_behaviour_read.specs.Claims.{claim_read}
+use Rattle.occ_behaviour_read.specs.Claims.{bare_lines}
 use Rattle.occ_behaviour_read.specs.declared.claim.ClaimFault.{ClaimFault}
+use Rattle.occ_nform_written.specs.Behaviours.{IsBehaviourText}
 use Rattle.occ_run_witness.specs.declared.witnessing.Witness.{Witness}
 use Rattle.occ_run_witness.specs.declared.witnessing.Witness.TheVariants as witness
 use Rattle.occ_run_witness.specs.Witnesses.{HasIt, IsWitness}
@@ -15,6 +16,7 @@ use Rattle.occ_tool_run.specs.Accepts.{IsAccepted}
 use Rattle.occ_tool_run.specs.Answers.{IsJudged, Judges}
 use Rattle.occ_tool_run.specs.Files.{most_bytes}
 use Rattle.occ_tool_run.specs.Judged.{IsClaimRefusal, IsRefusalAnswer}
+use Rattle.occ_tool_run.specs.Stored.{seen}
 use Rattle.occ_tool_run.specs.Texts.{IsPrintable, refusal_text, status_of, text_of}
 use Rattle.occ_witness_run.specs.declared.finding.Finding.{Finding}
 use Rattle.occ_witness_run.specs.declared.finding.Finding.TheVariants.{Told, Schedule, Long}
@@ -31,7 +33,7 @@ pub record IsFound (bytes : List ℕ) (names : List (List ℕ)) (p : Program) (f
   pub behaviour : Behaviour
   pub shown_by : Witness
   pub short : length bytes ≤ most_bytes
-  pub read : claim_read names p.params bytes ≡ Ok behaviour
+  pub written : IsBehaviourText names p.params behaviour (bare_lines bytes)
   pub has : HasIt p behaviour
   pub is : IsWitness p behaviour shown_by
   pub finding_is : finding ≡ finding_of shown_by
@@ -39,7 +41,7 @@ pub record IsFound (bytes : List ℕ) (names : List (List ℕ)) (p : Program) (f
 -- The answer to an accepted program and the bytes of a file that is to be a behaviour. Where `belongs` doesn't say YES, it is what that
 -- says.
 pub data FindsIn (bytes : List ℕ) (names : List (List ℕ)) (p : Program) (finding : Finding) : Type 0 where
-  as_judged : (answer : Answer) → IsJudged bytes names p answer → answer ≢ Member true → finding ≡ Told answer
+  as_judged : (answer : Answer) → IsJudged bytes names (seen p) answer → answer ≢ Member true → finding ≡ Told answer
       → FindsIn bytes names p finding
   found_in : IsFound bytes names p finding → FindsIn bytes names p finding
 
@@ -47,7 +49,7 @@ pub data FindsIn (bytes : List ℕ) (names : List (List ℕ)) (p : Program) (fin
 -- what that says.
 pub data Finds (one two : Option (List ℕ)) (finding : Finding) : Type 0 where
   as_belongs : (answer : Answer) → Judges one two answer → answer ≢ Member true → finding ≡ Told answer → Finds one two finding
-  found : (bytes : List ℕ) (names : List (List ℕ)) (p : Program) → two ≡ Some bytes → IsAccepted one [] names p
+  found : (bytes : List ℕ) (names : List (List ℕ)) (p : Program) → two ≡ Some bytes → IsAccepted one [] names (seen p)
       → IsFound bytes names p finding → Finds one two finding
 
 -- the answer that refuses the program

@@ -28,7 +28,7 @@ pub(crate) fn told(witness: Witness) -> Finding
 {
     match witness {
         Witness::Schedule(text) => Finding::Schedule(text),
-        Witness::Outside => Finding::Told(Answer::Member { is: false }),
+        Witness::Outside => Finding::Told(Answer::Member(false)),
         Witness::Long => Finding::Long,
     }
 }

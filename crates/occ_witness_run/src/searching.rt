@@ -1,6 +1,7 @@
 //! Two files as a program and a behaviour of it, and a schedule that shows it.
 
 ghost use Rattle.std.specs.Prelude.{◌≤◌, ℕ, List, Option, Some, IfOk, length};
+ghost use Rattle.occ_base.specs.Names.{IsDistinct};
 ghost use Rattle.occ_tool_run.specs.Files.{IsLoaded, IsShort, most_bytes};
 ghost use Rattle.occ_tool_run.specs.Judged.{HasInterface, IsSayable as CanBeSaid};
 ghost use Rattle.occ_witness_run.specs.Findings.{Finds, FindsIn, IsClaimRefused, IsRefusedBy, IsSayable};
@@ -9,6 +10,7 @@ use crate::finding::{Finding, told};
 use occ_base::{Memory, Names};
 use occ_behaviour::Side;
 use occ_behaviour_read::{ClaimFault, read};
+use occ_nform_written::{behaviours_are_read_as_written, faults_stand_where_nothing_goes_on};
 use occ_run_witness::find_witness;
 use occ_tool_run::accept::{Refusal, accept_first, refused};
 use occ_tool_run::answer::Answer;
@@ -49,6 +51,7 @@ fn find_in(
     text: &Loaded,
 ) -> Result<Finding, Memory>
     requires short { IsShort most_bytes text.now }
+    requires distinct { IsDistinct names.now }
     requires interface { HasInterface names.now accepted.now.program }
     ensures found { IfOk result (λ finding. (bytes : List ℕ) → IsLoaded most_bytes (Some bytes) text.now
         → FindsIn bytes names.now accepted.now.program finding) }
@@ -56,9 +59,7 @@ fn find_in(
 {
     match text {
         Loaded::Bytes(bytes) => find_in_bytes(alloc, names, accepted, bytes.as_slice()),
-        Loaded::TooLong => Ok(Finding::Told(Answer::TooLong {
-            place: Side::Second,
-        })),
+        Loaded::TooLong => Ok(Finding::Told(Answer::TooLong(Side::Second))),
     }
 }
 
@@ -70,10 +71,13 @@ fn find_in_bytes(
     bytes: &[u8],
 ) -> Result<Finding, Memory>
     requires short { length bytes.now ≤ most_bytes }
+    requires distinct { IsDistinct names.now }
     requires interface { HasInterface names.now accepted.now.program }
     ensures found { IfOk result (FindsIn bytes.now names.now accepted.now.program) }
     ensures sayable { IfOk result IsSayable }
 {
+    behaviours_are_read_as_written();
+    faults_stand_where_nothing_goes_on();
     let program = accepted.program();
     match read(alloc, names, program.params.items(), bytes) {
         Ok(behaviour) => {
@@ -90,7 +94,7 @@ fn refuse_claim(fault: ClaimFault) -> Result<Finding, Memory>
     ensures sayable { IfOk result IsSayable }
 {
     match fault {
-        ClaimFault::Form { line } => Ok(Finding::Told(Answer::RefusedClaim { line })),
+        ClaimFault::Form { line } => Ok(Finding::Told(Answer::RefusedClaim(line))),
         ClaimFault::Memory => Err(Memory),
     }
 }

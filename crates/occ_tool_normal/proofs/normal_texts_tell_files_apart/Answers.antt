@@ -1,5 +1,4 @@
 use Rattle.occ_parse_reading.specs.declared.bound.Bound.TheVariants as bound
-use Rattle.occ_syntax.specs.View.{tree}
 use Rattle.occ_tool_normal.proofs.Files.{files_apart}
 use Rattle.occ_tool_normal.proofs.normal_texts_tell_files_apart.Goals as goal
 
@@ -7,10 +6,10 @@ pub returns : goal.returns
 returns c = files_apart (record {
   once = record {
     one_reading = λ text old m n p q ls ks r s.
-        let e = c.one_reading.ensures.program bound.Program text old m n p.name q.name p.params q.params (tree p.body) (tree q.body) ls ks r s in
+        let e = c.one_reading.ensures.program bound.Program text old m n p.name q.name p.params q.params p.body q.body ls ks r s in
         record { names = e.table; name = e.name; params = e.params; body = e.body; numbers = e.numbers };
     one_fault = λ text old f g r s. c.one_reading.ensures.fault bound.Program text old f g r s;
-    not_both = λ text old m p ls f r s. c.one_reading.ensures.apart bound.Program text old m p.name p.params (tree p.body) ls f r s;
+    not_both = λ text old m p ls f r s. c.one_reading.ensures.apart bound.Program text old m p.name p.params p.body ls f r s;
   };
   distinct = λ text old new n ps p ks d r. (c.parameters_have_names.ensures text old new n ps p ks d r).0;
   again = c.programs_read_again.ensures.read;
@@ -18,4 +17,4 @@ returns c = files_apart (record {
   texts = c.normal_texts_are_renamed.ensures;
   refused = c.readings_are_not_refused.ensures;
   apart = c.normal_texts_tell_programs_apart.ensures;
-})
+}) c.texts_of_programs_are_those_of_their_tables.ensures

@@ -15,4 +15,4 @@ pub returns-clause-settles : goal.returns-clause-settles
 returns-clause-settles c =
     let one_interface = sym (c.items.ensures ∙ ap (λ p. p.params) c.program-one.ensures.same) ∙ c.have_one_interface.ensures.0 c.if-not-have_one_interface.false
     ∙ (c.items-2.ensures ∙ ap (λ p. p.params) c.program-two.ensures.same) in
-    compared c.in_ok-verdict.verdict (record { one_interface = one_interface; right = c.in_ok-verdict.ensures.right; first = c.in_ok-verdict.ensures.verdict }) refl
+    compared c.in_ok-verdict.verdict one_interface c.in_ok-verdict.ensures.verdict refl

@@ -1,4 +1,3 @@
-use Rattle.occ_syntax.specs.View.{tree}
 use Rattle.occ_parse_reading.specs.declared.bound.Bound.TheVariants as bound
 use Rattle.occ_tool_run.proofs.EitherOrder.{in_either_order}
 use Rattle.occ_tool_run.proofs.law.same_where_both_refine.Goals as goal
@@ -6,8 +5,8 @@ use Rattle.occ_tool_run.proofs.law.same_where_both_refine.Goals as goal
 pub returns : goal.returns
 returns c = in_either_order (record {
   one_reading = λ text old m n p q ls ks r s.
-      let e = c.one_reading.ensures.program bound.Program text old m n p.name q.name p.params q.params (tree p.body) (tree q.body) ls ks r s in
+      let e = c.one_reading.ensures.program bound.Program text old m n p.name q.name p.params q.params p.body q.body ls ks r s in
       record { names = e.table; name = e.name; params = e.params; body = e.body; numbers = e.numbers };
   one_fault = λ text old f g r s. c.one_reading.ensures.fault bound.Program text old f g r s;
-  not_both = λ text old m p ls f r s. c.one_reading.ensures.apart bound.Program text old m p.name p.params (tree p.body) ls f r s;
+  not_both = λ text old m p ls f r s. c.one_reading.ensures.apart bound.Program text old m p.name p.params p.body ls f r s;
 }) c.refined_both_ways.ensures

@@ -6,3 +6,6 @@ returns-in-Ok-clause-finds c = accepted_finding c.find_in.result c.args.program.
 
 pub returns-in-Err-clause-finds : goal.returns-in-Err-clause-finds
 returns-in-Err-clause-finds c = refused_finding c.refuse.result c.args.program.now c.args.text.now _ c.in-Err.refusal c.refuse.ensures.refused c.in-Err.ensures.refused
+
+pub find_in-requires-clause-distinct : goal.find_in-requires-clause-distinct
+find_in-requires-clause-distinct c = c.in-Ok.ensures.distinct

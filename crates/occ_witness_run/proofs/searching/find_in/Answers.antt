@@ -7,3 +7,6 @@ returns-in-Bytes-clause-found c =
 
 pub returns-in-TooLong-clause-found : goal.returns-in-TooLong-clause-found
 returns-in-TooLong-clause-found c = found_too_long c.args.names.now c.args.accepted.now.program c.args.text.now c.in-TooLong.is
+
+pub find_in_bytes-requires-clause-distinct : goal.find_in_bytes-requires-clause-distinct
+find_in_bytes-requires-clause-distinct c = c.requires.distinct
