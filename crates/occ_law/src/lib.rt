@@ -3,7 +3,5 @@
 
 mod macros;
 mod table;
-#[cfg(test)]
-mod tests;
 
 pub use table::{Cases, LawId, TABLE, find, name, names_are_distinct};

@@ -1,4 +1,4 @@
-use crate::{LawId, TABLE, find, name};
+use occ_law::{LawId, TABLE, find, name};
 
 #[test]
 fn names_and_numbers(rt: HostRuntime) {
