@@ -5,7 +5,7 @@ use occ_lex::lines;
 use occ_parse_part::{ParseFault, Raw, form, resolve};
 use occ_syntax::{Expr, Exprs, Kind, NameList, Op, Proc, Procs, Scope, same_proc};
 use std::alloc::Global;
-use std::test::Fail;
+use std::process::Abort;
 
 // the names of the scope, in the order in which they are put into the table
 const FIRST: Name = Name(0);
@@ -18,21 +18,29 @@ const C: Name = Name(3);
 
 const WORD2: Kind = Kind::Var(Width::Word(2));
 
+const TEXTS: [&str; 4] = ["x[0]", "x[1]", "y", "c"];
+
 fn names(alloc: Global) -> Result<Names, Memory> {
     let mut names = Names::new(alloc);
-    for text in [b"x[0]".as_slice(), b"x[1]", b"y", b"c"] {
-        names.intern(text)?;
+    for text in &TEXTS {
+        names.intern(text.as_bytes())?;
     }
     Ok(names)
 }
 
 // an array x of two, a variable y, and a channel c for outputs
+const ENTRIES: [(Name, Kind); 4] = [
+    (FIRST, WORD2),
+    (SECOND, WORD2),
+    (Y, WORD2),
+    (C, Kind::Chan(Width::Bool, Some(Dir::Output))),
+];
+
 fn scope(alloc: Global) -> Result<Scope, Memory> {
     let mut scope = Scope::new(alloc);
-    scope.push((FIRST, WORD2))?;
-    scope.push((SECOND, WORD2))?;
-    scope.push((Y, WORD2))?;
-    scope.push((C, Kind::Chan(Width::Bool, Some(Dir::Output))))?;
+    for entry in &ENTRIES {
+        scope.push(*entry)?;
+    }
     Ok(scope)
 }
 
@@ -59,38 +67,55 @@ fn two(alloc: Global, op: Op, var: Name, value: u8) -> Result<Expr, Memory> {
     Ok(Expr::Two(op, left, Box::new(alloc, numeral)?))
 }
 
-fn expected(alloc: Global) -> Result<Proc, Memory> {
+fn assignment(alloc: Global, var: Name, value: Expr) -> Result<Proc, Memory> {
     let mut vars = NameList::new(alloc);
-    vars.push(SECOND)?;
+    vars.push(var)?;
     let mut values = Exprs::new(alloc);
-    values.push(two(alloc, Op::Plus, Y, 1)?)?;
+    values.push(value)?;
+    Ok(Proc::Assign { vars, values })
+}
+
+fn pair(alloc: Global, first: Proc, second: Proc) -> Result<Procs, Memory> {
     let mut parts = Procs::new(alloc);
-    parts.push(Proc::Assign { vars, values })?;
-    parts.push(Proc::Output {
-        chan: C,
-        value: two(alloc, Op::Equal, FIRST, 2)?,
-    })?;
-    Ok(Proc::Seq(parts))
+    parts.push(first)?;
+    parts.push(second)?;
+    Ok(parts)
+}
+
+fn expected(alloc: Global) -> Result<Proc, Memory> {
+    let first = assignment(alloc, SECOND, two(alloc, Op::Plus, Y, 1)?)?;
+    let value = two(alloc, Op::Equal, FIRST, 2)?;
+    Ok(Proc::Seq(pair(alloc, first, Proc::Output { chan: C, value })?))
 }
 
 #[test]
-fn a_part_with_elements(rt: HostRuntime) -> Result<(), Fail> {
-    let alloc = rt.alloc();
+fn a_part_with_elements(rt: HostRuntime) -> Result<(), ParseFault> {
     let text = b"  SEQ\n    x[1] := y PLUS 1\n    c ! x[0] = 2\n";
-    let found = read_in_scope(alloc, text)?;
-    assert!(rt; same_proc(&found, &expected(alloc)?));
+    let found = read_in_scope(rt.alloc(), text)?;
+    assert!(rt; same_proc(&found, &expected(rt.alloc())?));
+    Ok(())
+}
+
+// The four names of the scope, x, and its elements from 2 on come first.
+const ELEMENTS: [(&str, Name); 3] = [
+    ("x[2]", Name(5)),
+    ("x[255]", Name(258)),
+    ("x[256]", Name(259)),
+];
+
+fn check_name(rt: &impl Abort, names: &mut Names, text: &str, wanted: Name) -> Result<(), Memory> {
+    let name = names.intern(text.as_bytes())?;
+    assert!(rt; name == wanted, "of {text}");
     Ok(())
 }
 
 #[test]
-fn the_elements_of_a_part_are_names(rt: HostRuntime) -> Result<(), Fail> {
-    let alloc = rt.alloc();
-    let mut names = names(alloc)?;
-    read(alloc, &mut names, b"  y := x[1]\n")?;
-    // the four names of the scope, x, and its elements from 2 on
-    assert_eq!(rt; names.intern(b"x[2]")?, Name(5));
-    assert_eq!(rt; names.intern(b"x[255]")?, Name(258));
-    assert_eq!(rt; names.intern(b"x[256]")?, Name(259));
+fn the_elements_of_a_part_are_names(rt: HostRuntime) -> Result<(), ParseFault> {
+    let mut names = names(rt.alloc())?;
+    read(rt.alloc(), &mut names, b"  y := x[1]\n")?;
+    for (text, wanted) in &ELEMENTS {
+        check_name(&rt, &mut names, text, *wanted)?;
+    }
     Ok(())
 }
 
@@ -107,14 +132,14 @@ const REFUSED: [(&[u8], ParseFault); 7] = [
     ),
 ];
 
+fn check_refused(rt: &impl Abort, alloc: Global, text: &[u8], fault: ParseFault) {
+    let found = read_in_scope(alloc, text).err();
+    assert!(rt; found == Some(fault), "in {text:?}");
+}
+
 #[test]
-fn the_first_fault_of_a_part(rt: HostRuntime) -> Result<(), Fail> {
-    for (text, fault) in REFUSED {
-        assert_eq!(rt;
-            read_in_scope(rt.alloc(), text).err(),
-            Some(fault),
-            "in {text:?}"
-        );
+fn the_first_fault_of_a_part(rt: HostRuntime) {
+    for (text, fault) in &REFUSED {
+        check_refused(&rt, rt.alloc(), text, *fault);
     }
-    Ok(())
 }

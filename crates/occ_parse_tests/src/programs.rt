@@ -2,12 +2,11 @@
 
 use crate::texts::read;
 use occ_base::{Dir, Memory, Name, Names, Width};
-use occ_parse::Bound;
+use occ_parse::{Bound, ParseFault, Text};
 use occ_syntax::{
     Alternatives, Choices, Expr, Exprs, Guard, Kind, NameList, Op, Proc, Procs, Wait, same_proc,
 };
 use std::alloc::Global;
-use std::test::Fail;
 
 fn assignment(alloc: Global, var: Name, value: Expr) -> Result<Proc, Memory> {
     let mut vars = NameList::new(alloc);
@@ -21,6 +20,20 @@ fn two(alloc: Global, op: Op, var: Name, value: u8) -> Result<Expr, Memory> {
     let left = Box::new(alloc, Expr::Var(var))?;
     let right = Box::new(alloc, Expr::Word { bits: 4, value })?;
     Ok(Expr::Two(op, left, right))
+}
+
+fn pair(alloc: Global, first: Proc, second: Proc) -> Result<Procs, Memory> {
+    let mut parts = Procs::new(alloc);
+    parts.push(first)?;
+    parts.push(second)?;
+    Ok(parts)
+}
+
+// Whether a program has these parameters, that body, and parts on these lines.
+fn is_read_as(text: &Text, params: &[(Name, Kind)], body: &Proc, lines: &[u32]) -> bool {
+    text.program.params.items() == params
+        && same_proc(&text.program.body, body)
+        && text.lines.items() == lines
 }
 
 // ---- channels, declarations and alternatives
@@ -53,49 +66,56 @@ const Y1: Name = Name(7);
 
 const WORD2: Kind = Kind::Var(Width::Word(2));
 
+fn with_branch(
+    mut branches: Alternatives,
+    condition: Expr,
+    wait: Wait,
+    part: Proc,
+) -> Result<Alternatives, Memory> {
+    branches.push((Guard { condition, wait }, part))?;
+    Ok(branches)
+}
+
 fn alternatives(alloc: Global) -> Result<Proc, Memory> {
-    let input = Guard {
-        condition: Expr::Bool(true),
-        wait: Wait::Get { chan: C, var: B },
-    };
-    let ready = Guard {
-        condition: Expr::Var(B),
-        wait: Wait::Skip,
-    };
-    let mut branches = Alternatives::new(alloc);
-    branches.push((input, Proc::Skip))?;
-    branches.push((ready, assignment(alloc, X, Expr::Var(Y1))?))?;
+    let branches = Alternatives::new(alloc);
+    let input = Wait::Get { chan: C, var: B };
+    let branches = with_branch(branches, Expr::Bool(true), input, Proc::Skip)?;
+    let copy = assignment(alloc, X, Expr::Var(Y1))?;
+    let branches = with_branch(branches, Expr::Var(B), Wait::Skip, copy)?;
     Ok(Proc::Alt(branches))
 }
 
+// The elements become x in turn.
+fn copies(alloc: Global) -> Result<Proc, Memory> {
+    let first = assignment(alloc, Y0, Expr::Var(X))?;
+    let second = assignment(alloc, Y1, Expr::Var(X))?;
+    Ok(Proc::Seq(pair(alloc, first, second)?))
+}
+
+const LOCALS: [(Name, Kind); 3] = [(Y0, WORD2), (Y1, WORD2), (B, Kind::Var(Width::Bool))];
+
 fn with_channels(alloc: Global) -> Result<Proc, Memory> {
-    let mut copies = Procs::new(alloc);
-    copies.push(assignment(alloc, Y0, Expr::Var(X))?)?;
-    copies.push(assignment(alloc, Y1, Expr::Var(X))?)?;
-    let mut parts = Procs::new(alloc);
-    parts.push(Proc::Seq(copies))?;
-    parts.push(alternatives(alloc)?)?;
-    Proc::Seq(parts).within(
-        alloc,
-        &[(Y0, WORD2), (Y1, WORD2), (B, Kind::Var(Width::Bool))],
-    )
+    let parts = pair(alloc, copies(alloc)?, alternatives(alloc)?)?;
+    Proc::Seq(parts).within(alloc, &LOCALS)
+}
+
+const CHANNELS_PARAMS: [(Name, Kind); 2] = [
+    (C, Kind::Chan(Width::Bool, Some(Dir::Input))),
+    (X, WORD2),
+];
+
+const CHANNELS_LINES: [u32; 10] = [2, 2, 3, 4, 5, 6, 6, 7, 10, 12];
+
+fn is_with_channels(alloc: Global, text: &Text) -> Result<bool, Memory> {
+    let body = with_channels(alloc)?;
+    Ok(text.program.name == Name(0) && is_read_as(text, &CHANNELS_PARAMS, &body, &CHANNELS_LINES))
 }
 
 #[test]
-fn declarations_and_alternatives(rt: HostRuntime) -> Result<(), Fail> {
-    let alloc = rt.alloc();
-    let mut names = Names::new(alloc);
-    let found = read(alloc, &mut names, CHANNELS, Bound::Program)?;
-    assert_eq!(rt; found.program.name, Name(0));
-    assert_eq!(rt;
-        found.program.params.items(),
-        [(C, Kind::Chan(Width::Bool, Some(Dir::Input))), (X, WORD2),].as_slice()
-    );
-    assert!(rt; same_proc(&found.program.body, &with_channels(alloc)?));
-    assert_eq!(rt;
-        found.lines.items(),
-        [2, 2, 3, 4, 5, 6, 6, 7, 10, 12].as_slice()
-    );
+fn declarations_and_alternatives(rt: HostRuntime) -> Result<(), ParseFault> {
+    let mut names = Names::new(rt.alloc());
+    let found = read(rt.alloc(), &mut names, CHANNELS, Bound::Program)?;
+    assert!(rt; is_with_channels(rt.alloc(), &found)?);
     Ok(())
 }
 
@@ -120,31 +140,39 @@ const A1: Name = Name(5);
 
 const WORD4: Kind = Kind::Var(Width::Word(4));
 
-fn with_elements(alloc: Global) -> Result<Proc, Memory> {
-    let mut copies = Procs::new(alloc);
-    copies.push(assignment(alloc, A0, two(alloc, Op::Plus, A0, 1)?)?)?;
-    copies.push(assignment(alloc, A1, two(alloc, Op::Plus, A1, 1)?)?)?;
+// Each element becomes one greater, in turn.
+fn sums(alloc: Global) -> Result<Proc, Memory> {
+    let first = assignment(alloc, A0, two(alloc, Op::Plus, A0, 1)?)?;
+    let second = assignment(alloc, A1, two(alloc, Op::Plus, A1, 1)?)?;
+    Ok(Proc::Seq(pair(alloc, first, second)?))
+}
+
+fn choices(alloc: Global) -> Result<Proc, Memory> {
     let mut list = Choices::new(alloc);
     list.push((two(alloc, Op::Equal, A0, 3)?, Proc::Skip))?;
     list.push((two(alloc, Op::Equal, A1, 3)?, Proc::Skip))?;
     list.push((Expr::Bool(true), Proc::Stop))?;
-    let mut parts = Procs::new(alloc);
-    parts.push(Proc::Seq(copies))?;
-    parts.push(Proc::If(list))?;
-    Ok(Proc::Seq(parts))
+    Ok(Proc::If(list))
+}
+
+fn with_elements(alloc: Global) -> Result<Proc, Memory> {
+    Ok(Proc::Seq(pair(alloc, sums(alloc)?, choices(alloc)?)?))
+}
+
+const ELEMENTS_PARAMS: [(Name, Kind); 2] = [(A0, WORD4), (A1, WORD4)];
+
+const ELEMENTS_LINES: [u32; 8] = [2, 3, 4, 4, 5, 8, 8, 10];
+
+fn is_with_elements(alloc: Global, text: &Text) -> Result<bool, Memory> {
+    let body = with_elements(alloc)?;
+    Ok(is_read_as(text, &ELEMENTS_PARAMS, &body, &ELEMENTS_LINES))
 }
 
 #[test]
-fn elements_and_choices(rt: HostRuntime) -> Result<(), Fail> {
-    let alloc = rt.alloc();
-    let mut names = Names::new(alloc);
-    let found = read(alloc, &mut names, ELEMENTS, Bound::Program)?;
-    assert_eq!(rt;
-        found.program.params.items(),
-        [(A0, WORD4), (A1, WORD4)].as_slice()
-    );
-    assert!(rt; same_proc(&found.program.body, &with_elements(alloc)?));
-    assert_eq!(rt; found.lines.items(), [2, 3, 4, 4, 5, 8, 8, 10].as_slice());
-    assert_eq!(rt; names.intern(b"a[1]")?, A1);
+fn elements_and_choices(rt: HostRuntime) -> Result<(), ParseFault> {
+    let mut names = Names::new(rt.alloc());
+    let found = read(rt.alloc(), &mut names, ELEMENTS, Bound::Program)?;
+    assert!(rt; is_with_elements(rt.alloc(), &found)?);
+    assert!(rt; names.intern(b"a[1]")? == A1);
     Ok(())
 }

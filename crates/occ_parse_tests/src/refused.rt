@@ -8,7 +8,7 @@ use occ_parse::ParseFault::{
 };
 use occ_parse::{Bound, ParseFault, Which};
 use std::alloc::Global;
-use std::test::Fail;
+use std::process::Abort;
 
 // ---- processes in the scope of some parameters
 
@@ -124,12 +124,22 @@ fn program(alloc: Global, process: &[u8]) -> Result<Vec<u8>, Memory> {
     Ok(text)
 }
 
+fn check_process(
+    rt: &impl Abort,
+    alloc: Global,
+    process: &[u8],
+    wanted: Option<ParseFault>,
+) -> Result<(), Memory> {
+    let text = program(alloc, process)?;
+    let found = fault_of(alloc, text.as_slice(), Bound::Program);
+    assert!(rt; found == wanted, "of {process:?}");
+    Ok(())
+}
+
 #[test]
-fn the_first_fault_of_a_process(rt: HostRuntime) -> Result<(), Fail> {
-    for (process, fault) in PROCESSES {
-        let text = program(rt.alloc(), process)?;
-        let found = fault_of(rt.alloc(), text.as_slice(), Bound::Program);
-        assert_eq!(rt; found, fault, "of {process:?}");
+fn the_first_fault_of_a_process(rt: HostRuntime) -> Result<(), Memory> {
+    for (process, wanted) in &PROCESSES {
+        check_process(&rt, rt.alloc(), process, *wanted)?;
     }
     Ok(())
 }
@@ -192,14 +202,21 @@ const TEXTS: [(&[u8], Option<ParseFault>); 14] = [
     ),
 ];
 
+fn check_text(
+    rt: &impl Abort,
+    alloc: Global,
+    text: &[u8],
+    bound: Bound,
+    wanted: Option<ParseFault>,
+) {
+    let found = fault_of(alloc, text, bound);
+    assert!(rt; found == wanted, "of {text:?}");
+}
+
 #[test]
 fn the_first_fault_of_a_text(rt: HostRuntime) {
-    for (text, fault) in TEXTS {
-        assert_eq!(rt;
-            fault_of(rt.alloc(), text, Bound::Program),
-            fault,
-            "of {text:?}"
-        );
+    for (text, wanted) in &TEXTS {
+        check_text(&rt, rt.alloc(), text, Bound::Program, *wanted);
     }
 }
 
@@ -214,11 +231,7 @@ const SCRIPTS: [(&[u8], Option<ParseFault>); 2] = [
 
 #[test]
 fn the_first_fault_behind_a_script(rt: HostRuntime) {
-    for (text, fault) in SCRIPTS {
-        assert_eq!(rt;
-            fault_of(rt.alloc(), text, Bound::Script),
-            fault,
-            "of {text:?}"
-        );
+    for (text, wanted) in &SCRIPTS {
+        check_text(&rt, rt.alloc(), text, Bound::Script, *wanted);
     }
 }
