@@ -1,4 +1,4 @@
 mod Acting
 mod Ends
 mod Whole
-mod Reached
+pub mod Reached

@@ -1,4 +1,4 @@
-mod Fresh
+pub mod Fresh
 pub mod Groups
 pub mod Grouping
 mod Chosen
