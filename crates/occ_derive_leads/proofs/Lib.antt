@@ -1,0 +1,5 @@
+pub mod Fresh
+pub mod Leading
+pub mod Pointwise
+pub mod Rows
+pub mod Scopes

@@ -1,0 +1,9 @@
+pub mod Configured
+pub mod Few
+pub mod Headers
+pub mod Heads
+pub mod Leads
+pub mod Nodes
+pub mod Rows
+pub mod States
+pub mod Ways
