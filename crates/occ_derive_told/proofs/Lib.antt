@@ -1,0 +1,5 @@
+pub mod Beginning
+pub mod Ending
+pub mod Facts
+pub mod Taking
+pub mod Telling
