@@ -1,0 +1,5 @@
+pub mod Beginning
+pub mod Lefts
+pub mod Limits
+pub mod Opening
+pub mod Settling
