@@ -1,0 +1,5 @@
+pub mod Begun
+pub mod Clearing
+pub mod Followed
+pub mod Tables
+pub mod Ways
