@@ -1,5 +1,5 @@
 -- Headers of normal programs.
-use Rattle.std.specs.Prelude.{ℕ, ◌≡◌, true, List, Some}
+use Rattle.std.specs.Prelude.{ℕ, ◌≡◌, true, Some}
 use Rattle.std.specs.List.{AllByRecursion}
 use Rattle.occ_base.specs.declared.event.Dir.TheVariants.{Input}
 use Rattle.occ_base.specs.declared.names.Name.{Name}

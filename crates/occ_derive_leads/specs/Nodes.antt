@@ -1,7 +1,6 @@
 -- Nodes: settled ALTs in which each event stands once, and what follows it is an ALT of processes to which it goes on at once.
-use Rattle.std.specs.Prelude.{ℕ, ◌≡◌, true, List, [], ◌++◌, map, None}
+use Rattle.std.specs.Prelude.{◌≡◌, true, List, [], ◌++◌, map, None}
 use Rattle.std.specs.List.{AllByRecursion}
-use Rattle.occ_base.specs.declared.names.Name.{Name}
 use Rattle.occ_behaviour.specs.States.{is_state}
 use Rattle.occ_derive_forms.specs.Settled.{IsEventGuard}
 use Rattle.occ_derive_forms.specs.Unified.{ending_cleared}
