@@ -48,9 +48,6 @@ sparing_leads S {p} {q} a = record { moves = a.moves; row = spares_work S p q a.
 
 -- ---- by one law
 
-abbrev at_itself : ℕ → Direction → Tree → Move
-at_itself n dir q = record { law = n; dir = dir; path = []; part = q }
-
 joins_lead : (S : List (Name × Kind)) (n : ℕ) (dir : Direction) {p q : Tree} → Joins dir n S p q → Leads S p q
 joins_lead S n dir {p} {q} j = record {
   moves = record { law = n; dir = dir; path = []; part = q } ∷ [];
