@@ -1,6 +1,5 @@
 pub mod Beginning
 pub mod Cleared
-pub mod Fresh
 pub mod Headers
 pub mod Kept
 pub mod Leaving

@@ -7,7 +7,6 @@ use Rattle.occ_base.specs.declared.names.Name.{Name}
 use Rattle.occ_base.specs.declared.width.Width.TheVariants.{Bool as Truth}
 use Rattle.occ_base.specs.Width.{bits_of}
 use Rattle.occ_derive_enough.proofs.Beginning.{bodies_begin}
-use Rattle.occ_derive_enough.proofs.Fresh.{IsFresh, fresh}
 use Rattle.occ_derive_enough.proofs.Nowhere.{away, few_behind, few_with, not_declared}
 use Rattle.occ_derive_enough.proofs.Parting.{behind_skip}
 use Rattle.occ_derive_enough.specs.Begun.{HasBegun}
@@ -18,6 +17,7 @@ use Rattle.occ_derive_law_if.proofs.Holding.{copy_law}
 use Rattle.occ_derive_law_scope.proofs.Declared.{round_last}
 use Rattle.occ_derive_law_scope.proofs.Values.{pair_comes}
 use Rattle.occ_derive_law_seq.proofs.Turns.{first_keeps, rest_keeps}
+use Rattle.occ_derive_leads.proofs.Fresh.{IsFresh, fresh_name}
 use Rattle.occ_derive_leads.proofs.Leading.{first_leads, law_leads, law_leads_back, leads_keep, leads_on}
 use Rattle.occ_derive_leads.proofs.Scopes.{declared_keeps, scope_front}
 use Rattle.occ_derive_leads.specs.Configured.{IsConfigured, IsLeft}
@@ -102,20 +102,20 @@ module _ (h : Header) (is : IsHeader h) (p : Tree) (keeps : Keeps (environment h
   front = scope_front S h.inputs is.kept
 
   found : IsFresh S p
-  found = fresh S p
+  found = fresh_name S p
 
   abbrev ys : List (Name × Kind)
-  ys = (found.name, Var Truth) ∷ []
+  ys = (record { 0 = found.name }, Var Truth) ∷ []
 
   abbrev zero_state : Values
   zero_state = λ x. 0
 
   abbrev opened : Tree
-  opened = declare found.name.0 Truth (seq (two (assign (found.name.0 ∷ []) (constant Truth 0 ∷ [])) p))
+  opened = declare found.name Truth (seq (two (assign (found.name ∷ []) (constant Truth 0 ∷ [])) p))
 
   opens : Leads S p opened
   opens =
-      let y = found.name.0 in
+      let y = found.name in
       let first = behind_skip S p keeps in
       let come = pair_comes S y Truth [] [] (constant Truth 0) found.new refl refl refl in
       let second = first_leads S (one p) (law_leads_back S 55 come) in
@@ -125,27 +125,27 @@ module _ (h : Header) (is : IsHeader h) (p : Tree) (keeps : Keeps (environment h
 
   within : Keeps (environment (S ++ ys)) p
   within =
-      let y = found.name.0 in
+      let y = found.name in
       let both = declared_keeps S y Truth (seq (two (assign (y ∷ []) (constant Truth 0 ∷ [])) p)) (leads_keep S front keeps opens) in
       first_keeps (environment (S ++ ys)) p no_tree (rest_keeps (environment (S ++ ys)) (assign (y ∷ []) (constant Truth 0 ∷ [])) (one p) both)
 
-  told_is : told (T ++ ys) zero_state ≡ assign (found.name.0 ∷ []) (constant Truth 0 ∷ [])
-  told_is = λ i. assign ((variables_append T ys ∙ ap (λ l. l ++ found.name.0 ∷ []) none) i)
+  told_is : told (T ++ ys) zero_state ≡ assign (found.name ∷ []) (constant Truth 0 ∷ [])
+  told_is = λ i. assign ((variables_append T ys ∙ ap (λ l. l ++ found.name ∷ []) none) i)
       ((facts_append T ys zero_state ∙ ap (λ l. l ++ constant Truth 0 ∷ []) (no_facts T zero_state none)) i)
 
   form : opened ≡ in_state T ys zero_state p
-  form = λ i. declare found.name.0 Truth (seq (two (sym told_is i) p))
+  form = λ i. declare found.name Truth (seq (two (sym told_is i) p))
 
   no_target : (t : ℕ) {A : Type 0} → is_target h t ≡ true → A
   no_target t e = false_not_true (sym (ap (λ l. is_in (variables l) t) inputs_none) ∙ e)
 
   is_left : IsLeft h ys p
   is_left = record {
-    scope = subst (λ U. scope_kept (U ++ ys) ≡ true) same_scope (scope_kept-push S found.name (Var Truth) front found.new refl);
+    scope = subst (λ U. scope_kept (U ++ ys) ≡ true) same_scope (scope_kept-push S (record { 0 = found.name }) (Var Truth) front found.new refl);
     vars = (tt, tt);
-    filled = ap is_pair (variables_append T ys ∙ ap (λ l. l ++ found.name.0 ∷ []) none);
+    filled = ap is_pair (variables_append T ys ∙ ap (λ l. l ++ found.name ∷ []) none);
     keeps = subst (λ U. Keeps (environment (U ++ ys)) p) same_scope within;
-    few = subst (λ U. IsFew (U ++ ys) p) same_scope (few_behind S p (found.name, Var Truth) found.nowhere few);
+    few = subst (λ U. IsFew (U ++ ys) p) same_scope (few_behind S p (record { 0 = found.name }, Var Truth) found.nowhere few);
     spared = λ t e. no_target t e;
   }
 
