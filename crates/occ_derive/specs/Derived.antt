@@ -1,8 +1,9 @@
 -- Derivations of normal programs.
 use Rattle.std.specs.Prelude.{ℕ, ◌≡◌, ◌≤◌, List}
 use Rattle.std.specs.List.{AllByRecursion}
+use Rattle.occ_derive_check.specs.Derivations.{IsDerived}
 use Rattle.occ_engine.specs.declared.outcome.Outcome.{Outcome}
-use Rattle.occ_engine.specs.Outcomes.{IsOutcome}
+use Rattle.occ_nform_table.specs.Behaviours.{Stands}
 use Rattle.occ_nform_table.specs.declared.table.Table.{Table}
 use Rattle.occ_nform_table.specs.Tables.{IsNormal}
 use Rattle.occ_print.specs.Known.{ProgramIsKnown}
@@ -17,9 +18,9 @@ use Rattle.occ_syntax.specs.Tree.{Tree}
 use Rattle.occ_syntax.specs.View.{tree}
 use Rattle.occ_target.specs.Program.{normal_body}
 
--- Steps lead from a program to one with that body: each is a move by a law of the table.
+-- Steps lead from a program to one with that body, each by a law of the table.
 pub record IsDerivation (from : Program) (body : Tree) (outcome : Outcome) : Type 0 where
-  pub outcome_is : IsOutcome from outcome
+  pub outcome_is : IsDerived from outcome
   pub to_is : tree outcome.to.body ≡ body
 
 -- no name of a step's part has a number above this one, and its path is short
@@ -45,6 +46,10 @@ pub record AreBelow (last : ℕ) (from : Program) (outcome : Outcome) : Type 0 w
 -- the body of the normal program of a table
 abbrev pub normal_of : List (List ℕ) → Table → Tree
 normal_of names table = normal_body names table.params table.rows table.states
+
+-- the table stands for a program
+abbrev pub StandsFor : Table → Program → Type 0
+StandsFor table program = Stands program.params table.rows table.states (tree program.body)
 
 -- the table is normal with these names
 abbrev pub IsNormalWith : List (List ℕ) → Table → Type 0

@@ -1,110 +1,88 @@
-//! A derivation of the normal program: what the strategy proposes, checked step by step.
+//! A derivation of the normal program: what the strategy proposes, checked step by step, and what a search finds where that is none.
 
-ghost use Rattle.std.specs.Prelude.{◌≡◌, ◌≢◌, ◌≤◌, ◌<◌, Err, IfOk, IsTrue, OnOk};
-ghost use Rattle.std.specs.List.{AllByRecursion};
-ghost use Rattle.occ_derive.specs.Derived.{AreBelow, CanBeWritten, IsBelow, IsDerivation, IsNormalWith, ParamIsBelow, ProgramIsBelow, normal_of};
+ghost use Rattle.std.specs.Prelude.{◌≡◌, ◌≤◌, ◌<◌, Err, IfOk, IfSome, OnOk, length};
+ghost use Rattle.occ_derive.specs.Derived.{CanBeWritten, IsDerivation, IsNormalWith, StandsFor, normal_of};
+ghost use Rattle.occ_derive_steps.specs.Steps.{Derivable};
 ghost use Rattle.occ_fresh.specs.Growth.{GrowsByNames};
-ghost use Rattle.occ_script_write_back.specs.Said.{IsShortPath};
 ghost use Rattle.occ_syntax.specs.Counts.{controls};
 ghost use Rattle.occ_syntax.specs.View.{tree};
 
 use crate::DeriveFault;
-use crate::whole::{Proposal, proposals};
-use occ_base::{Name, Names};
+use crate::frame::above;
+use crate::last::last_name;
+use crate::whole::proposals;
+use occ_base::{Memory, Names};
+use occ_derive_check::follow;
+use occ_derive_found::normal_programs_are_derivable;
+use occ_derive_search::search;
 use occ_derive_trail::Lost;
-use occ_engine::{Outcome, follow_steps};
+use occ_engine::Outcome;
 use occ_nform_table::Table;
-use occ_print_known::{greatest_name, parts_are_known_up_to_their_greatest_name};
-use occ_script_path::Path;
-use occ_script_write::Done;
-use occ_syntax::{Kind, Program, same_proc};
+use occ_print_known::parts_are_known_up_to_their_greatest_name;
+use occ_syntax::{Program, same_proc};
 use occ_target::{TargetFault, target};
 use occ_usage::Accepted;
 use std::alloc::Global;
 
-/// Reads the numbers of a path, so that it is known that each has 32 bits.
-pub fn read_path(path: &Path)
-    ensures { IsShortPath path.now }
-{
-    for number in path.items() {
-        let _number = *number;
-    }
-}
-
-/// Whether all names of a step's part have numbers up to this one.
-fn step_below(step: &Done, last: usize) -> bool
-    ensures { IsTrue result → IsBelow last step.now }
-{
-    read_path(&step.path);
-    greatest_name(&step.part) <= last
-}
-
-/// Whether all names of steps' parts have numbers up to this one.
-fn are_below(steps: &[Done], last: usize) -> bool
-    ensures { IsTrue result → AllByRecursion (IsBelow last) steps.now }
-{
-    for step in steps {
-        if !step_below(step, last) {
-            return false;
-        }
-    }
-    true
-}
-
-/// Whether all parameters have numbers up to this one.
-fn params_below(params: &[(Name, Kind)], last: usize) -> bool
-    ensures { IsTrue result → AllByRecursion (ParamIsBelow last) params.now }
-{
-    for (name, _) in params {
-        if name.0 > last {
-            return false;
-        }
-    }
-    true
-}
-
-/// Whether all names of a program have numbers up to this one.
-fn is_below(program: &Program, last: usize) -> bool
-    ensures { IsTrue result → ProgramIsBelow last program.now }
-{
-    program.name.0 <= last
-        && params_below(program.params.items(), last)
-        && greatest_name(&program.body) <= last
-}
-
-/// The outcome of steps that are proposed, where they lead from the accepted program to the normal one, and their names are among
-/// those up to the last. Else they aren't a derivation.
-fn checked(
+/// The steps that the strategy proposes, where they lead from the accepted program to the normal one.
+fn proposed(
     alloc: Global,
+    names: &mut Names,
     accepted: &Accepted,
     normal: &Program,
-    proposal: Proposal,
-) -> Result<Outcome, DeriveFault>
-    ensures derived { IfOk result (IsDerivation accepted.now.program (tree normal.now.body)) }
-    ensures below { IfOk result (AreBelow proposal.last.0 accepted.now.program) }
-    ensures fits { result ≢ Err DeriveFault.Long }
+) -> Result<Option<Outcome>, Memory>
+    ensures derived { IfOk result (λ found. IfSome found (IsDerivation accepted.now.program (tree normal.now.body))) }
+    ensures grown { GrowsByNames names.old names.new }
 {
-    let Proposal { steps, last } = proposal;
-    let Some(to) = follow_steps(alloc, accepted, steps.items())? else {
-        return Err(DeriveFault::Unfinished);
+    let steps = match proposals(alloc, names, accepted.program(), &normal.body) {
+        Ok(steps) => steps,
+        Err(Lost::NoStep) => return Ok(None),
+        Err(Lost::Memory) => return Err(Memory),
     };
-    if !same_proc(&to.body, &normal.body) {
-        return Err(DeriveFault::Unfinished);
-    }
-    if !is_below(accepted.program(), last.0) || !is_below(&to, last.0) {
-        return Err(DeriveFault::Unfinished);
-    }
-    if are_below(steps.items(), last.0) {
-        Ok(Outcome { steps, to })
+    let Some(to) = follow(alloc, accepted, steps.items())? else {
+        return Ok(None);
+    };
+    if same_proc(&to.body, &normal.body) {
+        Ok(Some(Outcome { steps, to }))
     } else {
-        Err(DeriveFault::Unfinished)
+        Ok(None)
+    }
+}
+
+/// Steps from the accepted program to the normal one: those of the strategy, or else the first that a search meets.
+fn derivation(
+    alloc: Global,
+    names: &mut Names,
+    accepted: &Accepted,
+    normal: &Program,
+) -> Result<Outcome, Memory>
+    requires { Derivable accepted.now.program.params (tree accepted.now.program.body) (tree normal.now.body) }
+    ensures derived { IfOk result (IsDerivation accepted.now.program (tree normal.now.body)) }
+    ensures grown { GrowsByNames names.old names.new }
+{
+    match proposed(alloc, names, accepted, normal)? {
+        Some(outcome) => Ok(outcome),
+        None => search(alloc, accepted, &normal.body),
+    }
+}
+
+/// Brings names into the table until one has a greater number than this.
+fn cover(alloc: Global, names: &mut Names, last: usize) -> Result<(), Memory>
+    ensures within { OnOk result (last < length names.new) }
+    ensures grown { GrowsByNames names.old names.new }
+{
+    match above(alloc, names, b'd', last) {
+        Ok(_) => Ok(()),
+        // of 2 ^ 64 texts one is new to each table that memory holds
+        Err(_) => Err(Memory),
     }
 }
 
 /// A derivation of the normal program from an accepted program, whose normal table is given: steps, each by a law, that lead from the
 /// one to the other. The names of both, and of all steps' parts, stand in the table of names afterwards, which is the one before with
 /// names of the language behind it; and the lines of the steps can be read. `Long` comes exactly where the normal program has more than
-/// 4,096 controls. `Unfinished` comes where the strategy finds no way.
+/// 4,096 controls. A strategy proposes the steps; where it has none, all rows of steps are tried until one is a derivation, which may
+/// take longer than anybody waits.
 pub fn derive(
     alloc: Global,
     names: &mut Names,
@@ -113,22 +91,21 @@ pub fn derive(
 ) -> Result<Outcome, DeriveFault>
     requires params { table.now.params ≡ accepted.now.program.params }
     requires normal { IsNormalWith names.old table.now }
+    requires stands { StandsFor table.now accepted.now.program }
     ensures derived { IfOk result (IsDerivation accepted.now.program (normal_of names.old table.now)) }
     ensures grown { OnOk result (GrowsByNames names.old names.new) }
     ensures writable { IfOk result (CanBeWritten names.new accepted.now.program) }
     ensures fits { OnOk result (controls (normal_of names.old table.now) ≤ 4096) }
     ensures long { result ≡ Err DeriveFault.Long → 4096 < controls (normal_of names.old table.now) }
-    ensures short { result ≡ Err DeriveFault.Unfinished → controls (normal_of names.old table.now) ≤ 4096 }
 {
     parts_are_known_up_to_their_greatest_name();
+    normal_programs_are_derivable();
     let normal = match target(alloc, names, accepted, table) {
         Ok(normal) => normal,
         Err(TargetFault::Long) => return Err(DeriveFault::Long),
         Err(TargetFault::Memory) => return Err(DeriveFault::Memory),
     };
-    match proposals(alloc, names, accepted.program(), &normal.body) {
-        Ok(proposal) => checked(alloc, accepted, &normal, proposal),
-        Err(Lost::NoStep) => Err(DeriveFault::Unfinished),
-        Err(Lost::Memory) => Err(DeriveFault::Memory),
-    }
+    let outcome = derivation(alloc, names, accepted, &normal)?;
+    cover(alloc, names, last_name(accepted.program(), &outcome))?;
+    Ok(outcome)
 }

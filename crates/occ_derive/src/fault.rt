@@ -7,9 +7,6 @@ pub enum DeriveFault {
     /// The normal program has more than 4,096 controls.
     #[error("the normal program is too long")]
     Long,
-    /// The strategy found no way to the normal program.
-    #[error("the strategy found no way")]
-    Unfinished,
     /// Out of memory.
     #[error("out of memory")]
     Memory,

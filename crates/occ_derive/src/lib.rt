@@ -7,10 +7,12 @@ mod ending;
 mod fault;
 mod frame;
 mod inputs;
+mod last;
 mod node;
 mod settle;
 mod states;
 mod whole;
 
-pub use checking::{derive, read_path};
+pub use checking::derive;
 pub use fault::DeriveFault;
+pub use last::read_path;

@@ -1,6 +1,5 @@
 //! The whole strategy: from a program to its normal program.
 
-ghost use Rattle.std.specs.Prelude.{◌<◌, IfOk, OnOk, length};
 ghost use Rattle.occ_fresh.specs.Growth.{GrowsByNames};
 
 use crate::build::{Cases, add, both_of, choices_in, identities, joined, zeros};
@@ -21,13 +20,6 @@ use std::alloc::Global;
 
 /// How deep the strategy goes at most.
 const FUEL: u32 = 1_000_000;
-
-/// Steps that are proposed, and the last of all names in them.
-#[derive(Drop)]
-pub(crate) struct Proposal {
-    pub(crate) steps: Dones,
-    pub(crate) last: Name,
-}
 
 /// What a declaration governs.
 fn body_of(alloc: Global, part: Proc) -> Result<Proc, Lost> {
@@ -217,17 +209,15 @@ fn names_in(
     Ok(all)
 }
 
-/// Steps from a program to its normal program, whose body is given, as the strategy proposes them. The last name stands in the table
-/// afterwards.
+/// Steps from a program to its normal program, whose body is given, as the strategy proposes them.
 #[tactic(auto, using(occ_fresh::proofs::Growing::grows_on))]
 pub(crate) fn proposals(
     alloc: Global,
     names: &mut Names,
     program: &Program,
     normal: &Proc,
-) -> Result<Proposal, Lost>
-    ensures within { IfOk result (λ proposal. proposal.last.0 < length names.new) }
-    ensures grown { OnOk result (GrowsByNames names.old names.new) }
+) -> Result<Dones, Lost>
+    ensures grown { GrowsByNames names.old names.new }
 {
     let params = program.params.items();
     let targets = targets(alloc, normal)?;
@@ -248,9 +238,5 @@ pub(crate) fn proposals(
         params: program.params.copy(alloc)?,
     };
     derived(&mut trail, &view, (stand_in, Width::Bool), body)?;
-    let steps = trail.into_steps();
-    Ok(Proposal {
-        steps,
-        last: stand_in,
-    })
+    Ok(trail.into_steps())
 }

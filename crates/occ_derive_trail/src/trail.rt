@@ -9,11 +9,8 @@ use occ_base::{List, Memory};
 use occ_law::LawId;
 use occ_script_path::{Direction, Path};
 use occ_script_write::Done;
-use occ_syntax::{Proc, controls};
+use occ_syntax::Proc;
 use std::alloc::Global;
-
-/// How many controls the parts of all steps may have together: a script of them has some hundred million bytes.
-const MOST_CONTROLS: u64 = 8_000_000;
 
 /// Steps in order.
 pub type Dones = List<Done>;
@@ -24,7 +21,6 @@ pub struct Trail {
     alloc: Global,
     steps: Dones,
     place: Vec<u32>,
-    left: u64,
 }
 
 #[tactic(auto, unfolding(crate::specs::Trails::going))]
@@ -37,7 +33,6 @@ impl Trail {
             alloc,
             steps: Dones::new(alloc),
             place: Vec::new(alloc),
-            left: MOST_CONTROLS,
         }
     }
 
@@ -61,15 +56,14 @@ impl Trail {
         let _ = self.place.pop();
     }
 
-    /// A law used forward: it makes the present part this one. `NoStep` comes where the parts of all steps are larger together than a
-    /// derivation may be.
+    /// A law used forward: it makes the present part this one.
     pub fn forward(&mut self, law: LawId, part: &Proc) -> Result<(), Lost>
         ensures { IfOk result (λ done. HasMoved (going self.old) (going self.new) law.0 direction.Forward (tree part.now)) }
     {
         self.step(law, Direction::Forward, part)
     }
 
-    /// A law used backward: it makes the present part this one. `NoStep` comes as it does forward.
+    /// A law used backward: it makes the present part this one.
     pub fn backward(&mut self, law: LawId, part: &Proc) -> Result<(), Lost>
         ensures { IfOk result (λ done. HasMoved (going self.old) (going self.new) law.0 direction.Backward (tree part.now)) }
     {
@@ -79,11 +73,6 @@ impl Trail {
     fn step(&mut self, law: LawId, dir: Direction, part: &Proc) -> Result<(), Lost>
         ensures { IfOk result (λ done. HasMoved (going self.old) (going self.new) law.0 dir (tree part.now)) }
     {
-        let size = controls(part);
-        if self.left < size {
-            return Err(Lost::NoStep);
-        }
-        self.left -= size;
         let path = copied(self.alloc, self.place.as_slice())?;
         let part = part.copy(self.alloc)?;
         self.steps.push(Done {

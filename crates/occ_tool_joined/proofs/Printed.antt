@@ -2,10 +2,13 @@
 use Rattle.std.proofs.Common.{◌≡◌, ℕ, ◌≤◌, List, [], length, Option, Some, refl, sym, ap, subst, ◌∙◌, arith}
 use Rattle.std.specs.Prelude.{codes}
 use Rattle.std.specs.List.{AllByRecursion}
+use Rattle.occ_derive_moves.specs.Moves.{AreNarrow}
+use Rattle.occ_derive_steps.specs.Steps.{Steps}
 use Rattle.occ_engine.specs.Moved.{moves_of, orders_of}
 use Rattle.occ_engine_rules.specs.Expansion.{IsExpanded}
-use Rattle.occ_engine_rules.specs.Moves.{Moves}
+use Rattle.occ_engine_rules.specs.Moves.{Move, Moves}
 use Rattle.occ_engine_rules.specs.Orders.{Follows}
+use Rattle.occ_base.specs.declared.names.Name.{Name}
 use Rattle.occ_engine_written.specs.First.{AreWritten, IsFirstProgram}
 use Rattle.occ_fresh.specs.Growth.{GrowsByNames}
 use Rattle.occ_parse_rules.specs.Places.{Place}
@@ -19,9 +22,11 @@ use Rattle.occ_script_joined.specs.Joined.{AreWrittenMoves, IsJoined as IsJoined
 use Rattle.occ_script_write.specs.declared.writing.Done.{Done}
 use Rattle.occ_script_write.specs.Text.{IsWritable, script_text}
 use Rattle.occ_script_write_back.specs.Said.{IsSaid, IsShortPath}
+use Rattle.occ_syntax.specs.declared.scope.Kind.{Kind}
 use Rattle.occ_syntax.specs.declared.scope.Program.{Program as Stored}
+use Rattle.occ_syntax.specs.Tree.{Tree}
 use Rattle.occ_syntax.specs.View.{tree}
-use Rattle.occ_tool_joined.specs.Joined.{IsJoined, IsPrintedNarrow}
+use Rattle.occ_tool_joined.specs.Joined.{IsJoined, IsJoinedWhereNarrow, IsPrintedNarrow}
 use Rattle.occ_tool_joined.proofs.Asked.{PathLaw, derive_asked, expand_asked, path_asked, replay_asked, transform_asked}
 use Rattle.occ_tool_joined.proofs.Replayed.{IsDerived, OneLaw, replay_joined}
 use Rattle.occ_tool_run.proofs.Accepting.{keeps_usage, read_typed}
@@ -60,6 +65,9 @@ abbrev pub KnownLaw : Type 0
 KnownLaw = (names new : Table) (from to : Stored) (steps : List Done) → IsFirstProgram names from → GrowsByNames names new → AllByRecursion (IsWritable new) steps
     → AllByRecursion IsSaid steps → Moves from.params (tree from.body) (moves_of steps) (tree to.body) → to.name ≡ from.name → to.params ≡ from.params → AreWritten new from steps to
 
+abbrev pub NarrowLaw : Type 0
+NarrowLaw = (S : List (Name × Kind)) (p q : Tree) (moves : List Move) → Steps S p moves q → AreNarrow moves → Moves S p moves q
+
 -- ---- what was printed
 
 -- a script of moves that are written, from the program of a file
@@ -71,6 +79,17 @@ record IsPrinted (file : Option (List ℕ)) (text : List ℕ) : Type 0 where
   steps : List Done
   to : Stored
   moves : AreWritten names from steps to
+  text_is : text ≡ script_text names from steps to
+
+-- a script of steps that are written where their lines are narrow
+record IsPrintedOut (file : Option (List ℕ)) (text : List ℕ) : Type 0 where
+  first : Table
+  from : Stored
+  is_accepted : IsAccepted file [] first (seen from)
+  names : Table
+  steps : List Done
+  to : Stored
+  moves : AreNarrow (moves_of steps) → AreWritten names from steps to
   text_is : text ≡ script_text names from steps to
 
 derived : PrintedLaw → (names : Table) (from to : Stored) (steps : List Done) (text : List ℕ) → AreWritten names from steps to
@@ -111,6 +130,14 @@ join law one file text later words script p short j e = record {
   count = length p.steps;
   script = record { first = p.first; from = p.from; accepted = p.is_accepted; names = p.names; steps = p.steps; to = p.to; text_is = p.text_is; as_many = refl };
   alone = joined_alone one later words script text (length p.steps) j e (derived law p.names p.from p.to p.steps text p.moves p.text_is short);
+}
+
+join_where_narrow : PrintedLaw → OneLaw → (file : Option (List ℕ)) (text : List ℕ) (later : Files) (words : Table) (script : List ℕ) → IsPrintedOut file text
+    → length text ≤ most_script_bytes → job_of words ≡ Some (replay script) → later script ≡ Some text → IsJoinedWhereNarrow later words file text
+join_where_narrow law one file text later words script p short j e = record {
+  count = length p.steps;
+  script = record { first = p.first; from = p.from; accepted = p.is_accepted; names = p.names; steps = p.steps; to = p.to; text_is = p.text_is; as_many = refl };
+  alone = λ narrow. joined_alone one later words script text (length p.steps) j e (derived law p.names p.from p.to p.steps text (p.moves narrow) p.text_is short);
 }
 
 -- ---- answers with status 0
@@ -160,13 +187,20 @@ expand_printed law file path names p answer text narrow short a z e (blocked b i
 expand_printed law file path names p answer text narrow short a z e (expanded steps to x s) =
     printed file names names p to steps answer text a s e (law names path p to steps (first_program file names p narrow a) short x s.name s.params)
 
-derive_printed : KnownLaw → (file : Option (List ℕ)) (names : Table) (p : Stored) (answer : _) (text : List ℕ) → IsPrintedNarrow file → IsAccepted file [] names (seen p)
-    → status_of answer ≡ 0 → text ≡ text_of answer → normal.IsDerived names p answer → IsPrinted file text
-derive_printed law file names p answer text narrow a z e (normal.long body n c is) = absurd (refusing answer 3 z (ap status_of is) (omega arith))
-derive_printed law file names p answer text narrow a z e (normal.unfinished body n c is) = absurd (refusing answer 3 z (ap status_of is) (omega arith))
-derive_printed law file names p answer text narrow a z e (normal.derived new steps to n c moves k s) =
-    printed file names new p to steps answer text a s e
-    (law names new p to steps (first_program file names p narrow a) k.grown k.written k.said moves s.name s.params)
+derive_printed : NarrowLaw → KnownLaw → (file : Option (List ℕ)) (names : Table) (p : Stored) (answer : _) (text : List ℕ) → IsPrintedNarrow file
+    → IsAccepted file [] names (seen p) → status_of answer ≡ 0 → text ≡ text_of answer → normal.IsDerived names p answer → IsPrintedOut file text
+derive_printed few law file names p answer text narrow a z e (normal.long body n c is) = absurd (refusing answer 3 z (ap status_of is) (omega arith))
+derive_printed few law file names p answer text narrow a z e (normal.derived new steps to n c taken k s) = record {
+  first = names;
+  from = p;
+  is_accepted = a;
+  names = new;
+  steps = steps;
+  to = to;
+  moves = λ thin. law names new p to steps (first_program file names p narrow a) k.grown k.written k.said
+      (few p.params (tree p.body) (tree to.body) (moves_of steps) taken thin) s.name s.params;
+  text_is = script_written new p to steps answer text s e;
+}
 
 -- the program is accepted, and the rest decides
 stored : (file : Option (List ℕ)) (names : Table) (p : Program) (q : Stored) → p ≡ seen q → IsAccepted file [] names p → IsAccepted file [] names (seen q)
@@ -184,11 +218,12 @@ expand_taken law file path answer text narrow short z e (refused fault r is) = a
 expand_taken law file path answer text narrow short z e (unusable new line fault u is) = absurd (refusing answer 3 z (ap status_of is) (omega arith))
 expand_taken law file path answer text narrow short z e (accepted new p a h) = expand_printed law file path new h.stored answer text narrow short (stored file new p h.stored h.program_is a) z e h.answered
 
-derive_taken : KnownLaw → (file : Option (List ℕ)) (answer : _) (text : List ℕ) → IsPrintedNarrow file → status_of answer ≡ 0
-    → text ≡ text_of answer → Takes First file [] (OfStored normal.IsDerived) answer → IsPrinted file text
-derive_taken law file answer text narrow z e (refused fault r is) = absurd (refusing answer 3 z (ap status_of is) (omega arith))
-derive_taken law file answer text narrow z e (unusable new line fault u is) = absurd (refusing answer 3 z (ap status_of is) (omega arith))
-derive_taken law file answer text narrow z e (accepted new p a h) = derive_printed law file new h.stored answer text narrow (stored file new p h.stored h.program_is a) z e h.answered
+derive_taken : NarrowLaw → KnownLaw → (file : Option (List ℕ)) (answer : _) (text : List ℕ) → IsPrintedNarrow file → status_of answer ≡ 0
+    → text ≡ text_of answer → Takes First file [] (OfStored normal.IsDerived) answer → IsPrintedOut file text
+derive_taken few law file answer text narrow z e (refused fault r is) = absurd (refusing answer 3 z (ap status_of is) (omega arith))
+derive_taken few law file answer text narrow z e (unusable new line fault u is) = absurd (refusing answer 3 z (ap status_of is) (omega arith))
+derive_taken few law file answer text narrow z e (accepted new p a h) =
+    derive_printed few law file new h.stored answer text narrow (stored file new p h.stored h.program_is a) z e h.answered
 
 -- ---- the whole
 
@@ -210,11 +245,11 @@ expanded_joined one law expansion paths files later words again program path scr
     join law one (files program) text later again script
     (expand_taken expansion (files program) path a.answer text narrow (path_asked paths words program path j) z a.text_is t) short k e
 
-pub derived_joined : OneLaw → PrintedLaw → KnownLaw → (files later : Files) (words again : Table) (program script text : List ℕ)
+pub derived_joined : OneLaw → PrintedLaw → NarrowLaw → KnownLaw → (files later : Files) (words again : Table) (program script text : List ℕ)
     → job_of words ≡ Some (derive program) → Answers files words 0 text → IsPrintedNarrow (files program) → length text ≤ most_script_bytes
-    → job_of again ≡ Some (replay script) → later script ≡ Some text → IsJoined later again (files program) text
-derived_joined one law known files later words again program script text j a narrow short k e =
+    → job_of again ≡ Some (replay script) → later script ≡ Some text → IsJoinedWhereNarrow later again (files program) text
+derived_joined one law few known files later words again program script text j a narrow short k e =
     let t = derive_asked files words a.answer program j a.is in
     let z : status_of a.answer ≡ 0 = sym a.status_is in
-    join law one (files program) text later again script
-    (derive_taken known (files program) a.answer text narrow z a.text_is t) short k e
+    join_where_narrow law one (files program) text later again script
+    (derive_taken few known (files program) a.answer text narrow z a.text_is t) short k e

@@ -1,5 +1,7 @@
 -- A script that was printed, and what its replay is answered with.
 use Rattle.std.specs.Prelude.{ℕ, ◌≡◌, List, [], length, Option, codes}
+use Rattle.occ_derive_moves.specs.Moves.{AreNarrow}
+use Rattle.occ_engine.specs.Moved.{moves_of}
 use Rattle.occ_print_back.specs.Back.{IsNarrow}
 use Rattle.occ_script_write.specs.declared.writing.Done.{Done}
 use Rattle.occ_script_write.specs.Text.{script_text}
@@ -31,4 +33,11 @@ pub record IsJoined (files : Files) (words : List (List ℕ)) (file : Option (Li
   pub count : ℕ
   pub script : IsScriptFrom file text count
   pub alone : (status : ℕ) (answer : List ℕ) → Answers files words status answer
+      → (status ≡ 0) × (answer ≡ figure_text (codes "JOINED") count)
+
+-- The same, where no printed line of a part of its steps has more than 4,096 tokens.
+pub record IsJoinedWhereNarrow (files : Files) (words : List (List ℕ)) (file : Option (List ℕ)) (text : List ℕ) : Type 0 where
+  pub count : ℕ
+  pub script : IsScriptFrom file text count
+  pub alone : AreNarrow (moves_of script.steps) → (status : ℕ) (answer : List ℕ) → Answers files words status answer
       → (status ≡ 0) × (answer ≡ figure_text (codes "JOINED") count)

@@ -3,11 +3,12 @@
 #![tactic(auto)]
 
 ghost use Rattle.std.specs.Prelude.{ℕ, ◌≡◌, ◌≤◌, List, Some, length};
-ghost use Rattle.occ_tool_joined.specs.Joined.{IsJoined, IsPrintedNarrow};
+ghost use Rattle.occ_tool_joined.specs.Joined.{IsJoined, IsJoinedWhereNarrow, IsPrintedNarrow};
 ghost use Rattle.occ_tool_run.specs.Answers.{Answers};
 ghost use Rattle.occ_tool_run.specs.Files.{Files, most_script_bytes};
 ghost use Rattle.occ_tool_words.specs.Words.{derive, expand, job_of, replay, transform};
 
+use occ_derive_steps::narrow_steps_are_moves;
 use occ_engine_written::{
     expansions_are_written, followed_orders_are_written, known_moves_are_written,
     paths_of_texts_are_short,
@@ -42,13 +43,15 @@ pub fn expanded_scripts_are_joined()
     expansions_are_written();
 }
 
-/// The same of words that ask for the derivation of a normal program.
+/// The same of words that ask for the derivation of a normal program, where no printed line of a part of its steps has more than 4,096
+/// tokens either.
 pub fn derived_scripts_are_joined()
     ensures { (files later : Files) (words again : List (List ℕ)) (program script text : List ℕ)
         → job_of words ≡ Some (derive program) → Answers files words 0 text
         → IsPrintedNarrow (files program) → length text ≤ most_script_bytes
-        → job_of again ≡ Some (replay script) → later script ≡ Some text → IsJoined later again (files program) text }
+        → job_of again ≡ Some (replay script) → later script ≡ Some text → IsJoinedWhereNarrow later again (files program) text }
 {
+    narrow_steps_are_moves();
     scripts_have_one_answer();
     printed_moves_are_joined();
     known_moves_are_written();

@@ -29,6 +29,6 @@ derived_written names p o h = record { first = h.first; steps = h.steps; last = 
 pub derived_script : (r : Result Answer Memory) (names new : List (List ℕ)) (p : Program) (o : Outcome) (body : Tree) → IsNormalBody names p body
     → controls body ≤ 4096 → IsDerivation p body o → GrowsByNames names new → IsDerivedIn new p o → IfOk r (IsScriptOf new p o.steps o.to) → IfOk r (IsDerived names p)
 derived_script (Ok a) names new p o body n few d g w h =
-    derived new o.steps o.to (subst (IsNormalBody names p) (sym d.to_is) n) (subst (λ b. controls b ≤ 4096) (sym d.to_is) few) d.outcome_is.moves
+    derived new o.steps o.to (subst (IsNormalBody names p) (sym d.to_is) n) (subst (λ b. controls b ≤ 4096) (sym d.to_is) few) d.outcome_is.steps
     (record { grown = g; written = w.steps; said = w.said }) h
 derived_script (Err m) names new p o body n few d g w h = tt

@@ -5,6 +5,8 @@ use Rattle.std.proofs.lemmas.List.{length-append}
 use Rattle.occ_base.specs.declared.memory.Memory.{Memory}
 use Rattle.occ_base.specs.declared.names.Name.{Name}
 use Rattle.occ_behaviour.specs.declared.behaviour.Side.TheVariants.{First}
+use Rattle.occ_derive_check.specs.Derivations.{IsDerived}
+use Rattle.occ_derive_steps.specs.Steps.{Steps}
 use Rattle.occ_engine.specs.declared.fault.EngineFault.{EngineFault}
 use Rattle.occ_engine.specs.declared.fault.EngineFault.TheVariants as engine
 use Rattle.occ_engine.specs.declared.outcome.Outcome.{Outcome}
@@ -185,18 +187,30 @@ expanded_written kept law names p path o a h is out =
 
 -- ---- scripts
 
+abbrev pub MovesLaw : Type 0
+MovesLaw = (S : List (Name × Kind)) (p q : Tree) (moves : List Move) → Moves S p moves q → Steps S p moves q
+
+-- what an engine made is derived by steps
+pub derived_of : MovesLaw → (p : Program) (o : Outcome) → IsOutcome p o → IsDerived p o
+derived_of law p o is = record {
+  name = is.name;
+  params = is.params;
+  steps = law p.params (tree p.body) (tree o.to.body) (moves_of o.steps) is.moves;
+  tabled = is.tabled;
+}
+
 abbrev pub SameLaw : Type 0
-SameLaw = (S : List (Name × Kind)) (p q : Tree) (moves : List Move) → scope_kept S ≡ true → Keeps (environment S) p → Moves S p moves q
+SameLaw = (S : List (Name × Kind)) (p q : Tree) (moves : List Move) → scope_kept S ≡ true → Keeps (environment S) p → Steps S p moves q
     → SAME (environment S) p q
 
 -- what was written is the script of the steps
 pub script_of : SameLaw → (names : Table) (p from : Program) (o : Outcome) (items : List Done) (text : Vec ℕ Global) → from ≡ p
-    → items ≡ o.steps → IsAcceptedProgram p → IsOutcome p o
+    → items ≡ o.steps → IsAcceptedProgram p → IsDerived p o
     → text.items ≡ script_text names from items o.to → IsScriptOf names p o.steps o.to (Written text)
 script_of law names p from o items text e same a is h = record {
   name = is.name;
   params = is.params;
-  same = law p.params (tree p.body) (tree o.to.body) (moves_of o.steps) a.typed.scope a.keeps is.moves;
+  same = law p.params (tree p.body) (tree o.to.body) (moves_of o.steps) a.typed.scope a.keeps is.steps;
   text = text;
   text_is = h ∙ (λ i. script_text names (e i) (same i) o.to);
   answer_is = refl;

@@ -1,8 +1,8 @@
 -- The answer to a program whose normal program is to be derived.
 use Rattle.std.specs.Prelude.{ℕ, ◌≡◌, ◌≤◌, ◌<◌, List}
 use Rattle.std.specs.List.{AllByRecursion}
+use Rattle.occ_derive_steps.specs.Steps.{Steps}
 use Rattle.occ_engine.specs.Moved.{moves_of}
-use Rattle.occ_engine_rules.specs.Moves.{Moves}
 use Rattle.occ_fresh.specs.Growth.{GrowsByNames}
 use Rattle.occ_nform_program.specs.Tabled.{IsTableOf}
 use Rattle.occ_nform_table.specs.declared.table.Table.{Table}
@@ -15,7 +15,7 @@ use Rattle.occ_syntax.specs.Tree.{Tree}
 use Rattle.occ_syntax.specs.View.{tree}
 use Rattle.occ_target.specs.Program.{normal_body}
 use Rattle.occ_tool_run.specs.declared.answer.Answer.{Answer}
-use Rattle.occ_tool_run.specs.declared.answer.Answer.TheVariants.{Long, Unfinished}
+use Rattle.occ_tool_run.specs.declared.answer.Answer.TheVariants.{Long}
 use Rattle.occ_tool_run.specs.Transforms.{IsScriptOf}
 
 -- The body of the normal program of a program: that of its normal table.
@@ -30,12 +30,10 @@ pub record AreSteps (old new : List (List ℕ)) (steps : List Done) : Type 0 whe
   pub written : AllByRecursion (IsWritable new) steps
   pub said : AllByRecursion IsSaid steps
 
--- The answer to an accepted program whose normal program is to be derived: it has more than 4,096 controls; or no derivation was found;
--- or steps lead from the program to it, and the answer is the script that says so. The names of its steps are those of a table that
--- has grown.
+-- The answer to an accepted program whose normal program is to be derived: it has more than 4,096 controls; or steps lead from the
+-- program to it, each by a law, and the answer is the script that says so. The names of its steps are those of a table that has grown.
 pub data IsDerived (names : List (List ℕ)) (p : Program) (answer : Answer) : Type 0 where
   long : (body : Tree) → IsNormalBody names p body → 4096 < controls body → answer ≡ Long → IsDerived names p answer
-  unfinished : (body : Tree) → IsNormalBody names p body → controls body ≤ 4096 → answer ≡ Unfinished → IsDerived names p answer
   derived : (new : List (List ℕ)) (steps : List Done) (to : Program) → IsNormalBody names p (tree to.body) → controls (tree to.body) ≤ 4096
-      → Moves p.params (tree p.body) (moves_of steps) (tree to.body) → AreSteps names new steps → IsScriptOf new p steps to answer
+      → Steps p.params (tree p.body) (moves_of steps) (tree to.body) → AreSteps names new steps → IsScriptOf new p steps to answer
       → IsDerived names p answer

@@ -30,7 +30,7 @@ use Rattle.occ_script.specs.declared.fault.ScriptFault.{ScriptFault}
 use Rattle.occ_script.specs.declared.fault.ScriptFault.TheVariants as script
 use Rattle.occ_tool_words.specs.Words.{shape_text}
 use Rattle.occ_tool_run.specs.declared.answer.Answer.{Answer}
-use Rattle.occ_tool_run.specs.declared.answer.Answer.TheVariants.{Usage, Refused, Unusable, TooLong, RefusedTable, RefusedClaim, InterfacesDiffer, Compared, Written, Counted, Member, Stressed, Allowed, Sought, RefusedScript, Joined, Unjoined, RefusedSchedule, Stepped, RefusedOrders, RefusedOrder, RefusedPath, Long, Unfinished}
+use Rattle.occ_tool_run.specs.declared.answer.Answer.TheVariants.{Usage, Refused, Unusable, TooLong, RefusedTable, RefusedClaim, InterfacesDiffer, Compared, Written, Counted, Member, Stressed, Allowed, Sought, RefusedScript, Joined, Unjoined, RefusedSchedule, Stepped, RefusedOrders, RefusedOrder, RefusedPath, Long}
 use Rattle.occ_tool_run.specs.declared.reason.Reason.{Reason}
 use Rattle.occ_tool_run.specs.declared.reason.Reason.TheVariants.{NoLaw, NoPath, NotPar, NotAccepted, NotApplicable}
 
@@ -222,7 +222,6 @@ told (RefusedOrders fault) = (3, script_refusal_text Second fault)
 told (RefusedOrder number reason) = (3, order_refusal_text number reason)
 told (RefusedPath reason) = (3, path_refusal_text reason)
 told Long = (3, codes "REFUSED FIRST 1 Long\n")
-told Unfinished = (3, codes "REFUSED FIRST 1 Unfinished\n")
 
 abbrev pub status_of : Answer → ℕ
 status_of answer = (told answer).0
@@ -263,4 +262,3 @@ IsPrintable (RefusedOrders fault) = ScriptFaultIsTold fault
 IsPrintable (RefusedOrder number reason) = Unit {0}
 IsPrintable (RefusedPath reason) = Unit {0}
 IsPrintable Long = Unit {0}
-IsPrintable Unfinished = Unit {0}

@@ -90,8 +90,6 @@ pub enum Answer {
     RefusedPath(Reason),
     /// The normal program of the program has more than 4,096 controls.
     Long,
-    /// No derivation of the normal program was found.
-    Unfinished,
 }
 
 /// The status of an answer.
@@ -127,7 +125,7 @@ pub fn status(answer: &Answer) -> u8
         },
         Answer::RefusedOrders(_) | Answer::RefusedOrder { .. } => 3,
         Answer::RefusedPath(_) => 3,
-        Answer::Long | Answer::Unfinished => 3,
+        Answer::Long => 3,
     }
 }
 
@@ -172,7 +170,6 @@ pub fn text(alloc: Global, answer: Answer) -> Result<Vec<u8>, Memory>
         Answer::RefusedOrder { order, reason } => order_refusal(alloc, order, reason),
         Answer::RefusedPath(reason) => path_refusal(alloc, reason),
         Answer::Long => Ok(Vec::from_slice(alloc, b"REFUSED FIRST 1 Long\n")?),
-        Answer::Unfinished => Ok(Vec::from_slice(alloc, b"REFUSED FIRST 1 Unfinished\n")?),
     }
 }
 

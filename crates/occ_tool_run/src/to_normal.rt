@@ -44,7 +44,6 @@ fn derive_program(alloc: Global, names: Names, accepted: &Accepted) -> Result<An
     match occ_derive::derive(alloc, &mut names, accepted, &table) {
         Ok(outcome) => script(alloc, &names, accepted, &outcome),
         Err(DeriveFault::Long) => Ok(Answer::Long),
-        Err(DeriveFault::Unfinished) => Ok(Answer::Unfinished),
         Err(DeriveFault::Memory) => Err(Memory),
     }
 }

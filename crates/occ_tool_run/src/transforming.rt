@@ -1,7 +1,7 @@
 //! Programs transformed by laws: orders that are followed, and a PAR that is expanded. The answer is the script of what was done.
 
 ghost use Rattle.std.specs.Prelude.{◌≡◌, ◌≢◌, ◌≤◌, ℕ, List, Option, Some, IfOk, length};
-ghost use Rattle.occ_engine.specs.Outcomes.{IsOutcome};
+ghost use Rattle.occ_derive_check.specs.Derivations.{IsDerived};
 ghost use Rattle.occ_script.specs.declared.fault.ScriptFault.TheVariants as script;
 ghost use Rattle.occ_tool_run.specs.Answers.{Expands, Transforms};
 ghost use Rattle.occ_tool_run.specs.Files.{IsLoaded, IsShort, most_bytes, most_script_bytes};
@@ -15,12 +15,12 @@ use crate::load::Loaded;
 use crate::reason::Reason;
 use occ_base::{Memory, Names};
 use occ_behaviour::Side;
+use occ_derive_steps::{moves_are_steps, steps_keep_the_meaning};
 use occ_engine::{EngineFault, Outcome};
 use occ_engine_known::{
     expansions_have_known_names, followed_orders_have_known_names, kept_parts_have_known_names,
     names_stay_below, read_programs_have_known_names,
 };
-use occ_engine_rules::moves_keep_the_meaning;
 use occ_script::{ScriptFault, orders};
 use occ_script_path::Path;
 use occ_script_write::write;
@@ -77,6 +77,7 @@ fn transform_bytes(
     ensures printable { IfOk result IsPrintable }
     ensures usage { IfOk result (λ answer. answer ≢ Answer.Usage) }
 {
+    moves_are_steps();
     names_stay_below();
     kept_parts_have_known_names();
     followed_orders_have_known_names();
@@ -150,6 +151,7 @@ fn expand_program(
     ensures printable { IfOk result IsPrintable }
     ensures usage { IfOk result (λ answer. answer ≢ Answer.Usage) }
 {
+    moves_are_steps();
     kept_parts_have_known_names();
     expansions_have_known_names();
     match occ_engine::expand(alloc, accepted, path) {
@@ -176,20 +178,20 @@ fn refuse_path(fault: EngineFault) -> Result<Answer, Memory>
     Ok(Answer::RefusedPath(reason))
 }
 
-/// The script of what an engine made of an accepted program.
+/// The script of steps from an accepted program.
 pub fn script(
     alloc: Global,
     names: &Names,
     accepted: &Accepted,
     outcome: &Outcome,
 ) -> Result<Answer, Memory>
-    requires outcome { IsOutcome accepted.now.program outcome.now }
+    requires outcome { IsDerived accepted.now.program outcome.now }
     requires known { CanBeWritten names.now accepted.now.program outcome.now }
     ensures written { IfOk result (IsScriptOf names.now accepted.now.program outcome.now.steps outcome.now.to) }
     ensures printable { IfOk result IsPrintable }
     ensures usage { IfOk result (λ answer. answer ≢ Answer.Usage) }
 {
-    moves_keep_the_meaning();
+    steps_keep_the_meaning();
     let from = accepted.program();
     let text = write(alloc, names, from, outcome.steps.items(), &outcome.to)?;
     Ok(Answer::Written(text))

@@ -5,4 +5,4 @@ pub returns : goal.returns
 returns c =
     derived_joined c.scripts_have_one_answer.ensures
     (record { kept = c.printed_moves_are_joined.ensures.kept; joined = c.printed_moves_are_joined.ensures.joined })
-    c.known_moves_are_written.ensures
+    c.narrow_steps_are_moves.ensures c.known_moves_are_written.ensures

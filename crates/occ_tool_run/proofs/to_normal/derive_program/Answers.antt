@@ -1,6 +1,6 @@
 use Rattle.std.proofs.Common.{Err, ap, refl}
 use Rattle.occ_tool_run.proofs.Deriving.{derived_script, derived_written, normal_body_of}
-use Rattle.occ_tool_run.specs.Derived.{long, unfinished}
+use Rattle.occ_tool_run.specs.Derived.{long}
 use Rattle.occ_tool_run.proofs.to_normal.derive_program.Goals as goal
 
 pub normal_table-requires-clause-interface : goal.normal_table-requires-clause-interface
@@ -14,6 +14,9 @@ derive-requires-clause-params c = c.in_ok-table.ensures.params_are
 
 pub derive-requires-clause-normal : goal.derive-requires-clause-normal
 derive-requires-clause-normal c = c.in_ok-table.ensures.normal
+
+pub derive-requires-clause-stands : goal.derive-requires-clause-stands
+derive-requires-clause-stands c = c.in_ok-table.ensures.stands
 
 pub script-requires-clause-outcome : goal.script-requires-clause-outcome
 script-requires-clause-outcome c = c.in-Ok.ensures.derived.outcome_is
@@ -30,7 +33,3 @@ returns-in-Ok-clause-derived c =
 pub returns-in-Err-Long-clause-derived : goal.returns-in-Err-Long-clause-derived
 returns-in-Err-Long-clause-derived c =
     long _ (normal_body_of c.args.names c.args.accepted.now.program c.in_ok-table.table c.in_ok-table.ensures) (c.in-Err-Long.ensures.long (ap Err c.in-Err-Long.field-0-is)) refl
-
-pub returns-in-Err-Unfinished-clause-derived : goal.returns-in-Err-Unfinished-clause-derived
-returns-in-Err-Unfinished-clause-derived c =
-    unfinished _ (normal_body_of c.args.names c.args.accepted.now.program c.in_ok-table.table c.in_ok-table.ensures) (c.in-Err-Unfinished.ensures.short (ap Err c.in-Err-Unfinished.field-0-is)) refl

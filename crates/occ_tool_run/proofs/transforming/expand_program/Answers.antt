@@ -1,6 +1,9 @@
 use Rattle.occ_usage.proofs.Law.{faultless_keeps}
-use Rattle.occ_tool_run.proofs.Engine.{expanded_written, expansion_fault, par_expanded, path_refused}
+use Rattle.occ_tool_run.proofs.Engine.{derived_of, expanded_written, expansion_fault, par_expanded, path_refused}
 use Rattle.occ_tool_run.proofs.transforming.expand_program.Goals as goal
+
+pub script-requires-clause-outcome : goal.script-requires-clause-outcome
+script-requires-clause-outcome c = derived_of c.moves_are_steps.ensures c.args.accepted.now.program c.in-Ok.outcome c.in-Ok.ensures.outcome
 
 pub script-requires-clause-known : goal.script-requires-clause-known
 script-requires-clause-known c =

@@ -16,6 +16,6 @@ write-requires-clause-to c = c.requires.known.last
 pub returns-clause-written : goal.returns-clause-written
 returns-clause-written c =
     let p = c.args.accepted.now.program in
-    script_of c.moves_keep_the_meaning.ensures c.args.names.now p c.program-from.result.now c.args.outcome.now c.items.result.now
+    script_of c.steps_keep_the_meaning.ensures c.args.names.now p c.program-from.result.now c.args.outcome.now c.items.result.now
     c.in_ok-text.text c.program-from.ensures.same c.items.ensures (faultless_keeps p c.args.accepted.now.kept) c.requires.outcome
     c.in_ok-text.ensures

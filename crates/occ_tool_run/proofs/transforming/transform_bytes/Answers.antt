@@ -1,7 +1,7 @@
 use Rattle.std.proofs.Common.{◌<◌, List, length, subst, sym}
 use Rattle.occ_script.specs.declared.script.Order.{Order}
 use Rattle.occ_usage.proofs.Law.{faultless_keeps}
-use Rattle.occ_tool_run.proofs.Engine.{followed_written, names_grown, order_fault, orders_fault_or_memory_told, orders_followed, orders_refused, orders_stopped}
+use Rattle.occ_tool_run.proofs.Engine.{derived_of, followed_written, names_grown, order_fault, orders_fault_or_memory_told, orders_followed, orders_refused, orders_stopped}
 use Rattle.occ_tool_run.proofs.transforming.transform_bytes.Goals as goal
 
 pub refuse_orders-requires : goal.refuse_orders-requires
@@ -14,6 +14,9 @@ returns-in-Err-clause-transformed c =
 
 pub transform-requires : goal.transform-requires
 transform-requires c = record { few = subst (λ (orders : List Order). length orders < 4294967295) (sym c.items.ensures) c.in-Ok.ensures.few }
+
+pub script-requires-clause-outcome : goal.script-requires-clause-outcome
+script-requires-clause-outcome c = derived_of c.moves_are_steps.ensures c.args.accepted.now.program c.in-Ok-transform.outcome c.in-Ok-transform.ensures.outcome
 
 pub script-requires-clause-known : goal.script-requires-clause-known
 script-requires-clause-known c =
