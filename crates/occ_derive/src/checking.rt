@@ -78,11 +78,29 @@ fn cover(alloc: Global, names: &mut Names, last: usize) -> Result<(), Memory>
     }
 }
 
-/// A derivation of the normal program from an accepted program, whose normal table is given: steps, each by a law, that lead from the
-/// one to the other. The names of both, and of all steps' parts, stand in the table of names afterwards, which is the one before with
-/// names of the language behind it; and the lines of the steps can be read. `Long` comes exactly where the normal program has more than
-/// 4,096 controls. A strategy proposes the steps; where it has none, all rows of steps are tried until one is a derivation, which may
-/// take longer than anybody waits.
+/// A derivation from an accepted program to a program of its header to which one leads: steps, each by a law. The names of both, and of
+/// all steps' parts, stand in the table of names afterwards, which is the one before with names of the language behind it; and the lines
+/// of the steps can be read. A strategy proposes the steps, which is made for normal programs; where it has none, all rows of steps are
+/// tried until one is a derivation, which may take longer than anybody waits.
+pub fn derive_to(
+    alloc: Global,
+    names: &mut Names,
+    accepted: &Accepted,
+    normal: &Program,
+) -> Result<Outcome, Memory>
+    requires { Derivable accepted.now.program.params (tree accepted.now.program.body) (tree normal.now.body) }
+    ensures derived { IfOk result (IsDerivation accepted.now.program (tree normal.now.body)) }
+    ensures grown { OnOk result (GrowsByNames names.old names.new) }
+    ensures writable { IfOk result (CanBeWritten names.new accepted.now.program) }
+{
+    parts_are_known_up_to_their_greatest_name();
+    let outcome = derivation(alloc, names, accepted, normal)?;
+    cover(alloc, names, last_name(accepted.program(), &outcome))?;
+    Ok(outcome)
+}
+
+/// A derivation of the normal program from an accepted program, whose normal table is given. `Long` comes exactly where the normal program
+/// has more than 4,096 controls. Otherwise it is as `derive_to` says.
 pub fn derive(
     alloc: Global,
     names: &mut Names,
@@ -98,14 +116,12 @@ pub fn derive(
     ensures fits { OnOk result (controls (normal_of names.old table.now) ≤ 4096) }
     ensures long { result ≡ Err DeriveFault.Long → 4096 < controls (normal_of names.old table.now) }
 {
-    parts_are_known_up_to_their_greatest_name();
     normal_programs_are_derivable();
     let normal = match target(alloc, names, accepted, table) {
         Ok(normal) => normal,
         Err(TargetFault::Long) => return Err(DeriveFault::Long),
         Err(TargetFault::Memory) => return Err(DeriveFault::Memory),
     };
-    let outcome = derivation(alloc, names, accepted, &normal)?;
-    cover(alloc, names, last_name(accepted.program(), &outcome))?;
+    let outcome = derive_to(alloc, names, accepted, &normal)?;
     Ok(outcome)
 }

@@ -13,6 +13,6 @@ mod settle;
 mod states;
 mod whole;
 
-pub use checking::derive;
+pub use checking::{derive, derive_to};
 pub use fault::DeriveFault;
 pub use last::read_path;
