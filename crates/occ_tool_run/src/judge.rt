@@ -41,7 +41,8 @@ pub fn judge(
 ) -> Result<Answer, Memory>
     requires first { IsShort most_bytes first.now }
     requires second { IsShort most_bytes second.now }
-    ensures settles { IfOk result (λ answer. (one two : Option (List ℕ)) → IsLoaded most_bytes one first.now → IsLoaded most_bytes two second.now → Settles question one two answer) }
+    ensures settles { IfOk result (λ answer. (one two : Option (List ℕ)) → IsLoaded most_bytes one first.now
+        → IsLoaded most_bytes two second.now → Settles question one two answer) }
     ensures printable { IfOk result IsPrintable }
     ensures usage { IfOk result (λ answer. answer ≢ Answer.Usage) }
 {

@@ -24,7 +24,8 @@ use std::alloc::Global;
 pub fn belongs(alloc: Global, program: &Loaded, text: &Loaded) -> Result<Answer, Memory>
     requires program { IsShort most_bytes program.now }
     requires text { IsShort most_bytes text.now }
-    ensures judges { IfOk result (λ answer. (one two : Option (List ℕ)) → IsLoaded most_bytes one program.now → IsLoaded most_bytes two text.now → Judges one two answer) }
+    ensures judges { IfOk result (λ answer. (one two : Option (List ℕ)) → IsLoaded most_bytes one program.now
+        → IsLoaded most_bytes two text.now → Judges one two answer) }
     ensures printable { IfOk result IsPrintable }
     ensures usage { IfOk result (λ answer. answer ≢ Answer.Usage) }
 {
@@ -45,7 +46,8 @@ fn judge_text(
     requires short { IsShort most_bytes text.now }
     requires distinct { IsDistinct names.now }
     requires interface { HasInterface names.now accepted.now.program }
-    ensures judged { IfOk result (λ answer. (bytes : List ℕ) → IsLoaded most_bytes (Some bytes) text.now → IsJudged bytes names.now (seen accepted.now.program) answer) }
+    ensures judged { IfOk result (λ answer. (bytes : List ℕ) → IsLoaded most_bytes (Some bytes) text.now
+        → IsJudged bytes names.now (seen accepted.now.program) answer) }
     ensures printable { IfOk result IsPrintable }
     ensures usage { IfOk result (λ answer. answer ≢ Answer.Usage) }
 {
