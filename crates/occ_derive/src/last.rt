@@ -53,8 +53,8 @@ fn last_in_params(params: &[(Name, Kind)]) -> usize
     ensures { AllByRecursion (ParamIsBelow result) params.now }
 {
     let mut last = 0;
-    for (name, _) in params {
-        last = greater(last, name.0);
+    for param in params {
+        last = greater(last, param.0.0);
     }
     last
 }

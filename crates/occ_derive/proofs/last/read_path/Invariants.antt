@@ -1,6 +1,6 @@
 use Rattle.std.proofs.Common.{take}
 use Rattle.occ_script_write_back.specs.Said.{IsShortPath}
-use Rattle.occ_derive.proofs.checking.read_path.Given as goal
+use Rattle.occ_derive.proofs.last.read_path.Given as goal
 
 -- the numbers so far have 32 bits
 abbrev pub invariant-loop-number : goal.invariant-loop-number
