@@ -1,10 +1,10 @@
 -- Steps, moves and rows, and what holds along steps.
-use Rattle.std.proofs.Common.{◌≡◌, ◌∙◌, ℕ, true, List, [], ◌∷◌, ◌++◌, refl, sym, subst}
+use Rattle.std.proofs.Common.{◌≡◌, ◌∙◌, ℕ, true, List, [], ◌∷◌, ◌++◌, refl, sym}
 use Rattle.occ_base.specs.declared.names.Name.{Name}
 use Rattle.occ_derive_moves.proofs.Keeping.{AreSound, good_keeps}
 use Rattle.occ_derive_moves.specs.Moves.{AreNarrow, IsGood, IsUse, Works, and_use, in_the_open, no_use, sparingly}
 use Rattle.occ_derive_steps.specs.Steps.{IsStep, Steps, and_step, no_step}
-use Rattle.occ_engine_rules.specs.Moves.{IsMove, Move, Moves, and_move, no_move}
+use Rattle.occ_engine_rules.specs.Moves.{Move, Moves, and_move, no_move}
 use Rattle.occ_meaning.proofs.Alike.{same_back, same_itself, same_through}
 use Rattle.occ_meaning.specs.Context.{put}
 use Rattle.occ_replay_rules.specs.Steps.{Joins}
