@@ -1,14 +1,15 @@
--- Moves go on, and lead back.
-use Rattle.std.proofs.Common.{◌≡◌, ◌∙◌, ℕ, List, [], ◌∷◌, ◌++◌, sym, ap, subst, reverse}
+-- Steps lead back.
+use Rattle.std.proofs.Common.{◌≡◌, ◌∙◌, ℕ, List, [], ◌∷◌, sym, ap, subst, reverse}
 use Rattle.std.proofs.lemmas.Grind.{reverse_onto}
-use Rattle.std.specs.List.{AllByRecursion}
 use Rattle.occ_base.specs.declared.names.Name.{Name}
-use Rattle.occ_engine_rules.specs.Moves.{IsMove, Move, Moves, and_move, no_move}
+use Rattle.occ_derive_steps.proofs.Steps.{go_on}
+use Rattle.occ_derive_steps.specs.Steps.{IsStep, Steps, and_step, no_step}
+use Rattle.occ_engine_rules.specs.Moves.{Move}
 use Rattle.occ_meaning.proofs.Facts.{some_is}
 use Rattle.occ_meaning.proofs.Places.{put_there}
 use Rattle.occ_meaning.specs.Context.{part_at, put}
 use Rattle.occ_prove_steps.proofs.Back.{put_back, scope_in}
-use Rattle.occ_prove_steps.specs.Undone.{AreUndone, IsNarrow, IsUndone, opposite}
+use Rattle.occ_prove_steps.specs.Undone.{AreUndone, IsUndone, opposite}
 use Rattle.occ_replay_rules.specs.Steps.{Joins}
 use Rattle.occ_script_path.specs.declared.direction.Direction.{Direction}
 use Rattle.occ_script_path.specs.declared.direction.Direction.TheVariants as direction
@@ -23,10 +24,10 @@ joins_back : (dir : Direction) (n : ℕ) (S : List (Name × Kind)) (old new : Tr
 joins_back direction.Forward n S old new j = j
 joins_back direction.Backward n S old new j = j
 
--- a move can be undone
-back_moves : (S : List (Name × Kind)) (p : Tree) (move back : Move) → Keeps (environment S) p → IsUndone p move back → IsNarrow back → IsMove S p move
-    → IsMove S (put move.path p move.part) back
-back_moves S p move back k u n m =
+-- a step can be undone
+step_back : (S : List (Name × Kind)) (p : Tree) (move back : Move) → Keeps (environment S) p → IsUndone p move back → IsStep S p move
+    → IsStep S (put move.path p move.part) back
+step_back S p move back k u m =
     let w = put move.path p move.part in
     let old : m.old ≡ back.part = some_is (sym m.there ∙ u.part) in
     let joined : Joins (opposite move.dir) move.law (scope_list move.path S w) move.part back.part =
@@ -36,34 +37,28 @@ back_moves S p move back k u n m =
     record {
       old = move.part;
       there = ap (λ z. part_at z w) u.path ∙ put_there move.path p back.part move.part u.part;
-      admitted = record {
-        keeps = subst (Keeps (environment S)) (sym (ap (λ z. put z w back.part) u.path ∙ put_back move.path p back.part move.part u.part)) k;
-        narrow = n;
-      };
+      keeps = subst (Keeps (environment S)) (sym (ap (λ z. put z w back.part) u.path ∙ put_back move.path p back.part move.part u.part)) k;
       joins = subst (λ d. Joins d back.law (scope_list back.path S w) move.part back.part) (sym u.dir)
           (subst (λ l. Joins (opposite move.dir) l (scope_list back.path S w) move.part back.part) (sym u.law)
           (subst (λ z. Joins (opposite move.dir) move.law (scope_list z S w) move.part back.part) (sym u.path) joined));
     }
 
-pub go_on : (S : List (Name × Kind)) (p q r : Tree) (moves more : List Move) → Moves S p moves q → Moves S q more r → Moves S p (moves ++ more) r
-go_on S p q r moves more (no_move a) further = further
-go_on S p q r moves more (and_move a b move rest m on) further = and_move a r move (rest ++ more) m (go_on S (put move.path a move.part) b r rest more on further)
-
--- one move back
-one_back : (S : List (Name × Kind)) (p : Tree) (move back : Move) → Keeps (environment S) p → IsUndone p move back → IsNarrow back → IsMove S p move
-    → Moves S (put move.path p move.part) (back ∷ []) p
-one_back S p move back k u n m =
+-- one step back
+one_back : (S : List (Name × Kind)) (p : Tree) (move back : Move) → Keeps (environment S) p → IsUndone p move back → IsStep S p move
+    → Steps S (put move.path p move.part) (back ∷ []) p
+one_back S p move back k u m =
     let w = put move.path p move.part in
-    and_move w p back [] (back_moves S p move back k u n m)
-    (subst (λ z. Moves S z [] p) (sym (ap (λ z. put z w back.part) u.path ∙ put_back move.path p back.part move.part u.part)) (no_move p))
+    and_step w p back [] (step_back S p move back k u m)
+    (subst (λ z. Steps S z [] p) (sym (ap (λ z. put z w back.part) u.path ∙ put_back move.path p back.part move.part u.part)) (no_step p))
 
-pub lead_back : (S : List (Name × Kind)) (p q : Tree) (moves back : List Move) → Keeps (environment S) p → Moves S p moves q → AreUndone p moves back
-    → AllByRecursion IsNarrow back → Moves S q (reverse back) p
-lead_back S p q moves [] k (no_move a) u n = no_move a
-lead_back S p q moves (b ∷ back) k (no_move a) u n = absurd u
-lead_back S p q moves [] k (and_move a c move rest m on) u n = absurd u
-lead_back S p q moves (b ∷ back) k (and_move a c move rest m on) u n =
-    subst (λ bs. Moves S c bs a) (sym (reverse_onto back b []))
+-- the steps that undo others, the last one first, lead back
+pub lead_back : (S : List (Name × Kind)) (p q : Tree) (moves back : List Move) → Keeps (environment S) p → Steps S p moves q → AreUndone p moves back
+    → Steps S q (reverse back) p
+lead_back S p q moves [] k (no_step a) u = no_step a
+lead_back S p q moves (b ∷ back) k (no_step a) u = absurd u
+lead_back S p q moves [] k (and_step a c move rest m on) u = absurd u
+lead_back S p q moves (b ∷ back) k (and_step a c move rest m on) u =
+    subst (λ bs. Steps S c bs a) (sym (reverse_onto back b []))
     (go_on S c (put move.path a move.part) a (reverse back) (b ∷ [])
-    (lead_back S (put move.path a move.part) c rest back m.admitted.keeps on u.1 n.1)
-    (one_back S a move b k u.0 n.0 m))
+    (lead_back S (put move.path a move.part) c rest back m.keeps on u.1)
+    (one_back S a move b k u.0 m))

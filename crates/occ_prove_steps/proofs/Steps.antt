@@ -1,26 +1,25 @@
 -- Steps undone, and steps joined with others.
-use Rattle.std.proofs.Common.{◌≡◌, ◌∙◌, ◌-◌, ◌^◌, ℕ, zero, suc, ◌<◌, ◌≤◌, List, [], ◌∷◌, ◌++◌, length, get_or, reverse, Some, None, refl, sym, ap, subst, append_assoc, append-nil, arith}
-use Rattle.std.proofs.Math.Nat.{min-le_left}
+use Rattle.std.proofs.Common.{◌≡◌, ◌∙◌, ℕ, ◌≤◌, List, [], ◌∷◌, ◌++◌, length, reverse, Some, None, refl, sym, ap, subst, append_assoc, append-nil}
 use Rattle.std.proofs.lemmas.Grind.{reverse_onto}
 use Rattle.std.proofs.lemmas.List.{map-append}
 use Rattle.std.specs.List.{AllByRecursion}
 use Rattle.occ_base.specs.declared.names.Name.{Name}
-use Rattle.occ_engine.proofs.Ranging.{first_move, outcome_of}
+use Rattle.occ_derive_check.specs.Derivations.{IsDerived}
+use Rattle.occ_derive_steps.proofs.Steps.{begun}
+use Rattle.occ_derive_steps.specs.Steps.{Steps}
 use Rattle.occ_engine.specs.declared.outcome.Outcome.{Outcome}
 use Rattle.occ_engine.specs.Moved.{move_of, moves_of}
-use Rattle.occ_engine.specs.Outcomes.{IsOutcome}
-use Rattle.occ_engine_rules.specs.Moves.{Move, Moves}
+use Rattle.occ_engine.specs.Outcomes.{IsTabled}
+use Rattle.occ_engine_rules.specs.Moves.{Move}
 use Rattle.occ_meaning.proofs.Facts.{none_not_some, some_is}
 use Rattle.occ_meaning.specs.Context.{child, part_at, put}
 use Rattle.occ_print.proofs.Lists.{all-append}
 use Rattle.occ_print.specs.Known.{PartIsKnown}
-use Rattle.occ_print.specs.Lines.{most_symbols, part_lines}
 use Rattle.occ_prove_steps.specs.Joined.{AreWritable, HaveOneHeader, IsProof}
-use Rattle.occ_prove_steps.specs.Undone.{AreUndone, IsNarrow, IsUndone}
+use Rattle.occ_prove_steps.specs.Undone.{AreUndone, IsUndone}
 use Rattle.occ_script_joined.proofs.Known.{child_known, put_known}
 use Rattle.occ_script_write.specs.declared.writing.Done.{Done}
 use Rattle.occ_script_write.specs.Text.{IsWritable}
-use Rattle.occ_syntax.specs.Counts.{capped}
 use Rattle.occ_syntax.specs.declared.scope.Kind.{Kind}
 use Rattle.occ_syntax.specs.declared.scope.Program.{Program}
 use Rattle.occ_syntax.specs.Scopes.{environment}
@@ -31,15 +30,15 @@ use Rattle.std.specs.Option.{option_and_then}
 
 -- ---- undone one after the other
 
--- Of the moves from one process to another these are left, and those before them have been undone.
+-- Of the steps from one process to another these are left, and those before them have been undone.
 pub record IsReturning (S : List (Name × Kind)) (p q : Tree) (all left : List Move) (here : Tree) (back : List Move) : Type 0 where
-  pub led : Moves S here left q
+  pub led : Steps S here left q
   pub undone : (rest : List Move) → AreUndone here left rest → AreUndone p all (back ++ rest)
 
 pub goes_back : (S : List (Name × Kind)) (p q here next : Tree) (all left back now : List Move) (move b : Move) → next ≡ put move.path here move.part → now ≡ back ++ b ∷ [] → IsUndone here move b
     → IsReturning S p q all (move ∷ left) here back → IsReturning S p q all left next now
 goes_back S p q here next all left back now move b e f u r = record {
-  led = subst (λ z. Moves S z left q) (sym e) (first_move S here q move left r.led).1;
+  led = subst (λ z. Steps S z left q) (sym e) (begun S here q move left r.led).1;
   undone = λ rest v.
       subst (AreUndone p all) (sym (append_assoc back (b ∷ []) rest) ∙ ap (λ bs. bs ++ rest) (sym f)) (r.undone (b ∷ rest) (u, subst (λ z. AreUndone z left rest) e v));
 }
@@ -90,36 +89,41 @@ moves_reversed (s ∷ steps) =
     ap moves_of (reverse_onto steps s []) ∙ (map-append move_of (reverse steps) (s ∷ []) ∙ (ap (λ ms. ms ++ move_of s ∷ []) (moves_reversed steps)
     ∙ sym (reverse_onto (moves_of steps) (move_of s) [])))
 
+-- what was undone has laws of the table, where the steps have
+back_tabled : (p : Tree) (steps back : List Done) → AllByRecursion IsTabled steps → AreUndone p (moves_of steps) (moves_of back) → AllByRecursion IsTabled back
+back_tabled p [] [] h u = tt
+back_tabled p [] (b ∷ back) h u = absurd u
+back_tabled p (s ∷ steps) [] h u = absurd u
+back_tabled p (s ∷ steps) (b ∷ back) h u = (
+  record { low = subst (λ n. 1 ≤ n) (sym u.0.law) h.0.low; high = subst (λ n. n ≤ 63) (sym u.0.law) h.0.high },
+  back_tabled (put s.path p (tree s.part)) steps back h.1 u.1,
+)
+
 abbrev pub GoOn : Type 0
-GoOn = (S : List (Name × Kind)) (p q r : Tree) (moves more : List Move) → Moves S p moves q → Moves S q more r → Moves S p (moves ++ more) r
+GoOn = (S : List (Name × Kind)) (p q r : Tree) (moves more : List Move) → Steps S p moves q → Steps S q more r → Steps S p (moves ++ more) r
 
 abbrev pub LeadBack : Type 0
-LeadBack = (S : List (Name × Kind)) (p q : Tree) (moves back : List Move) → Keeps (environment S) p → Moves S p moves q
-    → AreUndone p moves back → AllByRecursion IsNarrow back → Moves S q (reverse back) p
+LeadBack = (S : List (Name × Kind)) (p q : Tree) (moves back : List Move) → Keeps (environment S) p → Steps S p moves q → AreUndone p moves back
+    → Steps S q (reverse back) p
 
+-- steps to one process from both programs, the second's undone behind the first's, lead from the one program to the other
 pub joined_proof : GoOn → LeadBack → (left right : Program) (there o : Outcome) (back all : List Done) → all ≡ there.steps ++ reverse back → HaveOneHeader left right
-    → IsOutcome left there → IsOutcome right o → tree there.to.body ≡ tree o.to.body → Keeps (environment right.params) (tree right.body)
-    → AreUndone (tree right.body) (moves_of o.steps) (moves_of back) → AllByRecursion IsNarrow (moves_of back) → IsProof left right all
-joined_proof go_on lead_back left right there o back all e header a b meet k u n =
-    let returns : Moves right.params (tree o.to.body) (reverse (moves_of back)) (tree right.body) =
-    lead_back right.params (tree right.body) (tree o.to.body) (moves_of o.steps) (moves_of back) k b.moves u n in
-    let here : Moves left.params (tree there.to.body) (reverse (moves_of back)) (tree right.body) =
-    subst (λ z. Moves left.params z (reverse (moves_of back)) (tree right.body)) (sym meet)
-    (subst (λ S. Moves S (tree o.to.body) (reverse (moves_of back)) (tree right.body)) (sym header.1) returns) in
-    let whole : Moves left.params (tree left.body) (moves_of there.steps ++ reverse (moves_of back)) (tree right.body) =
-    go_on left.params (tree left.body) (tree there.to.body) (tree right.body) (moves_of there.steps) (reverse (moves_of back)) a.moves here in
+    → IsDerived left there → IsDerived right o → tree there.to.body ≡ tree o.to.body → Keeps (environment right.params) (tree right.body)
+    → AreUndone (tree right.body) (moves_of o.steps) (moves_of back) → IsProof left right all
+joined_proof go_on lead_back left right there o back all e header a b meet k u =
+    let returns : Steps right.params (tree o.to.body) (reverse (moves_of back)) (tree right.body) =
+    lead_back right.params (tree right.body) (tree o.to.body) (moves_of o.steps) (moves_of back) k b.steps u in
+    let here : Steps left.params (tree there.to.body) (reverse (moves_of back)) (tree right.body) =
+    subst (λ z. Steps left.params z (reverse (moves_of back)) (tree right.body)) (sym meet)
+    (subst (λ S. Steps S (tree o.to.body) (reverse (moves_of back)) (tree right.body)) (sym header.1) returns) in
+    let whole : Steps left.params (tree left.body) (moves_of there.steps ++ reverse (moves_of back)) (tree right.body) =
+    go_on left.params (tree left.body) (tree there.to.body) (tree right.body) (moves_of there.steps) (reverse (moves_of back)) a.steps here in
     let same : moves_of all ≡ moves_of there.steps ++ reverse (moves_of back) =
     ap moves_of e ∙ (map-append move_of there.steps (reverse back) ∙ ap (λ ms. moves_of there.steps ++ ms) (moves_reversed back)) in
-    outcome_of left (record { steps = all; to = right }) (sym header.0) (sym header.1)
-    (subst (λ ms. Moves left.params (tree left.body) ms (tree right.body)) (sym same) whole)
-
--- ---- lines that are too long
-
-pub wide : (steps : List Done) (i n : ℕ) (s : Done) → i < length steps → get_or steps i s ≡ s → n ≡ capped (most_symbols (part_lines 0 (tree s.part))) → 4096 < n
-    → AllByRecursion IsNarrow (moves_of steps) → ⊥
-wide [] i n s l e f m h = absurd (omega (arith, l))
-wide (t ∷ steps) zero n s l e f m h =
-    let narrow : most_symbols (part_lines 0 (tree s.part)) ≤ 4096 = subst (λ (z : Done). most_symbols (part_lines 0 (tree z.part)) ≤ 4096) e h.0 in
-    let least = min-le_left (most_symbols (part_lines 0 (tree s.part))) (2 ^ 64 - 1) in
-    absurd (omega (arith, m, f, narrow, least))
-wide (t ∷ steps) (suc i) n s l e f m h = wide steps i n s (omega (arith, l)) e f m h.1
+    record {
+      name = sym header.0;
+      params = sym header.1;
+      steps = subst (λ ms. Steps left.params (tree left.body) ms (tree right.body)) (sym same) whole;
+      tabled = subst (AllByRecursion IsTabled) (sym e)
+          (all-append IsTabled there.steps (reverse back) a.tabled (reversed IsTabled back (back_tabled (tree right.body) o.steps back b.tabled u)));
+    }

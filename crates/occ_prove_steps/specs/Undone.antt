@@ -1,8 +1,7 @@
 -- Moves that are undone.
-use Rattle.std.specs.Prelude.{◌≡◌, ◌≤◌, List, [], ◌∷◌, Some}
+use Rattle.std.specs.Prelude.{◌≡◌, List, [], ◌∷◌, Some}
 use Rattle.occ_engine_rules.specs.Moves.{Move}
 use Rattle.occ_meaning.specs.Context.{part_at, put}
-use Rattle.occ_print.specs.Lines.{most_symbols, part_lines}
 use Rattle.occ_script_path.specs.declared.direction.Direction.{Direction}
 use Rattle.occ_script_path.specs.declared.direction.Direction.TheVariants as direction
 use Rattle.occ_syntax.specs.Tree.{Tree}
@@ -25,7 +24,3 @@ AreUndone p [] [] = Unit {0}
 AreUndone p [] (back ∷ others) = ⊥
 AreUndone p (move ∷ moves) [] = ⊥
 AreUndone p (move ∷ moves) (back ∷ others) = IsUndone p move back × AreUndone (put move.path p move.part) moves others
-
--- no printed line of the part that is put in has more tokens than a line of a text may have
-abbrev pub IsNarrow : Move → Type 0
-IsNarrow move = most_symbols (part_lines 0 move.part) ≤ 4096

@@ -1,15 +1,15 @@
 //! Steps from one accepted program to another.
 
-ghost use Rattle.std.specs.Prelude.{◌≡◌, ◌↔◌, ◌++◌, ℕ, List, reverse, IfNone, IfOk, IfSome, IsTrue};
-ghost use Rattle.occ_engine.specs.Moved.{moves_of};
-ghost use Rattle.occ_engine.specs.Outcomes.{IsOutcome};
+ghost use Rattle.std.specs.Prelude.{◌≡◌, ◌↔◌, ◌++◌, ℕ, List, reverse, IfOk, IsTrue};
+ghost use Rattle.occ_derive_check.specs.Derivations.{IsDerived};
 ghost use Rattle.occ_print.specs.Known.{ProgramIsKnown};
-ghost use Rattle.occ_prove_steps.specs.Joined.{AreWritable, HaveOneHeader, IsProof, IsTooWide};
+ghost use Rattle.occ_prove_steps.specs.Joined.{AreWritable, HaveOneHeader, IsProof};
 ghost use Rattle.occ_syntax.specs.View.{tree};
 
-use crate::laws::{moves_go_on, undone_moves_lead_back};
-use crate::returning::{are_narrow, undone};
+use crate::laws::undone_steps_lead_back;
+use crate::returning::undone;
 use occ_base::{Memory, Name};
+use occ_derive_steps::steps_go_on;
 use occ_engine::{Dones, Outcome};
 use occ_script_write::Done;
 use occ_syntax::{Kind, Program};
@@ -61,30 +61,26 @@ fn behind(there: Dones, back: Vec<Done>) -> Result<Dones, Memory>
 }
 
 /// Steps from one accepted program to another of the same header, where steps from both lead to one process: those of the first, and
-/// behind them those of the second undone, the last one first. None comes where a part that is put back has a line that is too long.
+/// behind them those of the second undone, the last one first.
 pub fn joined(
     alloc: Global,
     left: &Accepted,
     right: &Accepted,
     there: Outcome,
     back: &Outcome,
-) -> Result<Option<Dones>, Memory>
-    requires there { IsOutcome left.now.program there }
-    requires back { IsOutcome right.now.program back.now }
+) -> Result<Dones, Memory>
+    requires there { IsDerived left.now.program there }
+    requires back { IsDerived right.now.program back.now }
     requires header { HaveOneHeader left.now.program right.now.program }
     requires meet { tree there.to.body ≡ tree back.now.to.body }
-    ensures proof { IfOk result (λ found. IfSome found (IsProof left.now.program right.now.program)) }
+    ensures proof { IfOk result (λ steps. IsProof left.now.program right.now.program steps) }
     ensures writable { (names : List (List ℕ)) → AreWritable names there.steps → AreWritable names back.now.steps
         → ProgramIsKnown names right.now.program.name.0 right.now.program.params (tree right.now.program.body)
-        → IfOk result (λ found. IfSome found (AreWritable names)) }
-    ensures wide { IfOk result (λ found. IfNone found (IsTooWide (tree right.now.program.body) (moves_of back.now.steps))) }
+        → IfOk result (AreWritable names) }
 {
-    moves_go_on();
-    undone_moves_lead_back();
+    steps_go_on();
+    undone_steps_lead_back();
     let back = undone(alloc, right.program(), back)?;
-    if !are_narrow(back.as_slice()) {
-        return Ok(None);
-    }
     let Outcome { steps, to: _ } = there;
-    Ok(Some(behind(steps, back)?))
+    behind(steps, back)
 }

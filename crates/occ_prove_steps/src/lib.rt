@@ -6,4 +6,4 @@ mod laws;
 mod returning;
 
 pub use joining::{have_one_header, joined};
-pub use laws::{moves_go_on, undone_moves_lead_back};
+pub use laws::undone_steps_lead_back;

@@ -1,5 +1,5 @@
 use Rattle.occ_prove_steps.proofs.Moving.{lead_back}
-use Rattle.occ_prove_steps.proofs.laws.undone_moves_lead_back.Goals as goal
+use Rattle.occ_prove_steps.proofs.laws.undone_steps_lead_back.Goals as goal
 
 pub returns : goal.returns
 returns c = lead_back
