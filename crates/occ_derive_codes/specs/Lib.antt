@@ -1,1 +1,7 @@
 pub mod Codes
+pub mod Digits
+pub mod Longer
+pub mod Items
+pub mod Piles
+pub mod Seen
+pub mod Standin
