@@ -1,4 +1,4 @@
-ghost use Rattle.std.specs.Prelude.{◌≡◌};
+ghost use Rattle.std.specs.Prelude.{◌≡◌, slice_get};
 ghost use Rattle.occ_derive_codes.specs.Digits.{told};
 
 use crate::Direction;
@@ -116,9 +116,14 @@ pub const INSTRUCTIONS: [Instruction; 42] = [
 ];
 
 /// What a digit tells; None where it is none.
-#[tactic(auto, unfolding(crate::specs::Digits::told))]
 pub(crate) fn instruction_of(digit: u8) -> Option<Instruction>
     ensures { result ≡ told digit }
 {
-    INSTRUCTIONS.get(usize::from(digit)).copied()
+    instruction_at(&INSTRUCTIONS, usize::from(digit))
+}
+
+fn instruction_at(instructions: &[Instruction], place: usize) -> Option<Instruction>
+    ensures { result ≡ slice_get instructions.now place }
+{
+    instructions.get(place).copied()
 }

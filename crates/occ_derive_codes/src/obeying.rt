@@ -1,7 +1,7 @@
 //! The machine follows instructions. One that can't be followed may do anything.
 
 ghost use Rattle.std.specs.Prelude.{◌≡◌, IfOk, Some, ◌<◌};
-ghost use Rattle.occ_derive_codes.specs.Codes.{runs};
+ghost use Rattle.occ_derive_codes.specs.Codes.{follows, runs};
 ghost use Rattle.occ_derive_codes.specs.declared.instruction.Instruction.TheVariants as instruction;
 ghost use Rattle.occ_derive_codes.specs.Piles.{Held, Obeys, width_of};
 ghost use Rattle.occ_derive_codes.specs.Seen.{held};
@@ -322,14 +322,22 @@ impl Machine {
         }
     }
 
-    /// Follows a row of digits, one after the other. What isn't a digit does nothing.
+    /// Follows a digit. What isn't one does nothing.
+    fn obey(&mut self, digit: u8) -> Result<(), Memory>
+        ensures { (next : Held) → follows digit (held self.old) ≡ Some next → IfOk result (λ done. held self.new ≡ next) }
+    {
+        match instruction_of(digit) {
+            Some(instruction) => self.follow(instruction),
+            None => Ok(()),
+        }
+    }
+
+    /// Follows a row of digits, one after the other.
     pub(crate) fn run(&mut self, code: &[u8]) -> Result<(), Memory>
         ensures { (next : Held) → runs code.now (held self.old) ≡ Some next → IfOk result (λ done. held self.new ≡ next) }
     {
         for digit in code {
-            if let Some(instruction) = instruction_of(*digit) {
-                self.follow(instruction)?;
-            }
+            self.obey(*digit)?;
         }
         Ok(())
     }
