@@ -5,7 +5,7 @@ use Rattle.std.specs.Option.{option_and_then}
 use Rattle.occ_derive_codes.specs.declared.instruction.TheConstants.{DIGITS}
 use Rattle.occ_derive_codes.specs.Digits.{told}
 use Rattle.occ_derive_codes.specs.Piles.{Held, does, nothing}
-use Rattle.occ_derive_codes.specs.Standin.{Move}
+use Rattle.occ_engine_rules.specs.Moves.{Move}
 
 -- what a digit makes of what the machine holds, where it is one and can be followed
 abbrev pub follows : ℕ → Held → Option Held

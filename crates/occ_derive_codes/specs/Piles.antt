@@ -5,7 +5,7 @@ use Rattle.occ_base.specs.declared.width.Width.TheVariants.{Bool as TruthValue, 
 use Rattle.occ_derive_codes.specs.declared.instruction.Instruction.{Instruction}
 use Rattle.occ_derive_codes.specs.declared.instruction.Instruction.TheVariants as instruction
 use Rattle.occ_derive_codes.specs.Longer.{longer_alt, longer_assignment, longer_if, longer_row}
-use Rattle.occ_derive_codes.specs.Standin.{Move}
+use Rattle.occ_engine_rules.specs.Moves.{Move}
 use Rattle.occ_syntax.specs.Tree.{Exp, variable, numeral, truth, negation, complement, operation, Waiting, ready, input, output, Tree, skip, stop, assign, receive, send, seq, par, select, alt, declare, connect, no_tree, no_case, no_branch}
 
 -- What the machine holds: a number and one that is kept; piles of expressions, of waits and of parts, the last first; the path of the

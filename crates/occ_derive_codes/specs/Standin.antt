@@ -1,14 +1,7 @@
-use Rattle.std.specs.Prelude.{ℕ, List, map}
-use Rattle.occ_derive_codes.specs.declared.standin.Direction.{Direction}
-use Rattle.occ_derive_codes.specs.declared.standin.Done.{Done}
-use Rattle.occ_syntax.specs.Tree.{Tree}
+use Rattle.std.specs.Prelude.{List, map}
+use Rattle.occ_engine_rules.specs.Moves.{Move}
+use Rattle.occ_script_write.specs.declared.writing.Done.{Done}
 use Rattle.occ_syntax.specs.View.{tree}
-
-pub record Move : Type 0 where
-  pub law : ℕ
-  pub dir : Direction
-  pub path : List ℕ
-  pub part : Tree
 
 abbrev pub move_of : Done → Move
 move_of done = record { law = done.law.0; dir = done.dir; path = done.path; part = tree done.part }

@@ -1,8 +1,9 @@
 ghost use Rattle.std.specs.Prelude.{◌≡◌, List, IfOk};
 ghost use Rattle.occ_derive_codes.specs.Codes.{Spells};
-ghost use Rattle.occ_derive_codes.specs.Standin.{Move, moves_of};
+ghost use Rattle.occ_derive_codes.specs.Standin.{moves_of};
+ghost use Rattle.occ_engine_rules.specs.Moves.{Move};
 
-use crate::Dones;
+use crate::standin::Dones;
 use crate::machine::Machine;
 use occ_base::Memory;
 use std::alloc::Global;

@@ -1,7 +1,7 @@
 ghost use Rattle.std.specs.Prelude.{◌≡◌, slice_get};
 ghost use Rattle.occ_derive_codes.specs.Digits.{told};
 
-use crate::Direction;
+use occ_script_path::Direction;
 use occ_syntax::Op;
 
 /// What a digit tells the machine to do. The machine has a number that grows from 0 and one that is kept, and it puts expressions, waits and

@@ -4,6 +4,7 @@
 
 mod codes;
 mod instruction;
+mod law;
 mod longer;
 mod machine;
 mod obeying;
@@ -11,4 +12,4 @@ mod standin;
 
 pub use codes::steps_of;
 pub use instruction::{DIGITS, INSTRUCTIONS, Instruction};
-pub use standin::{Direction, Done, Dones, Path};
+pub use law::derivations_have_codes;

@@ -6,9 +6,11 @@ ghost use Rattle.occ_derive_codes.specs.Seen.{held};
 ghost use Rattle.occ_derive_codes.specs.Standin.{moves_of};
 ghost use Rattle.occ_syntax.specs.View.{exp, tree, waiting};
 
-use crate::{Direction, Done, Dones, Path};
+use crate::standin::Dones;
 use occ_base::Memory;
 use occ_law::LawId;
+use occ_script_path::{Direction, Path};
+use occ_script_write::Done;
 use occ_syntax::{Expr, Proc, Wait};
 use std::alloc::Global;
 use std::mem::replace;

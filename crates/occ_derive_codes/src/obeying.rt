@@ -11,9 +11,10 @@ use crate::longer::{
     alt_none, if_none, par_none, seq_none, with_alternative, with_choice, with_pair, with_part,
 };
 use crate::machine::Machine;
-use crate::{Direction, Instruction};
+use crate::Instruction;
 use occ_base::{Memory, Name, Width};
 use occ_law::LawId;
+use occ_script_path::Direction;
 use occ_syntax::{Expr, Exprs, Guard, NameList, Op, Proc, Wait};
 
 /// The width of that number of bits; 0 stands for that of a truth value.

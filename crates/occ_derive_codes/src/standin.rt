@@ -1,21 +1,4 @@
 use occ_base::List;
-use occ_law::LawId;
-use occ_syntax::Proc;
-
-#[derive(Clone, Copy, Debug, PartialEq, Eq)]
-pub enum Direction {
-    Forward,
-    Backward,
-}
-
-pub type Path = List<u32>;
+use occ_script_write::Done;
 
 pub type Dones = List<Done>;
-
-#[derive(Debug, Drop)]
-pub struct Done {
-    pub law: LawId,
-    pub dir: Direction,
-    pub path: Path,
-    pub part: Proc,
-}
