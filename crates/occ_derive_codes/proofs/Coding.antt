@@ -1,16 +1,15 @@
 -- Each process that keeps types has a code, and so has each row of steps.
-use Rattle.std.proofs.Common.{◌≡◌, ℕ, suc, zero, ◌<◌, ◌≤◌, arith, true, false, Bool, List, [], ◌∷◌, ◌++◌, Option, None, Some, refl, ap, sym, subst, ◌∙◌, append_assoc}
-use Rattle.std.proofs.lemmas.Bool.{and_parts, lt-ltb}
+use Rattle.std.proofs.Common.{◌≡◌, ℕ, suc, zero, true, List, [], ◌∷◌, ◌++◌, None, Some, refl, ap, sym, subst, ◌∙◌, append_assoc}
+use Rattle.std.proofs.lemmas.Bool.{and_parts}
 use Rattle.std.proofs.lemmas.List.{append-nil}
-use Rattle.std.specs.Prelude.{◌==◌, ◌&&◌, nat_lt, not}
+use Rattle.std.specs.Prelude.{◌==◌, ◌&&◌, not}
 use Rattle.std.specs.List.{list_any}
 use Rattle.occ_base.specs.declared.event.Dir.TheVariants.{Input, Output}
-use Rattle.occ_base.specs.declared.width.Width.{Width}
 use Rattle.occ_derive_codes.proofs.Leading.{Leads, at_once, by, then_on}
 use Rattle.occ_derive_codes.specs.Longer.{longer_row, more_branches, more_cases, more_trees}
-use Rattle.occ_derive_codes.specs.Piles.{Held, and_exp, and_made, and_part, and_wait, begun, does, where_true, width_of}
+use Rattle.occ_derive_codes.specs.Piles.{Held, and_exp, and_made, and_part, and_wait, begun, where_true, width_of}
 use Rattle.occ_derive_codes.specs.declared.instruction.Instruction.TheVariants as instruction
-use Rattle.occ_derive_codes.proofs.Typed.{IsSmall, IsThere, agree_first, agree_second, left_there, numeral_small, right_there, truth_there, width_small, word_there}
+use Rattle.occ_derive_codes.proofs.Typed.{IsThere, agree_first, agree_second, left_there, numeral_small, right_there, truth_there, width_small, word_there}
 use Rattle.occ_syntax.specs.declared.scope.Kind.TheVariants.{Chan, Var}
 use Rattle.occ_syntax.specs.Scopes.{Environment, allows, channel_width, variable_width, with_name}
 use Rattle.occ_syntax.specs.Tree.{Branches, Cases, Exp, Tree, Trees, Waiting, alt, and_branch, and_case, and_tree, assign, complement, connect, declare, input, negation, no_branch, no_case, no_tree, numeral, operation, output, par, ready, receive, select, send, seq, skip, stop, truth, variable}
@@ -23,17 +22,17 @@ count : (n k : ℕ) (s : Held) → Leads (record s { number = 0; kept = k }) (re
 count zero k s = at_once _
 count (suc n) k s = then_on (count n k s) (by instruction.More _ _ refl)
 
--- the number
+-- from the beginning the machine counts to any number
 pub counted : (n : ℕ) (s : Held) → Leads (begun s) (record s { number = n; kept = 0 })
 counted n s = count n 0 s
 
 -- both numbers
-pub both_counted : (k n : ℕ) (s : Held) → Leads (begun s) (record s { number = n; kept = k })
+both_counted : (k n : ℕ) (s : Held) → Leads (begun s) (record s { number = n; kept = k })
 both_counted k n s = then_on (count k 0 s) (then_on (by instruction.Keep _ (record s { number = 0; kept = k }) refl) (count n k s))
 
 -- ---- expressions
 
-pub coded_exp : (Γ : Environment) (e : Exp) → IsThere (type_of Γ e) → (s : Held) → Leads (begun s) (begun (and_exp e s))
+coded_exp : (Γ : Environment) (e : Exp) → IsThere (type_of Γ e) → (s : Held) → Leads (begun s) (begun (and_exp e s))
 coded_exp Γ (variable x) t s = then_on (counted x s) (by instruction.Variable _ _ refl)
 coded_exp Γ (numeral bits value) t s =
     then_on (both_counted bits value s) (by instruction.Word _ _ (ap (λ b. where_true b (Some (begun (and_exp (numeral bits value) s)))) (numeral_small bits value t)))
@@ -44,7 +43,7 @@ coded_exp Γ (operation op left right) t s =
     then_on (coded_exp Γ left (left_there op (type_of Γ left) (type_of Γ right) t) s)
     (then_on (coded_exp Γ right (right_there op (type_of Γ left) (type_of Γ right) t) (and_exp left s)) (by (instruction.Two op) _ _ refl))
 
-pub coded_wait : (Γ : Environment) (w : Waiting) → waiting_kept Γ w ≡ true → (s : Held) → Leads (begun s) (begun (and_wait w s))
+coded_wait : (Γ : Environment) (w : Waiting) → waiting_kept Γ w ≡ true → (s : Held) → Leads (begun s) (begun (and_wait w s))
 coded_wait Γ ready h s = by instruction.Ready _ _ refl
 coded_wait Γ (input c x) h s = then_on (both_counted c x s) (by instruction.Get _ _ refl)
 coded_wait Γ (output c e) h s =
@@ -103,8 +102,8 @@ coded_pairs Γ (x ∷ xs) (e ∷ es) h ys fs s so_far =
     let b = and_parts (agree (variable_width Γ x) (type_of Γ e)) (not (list_any (λ y. x == y) xs)) a.0 in
     let t = agree_second (variable_width Γ x) (type_of Γ e) b.0 in
     let one : Leads (begun s) (begun (and_part (assign (ys ++ x ∷ []) (fs ++ e ∷ [])) s)) =
-        then_on so_far (then_on (coded_exp Γ e t (and_part (assign ys fs) s))
-        (then_on (counted x (and_exp e (and_part (assign ys fs) s))) (by instruction.AndPair _ _ refl))) in
+    then_on so_far (then_on (coded_exp Γ e t (and_part (assign ys fs) s))
+    (then_on (counted x (and_exp e (and_part (assign ys fs) s))) (by instruction.AndPair _ _ refl))) in
     ends_with (assign ((ys ++ x ∷ []) ++ xs) ((fs ++ e ∷ []) ++ es)) (assign (ys ++ x ∷ xs) (fs ++ e ∷ es)) s
     (ap (λ zs. assign zs ((fs ++ e ∷ []) ++ es)) (append_assoc ys (x ∷ []) xs) ∙ ap (assign (ys ++ x ∷ xs)) (append_assoc fs (e ∷ []) es))
     (coded_pairs Γ xs es a.1 (ys ++ x ∷ []) (fs ++ e ∷ []) s one)
@@ -112,6 +111,7 @@ coded_pairs Γ [] (e ∷ es) h ys fs s so_far = cc
 coded_pairs Γ (x ∷ xs) [] h ys fs s so_far = cc
 
 mutual
+  -- a process that keeps types has a code
   pub coded_part : (p : Tree) (Γ : Environment) → types_kept p Γ ≡ true → (s : Held) → Leads (begun s) (begun (and_part p s))
   coded_part skip Γ h s = by instruction.Skip _ _ refl
   coded_part stop Γ h s = by instruction.Stop _ _ refl

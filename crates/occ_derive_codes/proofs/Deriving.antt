@@ -1,25 +1,23 @@
 -- Each derivation has a code.
-use Rattle.std.proofs.Common.{◌≡◌, ℕ, true, List, [], ◌∷◌, ◌++◌, Some, refl, ap, sym, subst, ◌∙◌, append_assoc}
+use Rattle.std.proofs.Common.{◌≡◌, ℕ, true, List, [], ◌∷◌, ◌++◌, Some, refl, ap, sym, subst, append_assoc}
 use Rattle.std.proofs.lemmas.List.{append-nil}
-use Rattle.std.specs.Prelude.{nat_lt}
 use Rattle.occ_base.specs.declared.names.Name.{Name}
 use Rattle.occ_meaning.proofs.Contexts.{part_types}
 use Rattle.occ_meaning.proofs.Places.{put_there}
-use Rattle.occ_meaning.specs.Context.{environment_at, part_at, put}
+use Rattle.occ_meaning.specs.Context.{environment_at, put}
 use Rattle.occ_derive_codes.specs.Codes.{HasCode}
 use Rattle.occ_derive_codes.proofs.Coding.{coded_part, counted}
 use Rattle.occ_derive_codes.proofs.Leading.{Leads, at_once, by, then_on}
 use Rattle.occ_derive_codes.proofs.Numbers.{number_small}
-use Rattle.occ_derive_codes.specs.Piles.{Held, and_part, begun, does, nothing, where_true}
+use Rattle.occ_derive_codes.specs.Piles.{Held, and_part, begun, nothing, where_true}
 use Rattle.occ_derive_codes.specs.declared.instruction.Instruction.TheVariants as instruction
 use Rattle.occ_engine_rules.specs.Moves.{Move}
-use Rattle.occ_derive_steps.specs.Steps.{IsStep, Steps, and_step, no_step}
+use Rattle.occ_derive_steps.specs.Steps.{IsStep, Steps, and_step}
 use Rattle.occ_script_path.specs.Places.{scope_list}
 use Rattle.occ_syntax.specs.declared.scope.Kind.{Kind}
 use Rattle.occ_syntax.specs.Scopes.{Environment, environment}
 use Rattle.occ_syntax.specs.Tree.{Tree}
 use Rattle.occ_syntax.specs.Types.{types_kept}
-use Rattle.occ_syntax.specs.Usage.{Keeps}
 
 -- nothing is held but these steps
 abbrev holding : List Move → Held
@@ -37,9 +35,10 @@ coded_path (k ∷ path) front s =
 
 -- the part of a step keeps types in some environment
 part_typed : (S : List (Name × Kind)) (p : Tree) (move : Move) → IsStep S p move → (Γ : Environment) × (types_kept move.part Γ ≡ true)
-part_typed S p move step =
-    (environment_at move.path (environment S) (put move.path p move.part),
-        part_types move.path (environment S) (put move.path p move.part) move.part step.keeps.types (put_there move.path p step.old move.part step.there))
+part_typed S p move step = (
+  environment_at move.path (environment S) (put move.path p move.part),
+  part_types move.path (environment S) (put move.path p move.part) move.part step.keeps.types (put_there move.path p step.old move.part step.there),
+)
 
 -- a step
 coded_step : (S : List (Name × Kind)) (p : Tree) (move : Move) (front : List Move) → IsStep S p move → Leads (holding front) (holding (front ++ move ∷ []))

@@ -1,5 +1,5 @@
 -- Rows of digits that lead from one state of the machine to another.
-use Rattle.std.proofs.Common.{◌≡◌, ◌<◌, ◌∙◌, ℕ, suc, zero, List, [], ◌∷◌, ◌++◌, Option, None, Some, Bool, true, false, refl, ap, sym, lit<, subst}
+use Rattle.std.proofs.Common.{◌≡◌, ◌<◌, ◌∙◌, ℕ, List, [], ◌∷◌, ◌++◌, Option, None, Some, true, false, refl, ap, lit<}
 use Rattle.std.specs.List.{AllByRecursion}
 use Rattle.std.specs.Option.{option_and_then}
 use Rattle.occ_derive_codes.specs.Codes.{follows, runs}
@@ -9,7 +9,6 @@ use Rattle.occ_derive_codes.specs.Digits.{told}
 use Rattle.occ_derive_codes.specs.declared.instruction.Instruction.{Instruction}
 use Rattle.occ_derive_codes.specs.declared.instruction.Instruction.TheVariants as instruction
 use Rattle.occ_script_path.specs.declared.direction.Direction.TheVariants as direction
-use Rattle.occ_syntax.specs.declared.expr.Op.{Op}
 use Rattle.occ_syntax.specs.declared.expr.Op.TheVariants as op
 
 -- some row of digits leads from one state to the other
@@ -19,10 +18,10 @@ pub record Leads (before after : Held) : Type 0 where
   pub run : runs code before ≡ Some after
 
 -- the digit of an instruction
-pub record IsDigit (i : Instruction) : Type 0 where
-  pub digit : ℕ
-  pub small : digit < DIGITS
-  pub tells : told digit ≡ Some i
+record IsDigit (i : Instruction) : Type 0 where
+  digit : ℕ
+  small : digit < DIGITS
+  tells : told digit ≡ Some i
 
 digit_of : (i : Instruction) → IsDigit i
 unfolding told
@@ -85,22 +84,24 @@ runs_append [] second a b c one two = let e : a ≡ b = cc in ap (runs second) e
 runs_append (digit ∷ first) second a b c one two =
     one_on first second c (follows digit a) b (λ t h. runs_append first second t b c h two) one
 
--- nothing has to be done
+-- no digit leads anywhere else
 pub at_once : (held : Held) → Leads held held
 at_once held = record { code = []; digits = tt; run = refl }
 
--- one behind the other
+-- two rows of digits lead on, one behind the other
 pub then_on : {a b c : Held} → Leads a b → Leads b c → Leads a c
 then_on {a} {b} {c} first second = record {
   code = first.code ++ second.code;
   digits = digits_append (λ digit. digit < DIGITS) first.code second.code first.digits second.digits;
-  run = runs_append first.code second.code a b c first.run second.run }
+  run = runs_append first.code second.code a b c first.run second.run;
+}
 
--- an instruction that can be followed
+-- the digit of an instruction that can be followed leads to what that makes
 pub by : (i : Instruction) (a b : Held) → does i a ≡ Some b → Leads a b
 by i a b h =
     let d : IsDigit i = digit_of i in
     record {
       code = d.digit ∷ [];
       digits = (d.small, tt);
-      run = ap (option_and_then (runs [])) (ap (option_and_then (λ (j : Instruction). does j a)) d.tells ∙ h) }
+      run = ap (option_and_then (runs [])) (ap (option_and_then (λ (j : Instruction). does j a)) d.tells ∙ h);
+    }

@@ -1,5 +1,5 @@
 -- Lists of items with one more at their end, and processes that have no such list.
-use Rattle.std.proofs.Common.{◌≡◌, ℕ, true, false, List, [], ◌∷◌, ◌++◌, Option, None, Some, refl, ap, sym, ◌∙◌}
+use Rattle.std.proofs.Common.{◌≡◌, List, [], ◌∷◌, ◌++◌, Some, refl, ap, sym, ◌∙◌}
 use Rattle.std.proofs.lemmas.List.{map-append}
 use Rattle.occ_base.specs.declared.names.Name.{Name}
 use Rattle.occ_derive_codes.specs.Longer.{longer_alt, longer_assignment, longer_if, longer_row, more_branches, more_cases, more_trees}
@@ -9,7 +9,7 @@ use Rattle.occ_syntax.specs.declared.proc.Alternatives.{Alternatives}
 use Rattle.occ_syntax.specs.declared.proc.Choices.{Choices}
 use Rattle.occ_syntax.specs.declared.proc.Proc.{Alt, If, Par, Proc, Seq}
 use Rattle.occ_syntax.specs.declared.proc.Procs.{Procs}
-use Rattle.occ_syntax.specs.Tree.{Exp, Tree, Waiting, alt, and_branch, and_case, and_tree, assign, connect, declare, par, receive, select, send, seq, skip, stop}
+use Rattle.occ_syntax.specs.Tree.{Tree, alt, and_branch, and_case, and_tree, assign, par, select, seq}
 use Rattle.occ_syntax.proofs.Views.{tree-Alt, tree-If, tree-Par, tree-Seq}
 use Rattle.occ_syntax.specs.View.{branches, cases, exp, exps, in_alternatives, in_choices, in_procs, numbers, tree, trees, waiting}
 
@@ -61,7 +61,7 @@ pub alt_more : (alternatives new : Alternatives) (guard : Guard) (part : Proc) (
     → longer_alt whole (exp guard.condition) (waiting guard.wait) (tree part) ≡ Some next → tree (Alt new) ≡ next
 alt_more alternatives new guard part whole next is g h =
     let made : Some (alt (more_branches (branches (in_alternatives alternatives)) (exp guard.condition) (waiting guard.wait) (tree part))) ≡ Some next =
-        ap (λ q. longer_alt q (exp guard.condition) (waiting guard.wait) (tree part)) (sym is) ∙ h in
+    ap (λ q. longer_alt q (exp guard.condition) (waiting guard.wait) (tree part)) (sym is) ∙ h in
     let same : alt (more_branches (branches (in_alternatives alternatives)) (exp guard.condition) (waiting guard.wait) (tree part)) ≡ next = cc in
     tree-Alt new ∙ ap (λ bs. alt (branches bs)) g ∙ ap alt (branches_more (in_alternatives alternatives) guard part) ∙ same
 

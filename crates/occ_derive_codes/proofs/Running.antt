@@ -1,5 +1,5 @@
 -- A row of digits, followed one after the other.
-use Rattle.std.proofs.Common.{◌≡◌, ◌<◌, ◌≤◌, ◌+◌, ◌∙◌, ℕ, List, [], ◌∷◌, Option, None, Some, refl, ap, sym, drop, get_or, length}
+use Rattle.std.proofs.Common.{◌≡◌, ◌<◌, ◌≤◌, ◌+◌, ◌∙◌, ℕ, List, [], Option, None, Some, refl, ap, sym, drop, get_or, length}
 use Rattle.std.proofs.lemmas.List.{drop_all, drop_more}
 use Rattle.std.specs.Option.{option_and_then}
 use Rattle.occ_derive_codes.specs.Codes.{follows, runs}

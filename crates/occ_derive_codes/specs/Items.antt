@@ -2,7 +2,7 @@
 use Rattle.std.specs.Prelude.{◌≡◌, Bool, true, false}
 use Rattle.occ_derive_codes.specs.declared.longer.Items.{Items}
 use Rattle.occ_derive_codes.specs.declared.longer.Items.TheVariants as items
-use Rattle.occ_syntax.specs.Tree.{Tree, skip, stop, assign, receive, send, seq, par, select, alt, declare, connect}
+use Rattle.occ_syntax.specs.Tree.{Tree, assign, seq, par, select, alt}
 use Rattle.occ_syntax.specs.View.{branches, cases, exps, in_alternatives, in_choices, in_procs, numbers, trees}
 
 -- it may have items

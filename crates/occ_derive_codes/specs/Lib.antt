@@ -4,4 +4,3 @@ pub mod Longer
 pub mod Items
 pub mod Piles
 pub mod Seen
-pub mod Standin

@@ -1,6 +1,6 @@
 -- Processes with one item more at their end.
-use Rattle.std.specs.Prelude.{ℕ, List, [], ◌∷◌, ◌++◌, Option, None, Some}
-use Rattle.occ_syntax.specs.Tree.{Exp, Waiting, Tree, skip, stop, assign, receive, send, seq, par, select, alt, declare, connect, Trees, no_tree, and_tree, Cases, no_case, and_case, Branches, no_branch, and_branch}
+use Rattle.std.specs.Prelude.{ℕ, [], ◌∷◌, ◌++◌, Option, None, Some}
+use Rattle.occ_syntax.specs.Tree.{Exp, Waiting, Tree, assign, seq, par, select, alt, Trees, no_tree, and_tree, Cases, no_case, and_case, Branches, no_branch, and_branch}
 
 abbrev pub more_trees : Trees → Tree → Trees
 more_trees no_tree p = and_tree p no_tree

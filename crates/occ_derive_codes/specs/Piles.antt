@@ -1,5 +1,5 @@
 -- The machine that builds steps, and what each instruction does.
-use Rattle.std.specs.Prelude.{ℕ, suc, zero, Bool, true, false, nat_lt, ◌&&◌, List, [], ◌∷◌, ◌++◌, Option, None, Some, option_map, ◌≡◌, if◌then◌else◌}
+use Rattle.std.specs.Prelude.{ℕ, suc, zero, Bool, true, nat_lt, ◌&&◌, List, [], ◌∷◌, ◌++◌, Option, None, Some, ◌≡◌, if◌then◌else◌}
 use Rattle.occ_base.specs.declared.width.Width.{Width}
 use Rattle.occ_base.specs.declared.width.Width.TheVariants.{Bool as TruthValue, Word}
 use Rattle.occ_derive_codes.specs.declared.instruction.Instruction.{Instruction}
@@ -72,7 +72,8 @@ abbrev pub does : Instruction → Held → Option Held
 does instruction.More held = Some (record held { number = suc held.number })
 does instruction.Keep held = Some (record held { number = 0; kept = held.number })
 does instruction.Variable held = Some (and_exp (variable held.number) (begun held))
-does instruction.Word held = where_true (nat_lt held.kept 256 && nat_lt held.number 256) (Some (and_exp (numeral held.kept held.number) (begun held)))
+does instruction.Word held =
+    where_true (nat_lt held.kept 256 && nat_lt held.number 256) (Some (and_exp (numeral held.kept held.number) (begun held)))
 does (instruction.Truth b) held = Some (and_exp (truth b) held)
 does instruction.Not held = with_exp held (λ e rest. Some (and_exp (negation e) rest))
 does instruction.Flip held = with_exp held (λ e rest. Some (and_exp (complement e) rest))
@@ -83,7 +84,8 @@ does instruction.Put held = with_exp held (λ e rest. Some (and_wait (output res
 does instruction.Skip held = Some (and_part skip held)
 does instruction.Stop held = Some (and_part stop held)
 does instruction.Assign held = Some (and_part (assign [] []) held)
-does instruction.AndPair held = with_exp held (λ e rest. with_part rest (λ whole rest. and_made (longer_assignment whole rest.number e) (begun rest)))
+does instruction.AndPair held =
+    with_exp held (λ e rest. with_part rest (λ whole rest. and_made (longer_assignment whole rest.number e) (begun rest)))
 does instruction.Input held = Some (and_part (receive held.kept held.number) (begun held))
 does instruction.Output held = with_exp held (λ e rest. Some (and_part (send rest.number e) (begun rest)))
 does instruction.Seq held = Some (and_part (seq no_tree) held)
@@ -94,15 +96,19 @@ does instruction.AndChoice held =
     with_exp held (λ e rest. with_part rest (λ p rest. with_part rest (λ whole rest. and_made (longer_if whole e p) rest)))
 does instruction.Alt held = Some (and_part (alt no_branch) held)
 does instruction.AndBranch held =
-    with_exp held (λ e rest. with_wait rest (λ w rest. with_part rest (λ p rest. with_part rest (λ whole rest. and_made (longer_alt whole e w p) rest))))
+    with_exp held (λ e rest. with_wait rest (λ w rest. with_part rest (λ p rest. with_part rest (λ whole rest.
+    and_made (longer_alt whole e w p) rest))))
 does instruction.Var held =
     with_part held (λ p rest. where_true (nat_lt rest.kept 256) (Some (and_part (declare rest.number (width_of rest.kept) p) (begun rest))))
 does instruction.Chan held =
     with_part held (λ p rest. where_true (nat_lt rest.kept 256) (Some (and_part (connect rest.number (width_of rest.kept) p) (begun rest))))
 does instruction.Enter held = Some (record held { number = 0; kept = 0; path = held.path ++ held.number ∷ [] })
 does (instruction.Step dir) held = with_part held (λ p rest. where_true (nat_lt rest.number 256) (Some (record rest {
-  number = 0; kept = 0; path = [];
-  moves = rest.moves ++ record { law = rest.number; dir = dir; path = rest.path; part = p } ∷ [] })))
+  number = 0;
+  kept = 0;
+  path = [];
+  moves = rest.moves ++ record { law = rest.number; dir = dir; path = rest.path; part = p } ∷ [];
+})))
 
 -- one state of the machine leads to the other by an instruction, where it can be followed
 abbrev pub Obeys : Instruction → Held → Held → Type 0

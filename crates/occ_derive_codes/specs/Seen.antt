@@ -2,7 +2,7 @@
 use Rattle.std.specs.Prelude.{List, map, reverse}
 use Rattle.occ_derive_codes.specs.declared.machine.Machine.{Machine}
 use Rattle.occ_derive_codes.specs.Piles.{Held}
-use Rattle.occ_derive_codes.specs.Standin.{moves_of}
+use Rattle.occ_engine.specs.Moved.{moves_of}
 use Rattle.occ_syntax.specs.View.{exp, tree, waiting}
 
 -- a pile, its last item first

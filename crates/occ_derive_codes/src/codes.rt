@@ -1,11 +1,11 @@
 ghost use Rattle.std.specs.Prelude.{◌≡◌, List, IfOk};
 ghost use Rattle.occ_derive_codes.specs.Codes.{Spells};
-ghost use Rattle.occ_derive_codes.specs.Standin.{moves_of};
+ghost use Rattle.occ_engine.specs.Moved.{moves_of};
 ghost use Rattle.occ_engine_rules.specs.Moves.{Move};
 
-use crate::standin::Dones;
 use crate::machine::Machine;
 use occ_base::Memory;
+use occ_engine::Dones;
 use std::alloc::Global;
 
 /// The steps that a row of digits spells. Of a row that spells none the answer says nothing. `Memory` comes too where a step has a path

@@ -4,8 +4,8 @@ ghost use Rattle.occ_derive_codes.specs.Digits.{told};
 use occ_script_path::Direction;
 use occ_syntax::Op;
 
-/// What a digit tells the machine to do. The machine has a number that grows from 0 and one that is kept, and it puts expressions, waits and
-/// parts on three piles. What takes the number or the kept one lets both begin with 0 again.
+/// What a digit tells the machine to do. The machine has a number that grows from 0 and one that is kept, and it puts expressions, waits
+/// and parts on three piles. What takes the number or the kept one lets both begin with 0 again.
 #[derive(Clone, Copy)]
 pub enum Instruction {
     /// The number grows by one.

@@ -8,7 +8,6 @@ mod law;
 mod longer;
 mod machine;
 mod obeying;
-mod standin;
 
 pub use codes::steps_of;
 pub use instruction::{DIGITS, INSTRUCTIONS, Instruction};

@@ -113,7 +113,12 @@ pub(crate) fn with_pair(alloc: Global, whole: Proc, var: Name, value: Expr) -> R
 }
 
 /// An IF with one choice more; of another process some process.
-pub(crate) fn with_choice(alloc: Global, whole: Proc, condition: Expr, part: Proc) -> Result<Proc, Memory>
+pub(crate) fn with_choice(
+    alloc: Global,
+    whole: Proc,
+    condition: Expr,
+    part: Proc,
+) -> Result<Proc, Memory>
     ensures { (next : Tree) → longer_if (tree whole) (exp condition) (tree part) ≡ Some next → IfOk result (λ longer. tree longer ≡ next) }
 {
     match opened(alloc, whole) {
@@ -126,7 +131,12 @@ pub(crate) fn with_choice(alloc: Global, whole: Proc, condition: Expr, part: Pro
 }
 
 /// An ALT with one alternative more; of another process some process.
-pub(crate) fn with_alternative(alloc: Global, whole: Proc, guard: Guard, part: Proc) -> Result<Proc, Memory>
+pub(crate) fn with_alternative(
+    alloc: Global,
+    whole: Proc,
+    guard: Guard,
+    part: Proc,
+) -> Result<Proc, Memory>
     ensures { (next : Tree) → longer_alt (tree whole) (exp guard.condition) (waiting guard.wait) (tree part) ≡ Some next
         → IfOk result (λ longer. tree longer ≡ next) }
 {

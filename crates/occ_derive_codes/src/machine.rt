@@ -1,13 +1,13 @@
 //! The machine: what it holds, and how that is put there and taken.
 
-ghost use Rattle.std.specs.Prelude.{◌≡◌, ◌∷◌, ◌++◌, [], ◌<◌, IfOk, IfSome, IfNone, suc};
+ghost use Rattle.std.specs.Prelude.{◌≡◌, ◌∷◌, ◌++◌, [], IfOk, IfSome, IfNone, suc};
 ghost use Rattle.occ_derive_codes.specs.Piles.{and_exp, and_part, and_wait, begun, nothing};
 ghost use Rattle.occ_derive_codes.specs.Seen.{held};
-ghost use Rattle.occ_derive_codes.specs.Standin.{moves_of};
+ghost use Rattle.occ_engine.specs.Moved.{moves_of};
 ghost use Rattle.occ_syntax.specs.View.{exp, tree, waiting};
 
-use crate::standin::Dones;
 use occ_base::Memory;
+use occ_engine::Dones;
 use occ_law::LawId;
 use occ_script_path::{Direction, Path};
 use occ_script_write::Done;
@@ -127,8 +127,11 @@ impl Machine {
 
     /// The path of the next step goes on by the number. `Memory` comes too where that is 2^32 or more.
     pub(crate) fn enter(&mut self) -> Result<(), Memory>
-        ensures { IfOk result (λ done. held self.new ≡ record (held self.old) { number = 0; kept = 0;
-            path = (held self.old).path ++ (held self.old).number ∷ [] }) }
+        ensures { IfOk result (λ done. held self.new ≡ record (held self.old) {
+          number = 0;
+          kept = 0;
+          path = (held self.old).path ++ (held self.old).number ∷ [];
+        }) }
     {
         let Ok(number) = u32::try_from(self.number) else {
             return Err(Memory);
@@ -141,8 +144,10 @@ impl Machine {
 
     /// A step on the path, which begins again.
     pub(crate) fn push_step(&mut self, law: LawId, dir: Direction, part: Proc) -> Result<(), Memory>
-        ensures { IfOk result (λ done. held self.new ≡ record (held self.old) { path = [];
-            moves = (held self.old).moves ++ record { law = law.0; dir = dir; path = (held self.old).path; part = tree part } ∷ [] }) }
+        ensures { IfOk result (λ done. held self.new ≡ record (held self.old) {
+          path = [];
+          moves = (held self.old).moves ++ record { law = law.0; dir = dir; path = (held self.old).path; part = tree part } ∷ [];
+        }) }
     {
         let path = replace(&mut self.path, Path::new(self.alloc));
         self.steps.push(Done {

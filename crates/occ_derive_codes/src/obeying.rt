@@ -6,12 +6,12 @@ ghost use Rattle.occ_derive_codes.specs.declared.instruction.Instruction.TheVari
 ghost use Rattle.occ_derive_codes.specs.Piles.{Held, Obeys, width_of};
 ghost use Rattle.occ_derive_codes.specs.Seen.{held};
 
+use crate::Instruction;
 use crate::instruction::instruction_of;
 use crate::longer::{
     alt_none, if_none, par_none, seq_none, with_alternative, with_choice, with_pair, with_part,
 };
 use crate::machine::Machine;
-use crate::Instruction;
 use occ_base::{Memory, Name, Width};
 use occ_law::LawId;
 use occ_script_path::Direction;
