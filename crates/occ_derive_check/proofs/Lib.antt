@@ -1,3 +1,3 @@
-pub mod Following
+pub mod Stepping
 pub mod Numbers
 pub mod Taking

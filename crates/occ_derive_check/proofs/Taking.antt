@@ -24,6 +24,10 @@ use Rattle.occ_usage.specs.Accepted.{KeepsRules}
 
 -- ---- a part put in
 
+-- a part that is the same is put in
+pub put_same : (program whole : Program) (path : List ℕ) (part new : Tree) → part ≡ new → IsPutIn program path part whole → IsPutIn program path new whole
+put_same program whole path part new e put_in = subst (λ q. IsPutIn program path q whole) e put_in
+
 -- where the body with the part put in keeps all rules, the whole keeps the rules
 pub whole_kept : (program whole : Program) (path : List ℕ) (part : Tree) → KeepsRules program → IsPutIn program path part whole
     → Keeps (environment program.params) (put path (tree program.body) part) → KeepsRules whole
@@ -50,29 +54,6 @@ part_kept program whole path S old part kept e there put_in after =
 
 -- ---- a step
 
--- a step wants a part at its path
-pub nowhere : (here : Program) (step : Done) → part_at step.path (tree here.body) ≡ None → IsNext here (move_of step) None
-nowhere here step none s = let some : part_at step.path (tree here.body) ≡ Some s.old = s.there in cc
-
--- a step wants a whole that keeps all rules
-pub unfit : (here : Program) (step : Done) → (Keeps (environment here.params) (put step.path (tree here.body) (tree step.part)) → ⊥) → IsNext here (move_of step) None
-unfit here step broken s = broken s.keeps
-
--- a step wants two parts that its law joins
-pub apart : (here : Program) (step : Done) (S : List (Name × Kind)) (exchange : Exchange) → IsIn here step exchange → S ≡ scope_list step.path here.params (tree here.body)
-    → (Joins step.dir step.law.0 S (tree exchange.old) (tree step.part) → ⊥) → IsNext here (move_of step) None
-apart here step S exchange within e none s =
-    let some : part_at step.path (tree here.body) ≡ Some s.old = s.there in
-    let same : s.old ≡ tree exchange.old = let old = within.old in cc in
-    none (subst (λ T. Joins step.dir step.law.0 T (tree exchange.old) (tree step.part)) (sym e)
-    (subst (λ q. Joins step.dir step.law.0 (scope_list step.path here.params (tree here.body)) q (tree step.part)) same s.joins))
-
--- where they are joined it is a step
-pub taken : (here : Program) (step : Done) (S : List (Name × Kind)) (exchange : Exchange) (walk : Walk) → IsIn here step exchange → S ≡ scope_list step.path here.params (tree here.body)
-    → Joins step.dir step.law.0 S (tree exchange.old) (tree step.part) → walk.here ≡ exchange.whole → IsNext here (move_of step) (Some walk)
-taken here step S exchange walk within e j same = (record {
-      old = tree exchange.old;
-      there = within.old;
-      keeps = body_kept here exchange.whole step.path (tree step.part) within.whole within.kept;
-      joins = subst (λ T. Joins step.dir step.law.0 T (tree exchange.old) (tree step.part)) e j;
-    }, subst (IsPutIn here step.path (tree step.part)) (sym same) within.whole)
+-- where a step leads the rules are kept
+pub rules_on : (here : Program) (step : Done) (next : Walk) → KeepsRules here → IsNext here (move_of step) (Some next) → KeepsRules next.here
+rules_on here step next kept n = whole_kept here next.here step.path (tree step.part) kept n.1 n.0.keeps

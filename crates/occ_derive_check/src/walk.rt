@@ -1,5 +1,9 @@
 //! A derivation on its way.
 
+ghost use Rattle.std.specs.Prelude.{◌≡◌, IfOk};
+ghost use Rattle.occ_derive_check.specs.Walking.{IsNext};
+ghost use Rattle.occ_engine.specs.Moved.{move_of};
+ghost use Rattle.occ_syntax.specs.View.{tree};
 ghost use Rattle.occ_usage.specs.Accepted.{KeepsRules};
 
 use crate::exchange::{Exchange, exchanged, joins};
@@ -16,18 +20,11 @@ pub(crate) struct Walk {
     alloc: Global,
     store: Store,
     pub(crate) here: Program,
-    ghost kept: { KeepsRules here },
 }
 
 impl Walk {
-    ghost use Rattle.std.specs.Prelude.{◌≡◌, IfOk};
-    ghost use Rattle.occ_derive_check.specs.Walking.{IsNext};
-    ghost use Rattle.occ_engine.specs.Moved.{move_of};
-    ghost use Rattle.occ_syntax.specs.View.{tree};
-
     /// At the beginning.
     pub(crate) fn new(alloc: Global, from: &Program) -> Result<Walk, Memory>
-        requires { KeepsRules from.now }
         ensures name { IfOk result (λ walk. walk.here.name ≡ from.now.name) }
         ensures params { IfOk result (λ walk. walk.here.params ≡ from.now.params) }
         ensures body { IfOk result (λ walk. tree walk.here.body ≡ tree from.now.body) }
@@ -39,6 +36,7 @@ impl Walk {
 
     /// One step further. None where it isn't a step of the program here.
     pub(crate) fn take(self, step: &Done) -> Result<Option<Walk>, Memory>
+        requires { KeepsRules self.here }
         ensures { IfOk result (IsNext self.here (move_of step.now)) }
     {
         let Walk {
