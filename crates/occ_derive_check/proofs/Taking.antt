@@ -1,15 +1,11 @@
 -- One step of a derivation: when its part may be put in, and whether it is a step.
-use Rattle.std.proofs.Common.{◌≡◌, ℕ, true, List, None, Some, sym, ap, subst, ◌∙◌}
+use Rattle.std.proofs.Common.{◌≡◌, ℕ, true, List, Some, sym, ap, subst, ◌∙◌}
 use Rattle.occ_base.specs.declared.names.Name.{Name}
-use Rattle.occ_derive_check.specs.declared.exchange.Exchange.{Exchange}
 use Rattle.occ_derive_check.specs.declared.walk.Walk.{Walk}
-use Rattle.occ_derive_check.specs.Walking.{IsIn, IsNext}
-use Rattle.occ_derive_steps.specs.Steps.{IsStep}
+use Rattle.occ_derive_check.specs.Walking.{IsNext}
 use Rattle.occ_engine.specs.Moved.{move_of}
-use Rattle.occ_engine_rules.specs.Moves.{Move}
 use Rattle.occ_meaning.proofs.Places.{part_keeps, put_scope, put_there}
 use Rattle.occ_meaning.specs.Context.{part_at, put}
-use Rattle.occ_replay_rules.specs.Steps.{Joins}
 use Rattle.occ_script_path.proofs.Scoping.{scopes}
 use Rattle.occ_script_path.specs.Places.{IsPutIn, scope_list}
 use Rattle.occ_script_write.specs.declared.writing.Done.{Done}

@@ -1,4 +1,4 @@
-use Rattle.std.proofs.Common.{◌≡◌, List, [], take, None, Some, sym, subst}
+use Rattle.std.proofs.Common.{[], sym, subst}
 use Rattle.std.proofs.lemmas.List.{take_all}
 use Rattle.occ_derive_check.proofs.Stepping.{IsOnWay, arrives, ends_nowhere, goes_on, sets_out}
 use Rattle.occ_derive_check.proofs.Taking.{rules_on}
