@@ -1,0 +1,41 @@
+-- A row of digits is tried, and goes on to the next.
+use Rattle.std.proofs.Common.{◌≡◌, ℕ, ◌<◌, ◌≤◌, List, None, Some, sym, ap, subst, ◌∙◌, arith}
+use Rattle.std.specs.List.{AllByRecursion}
+use Rattle.occ_derive_check.specs.Derivations.{AreFollowed, IsDerived}
+use Rattle.occ_derive_codes.specs.Codes.{Spells}
+use Rattle.occ_derive_search.proofs.Ranking.{one_row}
+use Rattle.occ_derive_search.specs.Attempts.{IsAttempt}
+use Rattle.occ_derive_search.specs.Rows.{IsDigit, rank}
+use Rattle.occ_derive_steps.proofs.Steps.{one_end}
+use Rattle.occ_derive_steps.specs.Steps.{Steps}
+use Rattle.occ_engine.specs.Followed.{ended}
+use Rattle.occ_engine.specs.Moved.{moves_of}
+use Rattle.occ_engine_rules.specs.Moves.{Move}
+use Rattle.occ_script_write.specs.declared.writing.Done.{Done}
+use Rattle.occ_syntax.specs.declared.scope.Program.{Program}
+use Rattle.occ_syntax.specs.Tree.{Tree}
+use Rattle.occ_syntax.specs.View.{tree}
+
+-- what a row was read as: the steps that it spells
+abbrev pub AreRead : List ℕ → List Done → Type 0
+AreRead code steps = (moves : List Move) → Spells code moves → moves_of steps ≡ moves
+
+-- steps that lead nowhere aren't a derivation
+pub not_followed : (from : Program) (q : Tree) (code : List ℕ) (steps : List Done) → AreRead code steps → AreFollowed from steps None → IsAttempt from q code None
+not_followed from q code steps read nowhere moves spells led =
+    nowhere q (subst (λ ms. Steps from.params (tree from.body) ms q) (sym (read moves spells)) led)
+
+-- steps that lead to another body neither
+pub elsewhere : (from to : Program) (q : Tree) (code : List ℕ) (steps : List Done) → AreRead code steps → IsDerived from (ended steps to) → (tree to.body ≡ q → ⊥) → IsAttempt from q code None
+elsewhere from to q code steps read derived other moves spells led =
+    other (one_end from.params (tree from.body) (tree to.body) q (moves_of steps) derived.steps
+    (subst (λ ms. Steps from.params (tree from.body) ms q) (sym (read moves spells)) led))
+
+-- a row in front of a code that doesn't spell a derivation isn't the code: it comes before it
+pub comes_before : (from : Program) (q : Tree) (code row : List ℕ) (moves : List Move) → AllByRecursion IsDigit code → AllByRecursion IsDigit row → Spells code moves
+    → Steps from.params (tree from.body) moves q → rank row ≤ rank code → IsAttempt from q row None → rank row < rank code
+comes_before from q code row moves h k spells led low none = strict (rank row) (rank code) low (λ e.
+    none moves (subst (λ ds. Spells ds moves) (one_row code row h k (sym e)) spells) led)
+  where
+    strict : (m n : ℕ) → m ≤ n → (m ≡ n → ⊥) → m < n
+    strict m n l apart = omega arith
