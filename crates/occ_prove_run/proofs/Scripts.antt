@@ -7,8 +7,7 @@ use Rattle.occ_base.specs.declared.memory.Memory.{Memory}
 use Rattle.occ_base.specs.declared.names.Name.{Name}
 use Rattle.occ_derive.specs.Derived.{IsDerivation}
 use Rattle.occ_derive.specs.declared.fault.DeriveFault.{DeriveFault}
-use Rattle.occ_derive_check.specs.Derivations.{IsDerived}
-use Rattle.occ_derive_steps.specs.Steps.{Derivable, Steps}
+use Rattle.occ_derive_steps.specs.Steps.{Derivable}
 use Rattle.occ_engine.specs.declared.outcome.Outcome.{Outcome}
 use Rattle.occ_engine.specs.Moved.{moves_of}
 use Rattle.occ_engine.specs.Outcomes.{IsTabled}
@@ -168,18 +167,6 @@ copied_script (Ok a) names left right to steps name params body s = record {
       ++ program_text names (name i).0 (params i) (body i));
   answer_is = s.answer_is;
 }
-
--- steps to a program are steps to a copy of it
-pub proof_to : (left right seen to : Program) (steps : List Done) → seen ≡ right → to.name ≡ seen.name → to.params ≡ seen.params → tree to.body ≡ tree seen.body → IsProof left right steps
-    → IsDerived left (record { steps = steps; to = to })
-proof_to left right seen to steps same name params body is =
-    let h = subst (λ q. IsProof left q steps) (sym same) is in
-    record {
-      name = name ∙ h.name;
-      params = params ∙ h.params;
-      steps = subst (Steps left.params (tree left.body) (moves_of steps)) (sym body) h.steps;
-      tabled = h.tabled;
-    }
 
 -- what was said of a program is said of the one that it is
 pub script_to : (r : Result Answer Memory) (names : List (List ℕ)) (left right seen to : Program) (steps : List Done) → seen ≡ right → to.name ≡ seen.name → to.params ≡ seen.params
