@@ -5,9 +5,11 @@ use Rattle.std.specs.List.{AllByRecursion}
 use Rattle.std.proofs.lemmas.Bool.{le-leb}
 use Rattle.occ_base.specs.Names.{with_text}
 use Rattle.occ_base.specs.declared.names.Name.{Name}
+use Rattle.occ_derive_moves.specs.Moves.{AreNarrow}
+use Rattle.occ_derive_steps.specs.Steps.{Steps}
 use Rattle.occ_engine.specs.Moved.{moves_of}
 use Rattle.occ_engine_known.specs.Known.{NamesAreBelow}
-use Rattle.occ_engine_rules.specs.Moves.{Moves}
+use Rattle.occ_engine_rules.specs.Moves.{Move, Moves}
 use Rattle.occ_engine_written.proofs.Printed.{KeptLaw, NameLaw, names_below, printable}
 use Rattle.occ_fresh.specs.Growth.{GrowsByNames, IsNameText, with_texts}
 use Rattle.occ_lex_symbols.specs.Symbols.{Extends}
@@ -26,7 +28,7 @@ use Rattle.occ_prove_joined.proofs.Told.{settled}
 use Rattle.occ_prove_joined.specs.Joined.{IsJoined}
 use Rattle.occ_prove_run.specs.declared.proof.Proof.{Proof}
 use Rattle.occ_prove_run.specs.Answers.{Answers, AnswersNames}
-use Rattle.occ_prove_run.specs.Proofs.{IsProved, Proves, as_same, by_laws, long_first, long_second, proved, status_of_proof, text_of_proof, too_wide, unfinished_first, unfinished_second}
+use Rattle.occ_prove_run.specs.Proofs.{IsProved, Proves, as_same, by_laws, long, proved, status_of_proof, text_of_proof}
 use Rattle.occ_tool_words.specs.Pairs.{file_pair}
 use Rattle.occ_script.specs.declared.fault.ScriptFault.{ScriptFault}
 use Rattle.occ_script.specs.declared.script.Script.{Script}
@@ -76,12 +78,16 @@ LevelsLaw = (b : Bound) (text : List ℕ) (old new : Table) (name : Name) (param
 abbrev pub StayLaw : Type 0
 StayLaw = (m n : ℕ) (S : List (Name × Kind)) (p : Tree) → m ≤ n → NamesAreBelow m S p → NamesAreBelow n S p
 
+abbrev pub NarrowLaw : Type 0
+NarrowLaw = (S : List (Name × Kind)) (p q : Tree) (moves : List Move) → Steps S p moves q → AreNarrow moves → Moves S p moves q
+
 pub record Laws : Type 0 where
   pub programs : ProgramsLaw
   pub levels : LevelsLaw
   pub stay : StayLaw
   pub name : NameLaw
   pub kept : KeptLaw
+  pub narrow : NarrowLaw
 
 -- ---- the table of names
 
@@ -138,7 +144,7 @@ module _ (laws : Laws) (one two : Option (List ℕ)) (between names new : Table)
 
 -- ---- what was printed
 
--- a script of moves that are written, from the program of a file to that of another
+-- a script from the program of a file to that of another, whose steps are moves that are written where their lines are narrow
 record IsPrinted (one two : Option (List ℕ)) (text : List ℕ) : Type 0 where
   between : Table
   from : Program
@@ -149,7 +155,7 @@ record IsPrinted (one two : Option (List ℕ)) (text : List ℕ) : Type 0 where
   all : Table
   places : ℕ → Place
   steps : List Done
-  moves : AreWrittenMoves all places from steps to
+  moves : AreNarrow (moves_of steps) → AreWrittenMoves all places from steps to
   text_is : text ≡ script_text all from steps to
 
 derived : PrintedLaw → (names : Table) (P : ℕ → Place) (from to : Program) (steps : List Done) (text : List ℕ) → AreWrittenMoves names P from steps to
@@ -201,7 +207,7 @@ join law one a b text later words script p short j e = record {
     text_is = p.text_is;
     as_many = refl;
   };
-  alone = joined_alone one later words script text (length p.steps) j e (derived law p.all p.places p.from p.to p.steps text p.moves p.text_is short);
+  alone = λ thin. joined_alone one later words script text (length p.steps) j e (derived law p.all p.places p.from p.to p.steps text (p.moves thin) p.text_is short);
 }
 
 -- ---- answers with status 0
@@ -211,12 +217,8 @@ not_zero proof n z e h = absurd (omega (arith, z, e, h))
 
 laws_printed : Laws → (one two : Option (List ℕ)) (between names : Table) (p q : Program) (proof : Proof) (text : List ℕ) → IsAccepted one [] between (seen p) → IsAccepted two between names (seen q)
     → IsPrintedNarrow one → status_of_proof proof ≡ 0 → text ≡ text_of_proof proof → IsProved names p q proof → IsPrinted one two text
-laws_printed laws one two between names p q proof text a b narrow z e (long_first l is) = absurd (not_zero proof 3 z (ap status_of_proof is) (omega arith))
-laws_printed laws one two between names p q proof text a b narrow z e (unfinished_first l is) = absurd (not_zero proof 3 z (ap status_of_proof is) (omega arith))
-laws_printed laws one two between names p q proof text a b narrow z e (long_second l m is) = absurd (not_zero proof 3 z (ap status_of_proof is) (omega arith))
-laws_printed laws one two between names p q proof text a b narrow z e (unfinished_second l m is) = absurd (not_zero proof 3 z (ap status_of_proof is) (omega arith))
-laws_printed laws one two between names p q proof text a b narrow z e (too_wide l m w is) = absurd (not_zero proof 3 z (ap status_of_proof is) (omega arith))
-laws_printed laws one two between names p q proof text a b narrow z e (proved new steps answer l m moves k s is) = record {
+laws_printed laws one two between names p q proof text a b narrow z e (long l is) = absurd (not_zero proof 3 z (ap status_of_proof is) (omega arith))
+laws_printed laws one two between names p q proof text a b narrow z e (proved new steps answer l taken k s is) = record {
   between = between;
   from = p;
   first = a;
@@ -226,7 +228,8 @@ laws_printed laws one two between names p q proof text a b narrow z e (proved ne
   all = new;
   places = (end laws one two between names new p q a b narrow k.grown).0;
   steps = steps;
-  moves = written laws one two between names new p q a b narrow k.grown steps k.written k.said moves s.name s.params;
+  moves = λ thin. written laws one two between names new p q a b narrow k.grown steps k.written k.said
+      (laws.narrow p.params (tree p.body) (tree q.body) (moves_of steps) taken thin) s.name s.params;
   text_is = e ∙ ap text_of_proof is ∙ ap text_of s.answer_is ∙ s.text_is;
 }
 

@@ -1,5 +1,7 @@
 -- A script from one program to another that was printed, and what its replay is answered with.
 use Rattle.std.specs.Prelude.{ℕ, ◌≡◌, List, [], length, Option, codes}
+use Rattle.occ_derive_moves.specs.Moves.{AreNarrow}
+use Rattle.occ_engine.specs.Moved.{moves_of}
 use Rattle.occ_script_write.specs.declared.writing.Done.{Done}
 use Rattle.occ_script_write.specs.Text.{script_text}
 use Rattle.occ_syntax.specs.declared.scope.Program.{Program}
@@ -22,9 +24,10 @@ pub record IsScriptBetween (one two : Option (List ℕ)) (text : List ℕ) (coun
   pub text_is : text ≡ script_text all from steps to
   pub as_many : length steps ≡ count
 
--- A text is such a script, and the words have no answer over the files but that it joins, with the number of its steps.
+-- A text is such a script, and where no printed line of a part of its steps has more than 4,096 tokens, the words have no answer over
+-- the files but that it joins, with the number of its steps.
 pub record IsJoined (files : Files) (words : List (List ℕ)) (one two : Option (List ℕ)) (text : List ℕ) : Type 0 where
   pub count : ℕ
   pub script : IsScriptBetween one two text count
-  pub alone : (status : ℕ) (answer : List ℕ) → Answers files words status answer
+  pub alone : AreNarrow (moves_of script.steps) → (status : ℕ) (answer : List ℕ) → Answers files words status answer
       → (status ≡ 0) × (answer ≡ figure_text (codes "JOINED") count)

@@ -9,6 +9,7 @@ ghost use Rattle.occ_tool_joined.specs.Joined.{IsPrintedNarrow};
 ghost use Rattle.occ_tool_run.specs.Files.{Files, most_script_bytes};
 ghost use Rattle.occ_tool_words.specs.Words.{job_of, replay};
 
+use occ_derive_steps::narrow_steps_are_moves;
 use occ_engine_known::{
     kept_parts_have_known_names, names_stay_below, read_programs_have_known_names,
 };
@@ -19,8 +20,8 @@ use occ_script_table::programs_leave_places;
 
 /// Where the words of `prove` are answered with status 0 and another text than SAME, the text is a script from the program of the first
 /// file to that of the second, and words that ask for the replay of a file that holds it are answered with JOINED and the number of its
-/// steps, and with nothing else. The text has at most 4,194,304 bytes, and no line on which the first program is printed has more than
-/// 4,096 tokens.
+/// steps, and with nothing else. The text has at most 4,194,304 bytes, and no line on which the first program or a part of a step is
+/// printed has more than 4,096 tokens.
 pub fn proved_scripts_are_joined()
     ensures { (files later : Files) (words again : List (List ℕ)) (names : List ℕ × List ℕ) (script text : List ℕ)
         → file_pair words ≡ Some names → Answers files words 0 text → text ≢ codes "SAME\n"
@@ -28,6 +29,7 @@ pub fn proved_scripts_are_joined()
         → job_of again ≡ Some (replay script) → later script ≡ Some text
         → IsJoined later again (files names.0) (files names.1) text }
 {
+    narrow_steps_are_moves();
     names_stay_below();
     programs_leave_places();
     kept_parts_have_known_names();

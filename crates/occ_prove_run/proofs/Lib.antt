@@ -1,3 +1,6 @@
+mod Agreeing
+mod SamePrograms
+mod Standing
 mod Growing
 mod Reading
 mod Scripts

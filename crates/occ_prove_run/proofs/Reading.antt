@@ -50,7 +50,7 @@ pair_of law one two pair between first second header =
       between = between;
       first = first;
       second = second;
-      ready = record { header = header; left = of_params pair.names pair.left.program pair.right.program header.1 right; right = right };
+      ready = record { header = header; interface = of_params pair.names pair.left.program pair.right.program header.1 right };
     }
 
 -- ---- no pair

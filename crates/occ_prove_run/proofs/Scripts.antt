@@ -4,10 +4,10 @@ use Rattle.std.specs.Prelude.{IfNone, IfSome, OnOk}
 use Rattle.std.proofs.lemmas.Bool.{false≢true}
 use Rattle.std.specs.List.{AllByRecursion}
 use Rattle.occ_base.specs.declared.memory.Memory.{Memory}
-use Rattle.occ_behaviour.specs.declared.behaviour.Side.TheVariants.{Second}
+use Rattle.occ_base.specs.declared.names.Name.{Name}
 use Rattle.occ_derive.specs.Derived.{IsDerivation}
 use Rattle.occ_derive.specs.declared.fault.DeriveFault.{DeriveFault}
-use Rattle.occ_derive.specs.declared.fault.DeriveFault.TheVariants as fault
+use Rattle.occ_derive_steps.specs.Steps.{Derivable}
 use Rattle.occ_engine.specs.declared.outcome.Outcome.{Outcome}
 use Rattle.occ_engine.specs.Moved.{moves_of}
 use Rattle.occ_engine.specs.Outcomes.{IsTabled}
@@ -15,22 +15,29 @@ use Rattle.occ_fresh.proofs.Growing.{grows_not, grows_on}
 use Rattle.occ_fresh.specs.Growth.{GrowsByNames}
 use Rattle.occ_nform_program.specs.Tabled.{IsTableOf}
 use Rattle.occ_nform_table.specs.declared.table.Table.{Table}
+use Rattle.occ_nform_table.specs.Behaviours.{Stands}
+use Rattle.occ_nform_table.specs.Normal.{Parts}
+use Rattle.occ_nform_table.specs.Tables.{IsNormal}
 use Rattle.occ_print.specs.Spelled.{program_text}
 use Rattle.occ_prove_run.specs.declared.pair.Pair.{Pair}
 use Rattle.occ_prove_run.specs.declared.proof.Proof.{Proof}
 use Rattle.occ_prove_run.specs.declared.proof.Proof.TheVariants.{Told}
-use Rattle.occ_prove_run.specs.Normal.{IsLong, IsShort, IsToNormal, IsWide}
+use Rattle.occ_prove_run.proofs.Standing.{stands_for_same}
+use Rattle.occ_prove_run.specs.Normal.{IsLong, IsShort, IsToNormal}
 use Rattle.occ_prove_run.specs.Pairs.{AreApartAll, IsPairOf}
 use Rattle.occ_prove_run.specs.Paths.{HasShortPath}
-use Rattle.occ_prove_run.specs.Proofs.{IsProved, IsSame, IsStuck, Proves, as_same, by_laws, long_second, proved, unfinished_second}
-use Rattle.occ_prove_steps.specs.Joined.{AreWritable, IsProof, IsTooWide}
+use Rattle.occ_prove_run.specs.Proofs.{IsProved, IsSame, Proves, as_same, by_laws, proved}
+use Rattle.occ_prove_steps.specs.Joined.{AreWritable, HaveOneHeader, IsProof}
 use Rattle.occ_script_write.specs.declared.writing.Done.{Done}
 use Rattle.occ_script_write.specs.Text.{line, steps_text, text_of_program}
 use Rattle.occ_script_write_back.specs.Said.{IsSaid}
 use Rattle.occ_syntax.specs.Counts.{controls}
+use Rattle.occ_syntax.specs.declared.scope.Kind.{Kind}
 use Rattle.occ_syntax.specs.declared.scope.Program.{Program}
 use Rattle.occ_syntax.specs.Same.{SAME}
 use Rattle.occ_syntax.specs.Scopes.{environment}
+use Rattle.occ_syntax.specs.Tree.{Tree}
+use Rattle.occ_syntax.specs.Types.{scope_kept}
 use Rattle.occ_syntax.specs.View.{tree}
 use Rattle.occ_target.specs.Program.{normal_body}
 use Rattle.occ_tool_run.proofs.Deriving.{normal_body_of}
@@ -38,10 +45,15 @@ use Rattle.occ_tool_run.proofs.Judging.{accepted_file}
 use Rattle.occ_tool_run.specs.declared.answer.Answer.{Answer}
 use Rattle.occ_tool_run.specs.declared.judge.Question.TheVariants.{WhetherSame}
 use Rattle.occ_tool_run.specs.declared.load.Loaded.{Loaded}
+use Rattle.occ_tool_run.specs.declared.load.Loaded.TheVariants.{Bytes, TooLong}
+use Rattle.occ_tool_run.specs.Accepts.{IsAccepted}
 use Rattle.occ_tool_run.specs.Answers.{Settles}
 use Rattle.occ_tool_run.specs.Derived.{IsNormalBody}
-use Rattle.occ_tool_run.specs.Files.{IsLoaded, most_bytes}
+use Rattle.occ_tool_run.specs.Files.{IsLoaded, IsShort as IsShortFile, most_bytes}
+use Rattle.occ_tool_run.specs.Judged.{IsAcceptedFrom}
+use Rattle.occ_tool_run.specs.Stored.{seen}
 use Rattle.occ_tool_run.specs.Transforms.{IsScriptOf}
+use Rattle.occ_usage.specs.Accepted.{IsAccepted as IsAcceptedProgram}
 
 -- what is found, or isn't
 pub some_of : {X : Type 0} (o : Option X) (x : X) (P : X → Type 0) → o ≡ Some x → IfSome o P → P x
@@ -68,6 +80,27 @@ proved_by_laws (Ok proof) one two a pair s same is p = λ x y j k.
     by_laws a is.between pair.names pair.left.program pair.right.program (s x y j k) same (accepted_file one x [] is.between pair.left.program is.first j)
     (accepted_file two y is.between pair.names pair.right.program is.second k) is.ready.header p
 
+-- ---- programs that mean the same
+
+-- of the answer to two files
+abbrev pub SameLaw : Type 0
+SameLaw = (one two : Option (List ℕ)) (between names : List (List ℕ)) (p q : Program) (a : Answer) → IsAccepted one [] between (seen p) → IsAccepted two between names (seen q)
+    → Settles WhetherSame one two a → IsSame a → SAME (environment p.params) (tree p.body) (tree q.body)
+
+-- a file that was read as a program is one that is there
+loaded : (l : Loaded) (old new : List (List ℕ)) (p : Program) → IsShortFile most_bytes l → IsAcceptedFrom l old new p → (file : Option (List ℕ)) × IsLoaded most_bytes file l
+loaded (Bytes text) old new p short a = (Some text.items, (refl, short))
+loaded TooLong old new p short a = absurd a
+
+-- the programs of two files that are answered with SAME
+pub pair_means_the_same : SameLaw → (one two : Loaded) (a : Answer) (pair : Pair) → IsShortFile most_bytes one → IsShortFile most_bytes two → SettlesAll one two a → IsSame a → IsPairOf one two pair
+    → SAME (environment pair.left.program.params) (tree pair.left.program.body) (tree pair.right.program.body)
+pair_means_the_same law one two a pair s t all same is =
+    let x = loaded one [] is.between pair.left.program s is.first in
+    let y = loaded two is.between pair.names pair.right.program t is.second in
+    law x.0 y.0 is.between pair.names pair.left.program pair.right.program a (accepted_file one x.0 [] is.between pair.left.program is.first x.1)
+    (accepted_file two y.0 is.between pair.names pair.right.program is.second y.1) (all x.0 y.0 x.1 y.1) same
+
 -- ---- normal programs
 
 pub to_normal : (r : Result Outcome DeriveFault) (names : List (List ℕ)) (p : Program) (t : Table) → IsTableOf names p.params (tree p.body) t
@@ -75,7 +108,7 @@ pub to_normal : (r : Result Outcome DeriveFault) (names : List (List ℕ)) (p : 
     → IfOk r (IsToNormal names p)
 to_normal (Err e) names p t is d few = tt
 to_normal (Ok o) names p t is d few = record {
-  outcome_is = d.outcome_is;
+  derived = d.outcome_is;
   is = subst (IsNormalBody names p) (sym d.to_is) (normal_body_of names p t is);
   short = subst (λ b. controls b ≤ 4096) (sym d.to_is) few;
 }
@@ -90,49 +123,31 @@ is_long names p t is many = record {
   long = many;
 }
 
-pub is_short : (names : List (List ℕ)) (p : Program) (t : Table) → IsTableOf names p.params (tree p.body) t
-    → controls (normal_body names t.params t.rows t.states) ≤ 4096 → IsShort names p
-is_short names p t is few = record {
-  new = names;
-  grown = grows_not names;
-  body = normal_body names t.params t.rows t.states;
-  is = normal_body_of names p t is;
-  short = few;
-}
-
-pub short_of : (names : List (List ℕ)) (p : Program) (o : Outcome) → IsToNormal names p o → IsShort names p
+short_of : (names : List (List ℕ)) (p : Program) (o : Outcome) → IsToNormal names p o → IsShort names p
 short_of names p o h = record { new = names; grown = grows_not names; body = tree o.to.body; is = h.is; short = h.short }
 
--- what is said with a table that has grown
-pub later_short : (names mid : List (List ℕ)) (q : Program) → GrowsByNames names mid → IsShort mid q → IsShort names q
-later_short names mid q g h = record { new = h.new; grown = grows_on names mid h.new g h.grown; body = h.body; is = h.is; short = h.short }
+-- steps lead to each normal program
+abbrev pub NormalLaw : Type 0
+NormalLaw = (program : Program) (t : Parts) → IsAcceptedProgram program → t.params ≡ program.params → IsNormal t → Stands program.params t.rows t.states (tree program.body)
+    → Derivable program.params (tree program.body) (normal_body t.names t.params t.rows t.states)
 
-pub later_long : (names mid : List (List ℕ)) (q : Program) → GrowsByNames names mid → IsLong mid q → IsLong names q
-later_long names mid q g h = record { new = h.new; grown = grows_on names mid h.new g h.grown; body = h.body; is = h.is; long = h.long }
-
-pub later_short_of : (names mid : List (List ℕ)) (q : Program) (o : Outcome) → GrowsByNames names mid → IsToNormal mid q o → IsShort names q
-later_short_of names mid q o g h = later_short names mid q g (short_of mid q o h)
-
-pub is_wide : (names mid : List (List ℕ)) (q : Program) (o : Outcome) → GrowsByNames names mid → IsToNormal mid q o → IsTooWide (tree q.body) (moves_of o.steps)
-    → IsWide names q
-is_wide names mid q o g h w = record { new = mid; grown = g; body = tree o.to.body; is = h.is; moves = moves_of o.steps; led = h.outcome_is.moves; wide = w }
-
--- a normal program isn't derived
-pub stuck_back : (r : Result Proof Memory) (f : DeriveFault) (names mid : List (List ℕ)) (p q : Program) → IfOk r (IsStuck Second f) → IsShort names p
-    → GrowsByNames names mid → (f ≡ fault.Long → IsLong mid q) → (f ≡ fault.Unfinished → IsShort mid q) → IfOk r (IsProved names p q)
-stuck_back (Err m) f names mid p q s few g long short = tt
-stuck_back (Ok proof) fault.Long names mid p q s few g long short = long_second few (later_long names mid q g (long refl)) s
-stuck_back (Ok proof) fault.Unfinished names mid p q s few g long short = unfinished_second few (later_short names mid q g (short refl)) s
-stuck_back (Ok proof) fault.Memory names mid p q s few g long short = absurd s
+-- so from the second program to the normal program of the first, which means the same
+pub leads_to_normal : NormalLaw → (names : List (List ℕ)) (p q : Program) (o : Outcome) → IsAcceptedProgram q → HaveOneHeader p q
+    → SAME (environment p.params) (tree p.body) (tree q.body) → IsToNormal names p o → Derivable q.params (tree q.body) (tree o.to.body)
+leads_to_normal law names p q o accepted header same is =
+    let t = is.is.table in
+    let all : Parts = record { names = names; params = t.params; rows = t.rows; states = t.states } in
+    let scope = subst (λ (ps : List (Name × Kind)). scope_kept ps ≡ true) (sym header.1) accepted.typed.scope in
+    let stands = stands_for_same p.params t.rows t.states (tree p.body) (tree q.body) scope same is.is.is.stands in
+    subst (Derivable q.params (tree q.body)) (sym is.is.body_is)
+    (law q all accepted (is.is.is.params_are ∙ header.1) is.is.is.normal (subst (λ (ps : List (Name × Kind)). Stands ps t.rows t.states (tree q.body)) header.1 stands))
 
 -- ---- the script
 
-pub script_proved : (names mid new : List (List ℕ)) (p q : Program) (there back : Outcome) (steps : List Done) (a : Answer) → GrowsByNames names mid → GrowsByNames mid new
-    → IsToNormal names p there → IsToNormal mid q back → IsProof p q steps → AreWritable new steps → AllByRecursion IsSaid steps → IsScriptOf new p steps q a
-    → IsProved names p q (Told a)
-script_proved names mid new p q there back steps a g h t b is w said s =
-    proved new steps a (short_of names p there t) (later_short_of names mid q back g b) is.moves
-    (record { grown = grows_on names mid new g h; written = w; said = said }) s refl
+pub script_proved : (names mid new : List (List ℕ)) (p q : Program) (there : Outcome) (steps : List Done) (a : Answer) → GrowsByNames names mid → GrowsByNames mid new
+    → IsToNormal names p there → IsProof p q steps → AreWritable new steps → AllByRecursion IsSaid steps → IsScriptOf new p steps q a → IsProved names p q (Told a)
+script_proved names mid new p q there steps a g h t is w said s =
+    proved new steps a (short_of names p there t) is.steps (record { grown = grows_on names mid new g h; written = w; said = said }) s refl
 
 pub steps_said : (steps : List Done) → AllByRecursion IsTabled steps → AllByRecursion HasShortPath steps → AllByRecursion IsSaid steps
 steps_said [] t h = tt

@@ -2,7 +2,7 @@
 use Rattle.std.specs.Prelude.{ℕ, ◌≡◌, ◌≢◌, List, Option, None, Some}
 use Rattle.occ_desk.specs.Desk.{with_more, IsCutShort}
 use Rattle.occ_prove_run.specs.declared.proof.Proof.{Proof}
-use Rattle.occ_prove_run.specs.declared.proof.Proof.TheVariants.{Usage, Told, Long, Unfinished, Wide}
+use Rattle.occ_prove_run.specs.declared.proof.Proof.TheVariants.{Usage, Told, Long}
 use Rattle.occ_prove_run.specs.Proofs.{Proves, status_of_proof, text_of_proof}
 use Rattle.occ_tool_words.specs.Pairs.{file_pair}
 use Rattle.occ_tool_run.specs.declared.answer.Answer.TheVariants as answer
@@ -34,6 +34,4 @@ pub data Ran (files : Files) (words : List (List ℕ)) (status : ℕ) (old new :
 abbrev pub IsSayable : Proof → Type 0
 IsSayable Usage = Unit {0}
 IsSayable (Told a) = IsPrintable a × (a ≢ answer.Usage)
-IsSayable (Long place) = Unit {0}
-IsSayable (Unfinished place) = Unit {0}
-IsSayable Wide = Unit {0}
+IsSayable Long = Unit {0}

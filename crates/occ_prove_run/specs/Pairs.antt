@@ -7,11 +7,10 @@ use Rattle.occ_tool_run.specs.declared.load.Loaded.{Loaded}
 use Rattle.occ_tool_run.specs.Files.{IsLoaded, most_bytes}
 use Rattle.occ_tool_run.specs.Judged.{HasInterface, IsAcceptedFrom}
 
--- both have one header, and their parameters can stand in a normal text
+-- both have one header, and its parameters can stand in a normal text
 pub record AreReady (pair : Pair) : Type 0 where
   pub header : HaveOneHeader pair.left.program pair.right.program
-  pub left : HasInterface pair.names pair.left.program
-  pub right : HasInterface pair.names pair.right.program
+  pub interface : HasInterface pair.names pair.left.program
 
 -- they are the programs of two files, of which the first was read first
 pub record IsPairOf (one two : Loaded) (pair : Pair) : Type 0 where

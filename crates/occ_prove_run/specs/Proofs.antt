@@ -1,15 +1,12 @@
 -- What two files are answered with: a script from the one program to the other, or what `same` says of them.
 use Rattle.std.specs.Prelude.{ℕ, ◌≡◌, List, [], Option, codes}
-use Rattle.occ_behaviour.specs.declared.behaviour.Side.{Side}
 use Rattle.occ_behaviour.specs.declared.behaviour.Side.TheVariants.{First, Second}
 use Rattle.occ_behaviour.specs.declared.behaviour.Verdict.TheVariants.{Same}
-use Rattle.occ_derive.specs.declared.fault.DeriveFault.{DeriveFault}
-use Rattle.occ_derive.specs.declared.fault.DeriveFault.TheVariants as fault
+use Rattle.occ_derive_steps.specs.Steps.{Steps}
 use Rattle.occ_engine.specs.Moved.{moves_of}
-use Rattle.occ_engine_rules.specs.Moves.{Moves}
 use Rattle.occ_prove_run.specs.declared.proof.Proof.{Proof}
-use Rattle.occ_prove_run.specs.declared.proof.Proof.TheVariants.{Usage, Told, Long, Unfinished, Wide}
-use Rattle.occ_prove_run.specs.Normal.{IsLong, IsShort, IsWide}
+use Rattle.occ_prove_run.specs.declared.proof.Proof.TheVariants.{Usage, Told, Long}
+use Rattle.occ_prove_run.specs.Normal.{IsLong, IsShort}
 use Rattle.occ_prove_run.specs.Words.{usage_text}
 use Rattle.occ_prove_steps.specs.Joined.{HaveOneHeader}
 use Rattle.occ_script_write.specs.declared.writing.Done.{Done}
@@ -25,25 +22,14 @@ use Rattle.occ_tool_run.specs.Stored.{seen}
 use Rattle.occ_tool_run.specs.Texts.{refusal_text, status_of, text_of}
 use Rattle.occ_tool_run.specs.Transforms.{IsScriptOf}
 
--- What two accepted programs of one header are answered with, which mean the same. The normal program of one has more than 4,096
--- controls: the first one's is looked at first. Or it has no more, and no derivation of it was found; for the second that is also said
--- where its derivation doesn't end as the first one's does. Or steps that lead from the second to its normal program can't be undone. Or
--- steps lead from the one program to the other, each a move by a law of the table, and the answer is the script that says so.
+-- What two accepted programs of one header are answered with, which mean the same. Their normal program, which both have, has more than
+-- 4,096 controls; or steps lead from the one program to the other, each by a law of the table, and the answer is the script that says so.
+-- The names of its steps are those of a table that has grown.
 pub data IsProved (names : List (List ℕ)) (p q : Stored) (proof : Proof) : Type 0 where
-  long_first : IsLong names p → proof ≡ Long First → IsProved names p q proof
-  unfinished_first : IsShort names p → proof ≡ Unfinished First → IsProved names p q proof
-  long_second : IsShort names p → IsLong names q → proof ≡ Long Second → IsProved names p q proof
-  unfinished_second : IsShort names p → IsShort names q → proof ≡ Unfinished Second → IsProved names p q proof
-  too_wide : IsShort names p → IsShort names q → IsWide names q → proof ≡ Wide → IsProved names p q proof
-  proved : (new : List (List ℕ)) (steps : List Done) (answer : Answer) → IsShort names p → IsShort names q
-      → Moves p.params (tree p.body) (moves_of steps) (tree q.body) → AreSteps names new steps → IsScriptOf new p steps q answer
+  long : IsLong names p → proof ≡ Long → IsProved names p q proof
+  proved : (new : List (List ℕ)) (steps : List Done) (answer : Answer) → IsShort names p
+      → Steps p.params (tree p.body) (moves_of steps) (tree q.body) → AreSteps names new steps → IsScriptOf new p steps q answer
       → proof ≡ Told answer → IsProved names p q proof
-
--- the answer where a normal program isn't derived
-abbrev pub IsStuck : Side → DeriveFault → Proof → Type 0
-IsStuck place fault.Long proof = proof ≡ Long place
-IsStuck place fault.Unfinished proof = proof ≡ Unfinished place
-IsStuck place fault.Memory proof = ⊥
 
 -- both mean the same
 abbrev pub IsSame : Answer → Type 0
@@ -71,13 +57,9 @@ pub data Proves (one two : Option (List ℕ)) (proof : Proof) : Type 0 where
 abbrev pub status_of_proof : Proof → ℕ
 status_of_proof Usage = 2
 status_of_proof (Told answer) = status_of answer
-status_of_proof (Long place) = 3
-status_of_proof (Unfinished place) = 3
-status_of_proof Wide = 3
+status_of_proof Long = 3
 
 abbrev pub text_of_proof : Proof → List ℕ
 text_of_proof Usage = usage_text
 text_of_proof (Told answer) = text_of answer
-text_of_proof (Long place) = refusal_text place 1 (codes "Long")
-text_of_proof (Unfinished place) = refusal_text place 1 (codes "Unfinished")
-text_of_proof Wide = refusal_text Second 1 (codes "Wide")
+text_of_proof Long = refusal_text First 1 (codes "Long")

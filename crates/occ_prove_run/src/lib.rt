@@ -2,6 +2,7 @@
 //! the program in the first to the one in the second, law by law.
 #![tactic(auto)]
 
+mod law;
 mod pair;
 mod path;
 mod proof;

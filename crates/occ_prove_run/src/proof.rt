@@ -17,12 +17,8 @@ pub enum Proof {
     Usage,
     /// The script from the one program to the other, or what `same` says of the files.
     Told(Answer),
-    /// The normal program of the program in that file has more than 4,096 controls.
-    Long(Side),
-    /// No derivation of the normal program of the program in that file was found, or none that ends as the other's does.
-    Unfinished(Side),
-    /// The derivation from the second program can't be undone: a line would have more tokens than a line of a text.
-    Wide,
+    /// Both mean the same, and their normal program has more than 4,096 controls.
+    Long,
 }
 
 /// The status of an answer.
@@ -35,7 +31,7 @@ pub(crate) fn status(proof: &Proof) -> u8
     match proof {
         Proof::Usage => 2,
         Proof::Told(told) => answer::status(told),
-        Proof::Long(_) | Proof::Unfinished(_) | Proof::Wide => 3,
+        Proof::Long => 3,
     }
 }
 
@@ -47,8 +43,6 @@ pub(crate) fn text(alloc: Global, proof: Proof) -> Result<Vec<u8>, Memory>
     match proof {
         Proof::Usage => Ok(Vec::from_slice(alloc, b"USAGE prove A B\n")?),
         Proof::Told(told) => answer::text(alloc, told),
-        Proof::Long(place) => refusal_with(alloc, place, 1, b"Long"),
-        Proof::Unfinished(place) => refusal_with(alloc, place, 1, b"Unfinished"),
-        Proof::Wide => refusal_with(alloc, Side::Second, 1, b"Wide"),
+        Proof::Long => refusal_with(alloc, Side::First, 1, b"Long"),
     }
 }

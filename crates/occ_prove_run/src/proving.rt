@@ -1,5 +1,5 @@
 //! The script from one program to another that means the same: a derivation of the one's normal program, and behind it that of the
-//! other's, step by step undone.
+//! other's, which is the same program, step by step undone.
 
 ghost use Rattle.std.specs.Prelude.{◌≡◌, ◌≢◌, ◌↔◌, ℕ, List, Option, Err, IfOk, IsTrue, OnOk};
 ghost use Rattle.std.specs.List.{AllByRecursion};
@@ -7,28 +7,31 @@ ghost use Rattle.occ_derive.specs.Derived.{CanBeWritten};
 ghost use Rattle.occ_fresh.specs.Growth.{GrowsByNames};
 ghost use Rattle.occ_print.specs.Known.{ProgramIsKnown};
 ghost use Rattle.occ_prove_run.specs.Answers.{IsSayable};
-ghost use Rattle.occ_prove_run.specs.Normal.{IsLong, IsShort as HasShortNormal, IsToNormal};
+ghost use Rattle.occ_prove_run.specs.Normal.{IsLong, IsToNormal};
 ghost use Rattle.occ_prove_run.specs.Pairs.{AreReady};
-ghost use Rattle.occ_prove_run.specs.Proofs.{IsProved, IsSame, IsStuck, Proves};
+ghost use Rattle.occ_prove_run.specs.Proofs.{IsProved, IsSame, Proves};
 ghost use Rattle.occ_prove_steps.specs.Joined.{AreWritable, IsProof};
 ghost use Rattle.occ_script_write_back.specs.Said.{IsSaid};
+ghost use Rattle.occ_syntax.specs.Same.{SAME};
+ghost use Rattle.occ_syntax.specs.Scopes.{environment};
 ghost use Rattle.occ_syntax.specs.View.{tree};
 ghost use Rattle.occ_tool_run.specs.Files.{IsLoaded, IsShort, most_bytes};
 ghost use Rattle.occ_tool_run.specs.Judged.{HasInterface};
 ghost use Rattle.occ_tool_run.specs.Texts.{IsPrintable};
 ghost use Rattle.occ_tool_run.specs.Transforms.{IsScriptOf};
 
+use crate::law::same_files_mean_the_same;
 use crate::pair::{Pair, read_pair};
 use crate::path::read_paths;
 use crate::proof::Proof;
 use occ_base::{Memory, Names};
-use occ_behaviour::{Side, Verdict};
-use occ_derive::{DeriveFault, derive};
+use occ_behaviour::Verdict;
+use occ_derive::{DeriveFault, derive, derive_to};
+use occ_derive_found::normal_programs_are_derivable;
 use occ_engine::{Dones, Outcome};
 use occ_nform_program::normal_table;
 use occ_print_known::parts_are_known_up_to_their_greatest_name;
 use occ_prove_steps::joined;
-use occ_syntax::same_proc;
 use occ_tool_run::answer::Answer;
 use occ_tool_run::judge::{Question, judge};
 use occ_tool_run::load::Loaded;
@@ -58,6 +61,7 @@ pub(crate) fn proof_of(alloc: Global, one: &Loaded, two: &Loaded) -> Result<Proo
     ensures sayable { IfOk result IsSayable }
     ensures usage { IfOk result (λ proof. proof ≢ Proof.Usage) }
 {
+    same_files_mean_the_same();
     let told = judge(alloc, Question::WhetherSame, one, two)?;
     if !is_same(&told) {
         return Ok(Proof::Told(told));
@@ -68,31 +72,26 @@ pub(crate) fn proof_of(alloc: Global, one: &Loaded, two: &Loaded) -> Result<Proo
     }
 }
 
-/// The answer to two accepted programs of one header.
+/// The answer to two accepted programs of one header that mean the same.
 fn proved(alloc: Global, pair: Pair) -> Result<Proof, Memory>
-    requires { AreReady pair }
+    requires ready { AreReady pair }
+    requires same { SAME (environment pair.left.program.params) (tree pair.left.program.body) (tree pair.right.program.body) }
     ensures proved { IfOk result (IsProved pair.names pair.left.program pair.right.program) }
     ensures sayable { IfOk result IsSayable }
     ensures usage { IfOk result (λ proof. proof ≢ Proof.Usage) }
 {
     parts_are_known_up_to_their_greatest_name();
+    normal_programs_are_derivable();
     let Pair { names, left, right } = pair;
     let mut names = names;
     let there = match normal(alloc, &mut names, &left) {
         Ok(outcome) => outcome,
-        Err(fault) => return stuck(Side::First, fault),
+        Err(DeriveFault::Long) => return Ok(Proof::Long),
+        Err(DeriveFault::Memory) => return Err(Memory),
     };
-    let back = match normal(alloc, &mut names, &right) {
-        Ok(outcome) => outcome,
-        Err(fault) => return stuck(Side::Second, fault),
-    };
-    if !same_proc(&there.to.body, &back.to.body) {
-        return Ok(Proof::Unfinished(Side::Second));
-    }
-    match joined(alloc, &left, &right, there, &back)? {
-        Some(steps) => Ok(Proof::Told(written(alloc, &names, &left, &right, steps)?)),
-        None => Ok(Proof::Wide),
-    }
+    let back = derive_to(alloc, &mut names, &right, &there.to)?;
+    let steps = joined(alloc, &left, &right, there, &back)?;
+    Ok(Proof::Told(written(alloc, &names, &left, &right, steps)?))
 }
 
 /// Steps from an accepted program to its normal program.
@@ -102,23 +101,9 @@ fn normal(alloc: Global, names: &mut Names, accepted: &Accepted) -> Result<Outco
     ensures known { IfOk result (CanBeWritten names.new accepted.now.program) }
     ensures grown { OnOk result (GrowsByNames names.old names.new) }
     ensures long { result ≡ Err DeriveFault.Long → IsLong names.old accepted.now.program }
-    ensures short { result ≡ Err DeriveFault.Unfinished → HasShortNormal names.old accepted.now.program }
 {
     let table = normal_table(alloc, names, accepted)?;
     derive(alloc, names, accepted, &table)
-}
-
-/// The answer where the normal program of one of the two can't be derived.
-fn stuck(place: Side, fault: DeriveFault) -> Result<Proof, Memory>
-    ensures stuck { IfOk result (IsStuck place fault) }
-    ensures sayable { IfOk result IsSayable }
-    ensures usage { IfOk result (λ proof. proof ≢ Proof.Usage) }
-{
-    match fault {
-        DeriveFault::Long => Ok(Proof::Long(place)),
-        DeriveFault::Unfinished => Ok(Proof::Unfinished(place)),
-        DeriveFault::Memory => Err(Memory),
-    }
 }
 
 /// The script of steps from one accepted program to another.

@@ -21,7 +21,7 @@ use std::alloc::Global;
 /// | 0 | steps lead from the one program to the other; both mean the same, and the names behind PROC differ | the script; `SAME` |
 /// | 1 | the programs differ | the answer of `same` |
 /// | 2 | there aren't two words, or one is empty or begins with `-` | the line of usage |
-/// | 3 | a text is refused, the normal program is too long, or no derivation was found | the refusal |
+/// | 3 | a text is refused, or both programs mean the same and their normal program is too long | the refusal |
 /// | 4 | a read failed in this call | nothing |
 /// | 5 | a write failed in this call | a front of the answer |
 /// | 6 | out of memory, before the first write | nothing |

@@ -11,4 +11,5 @@ returns c =
       stay = c.names_stay_below.ensures;
       name = c.read_programs_have_known_names.ensures;
       kept = c.kept_parts_have_known_names.ensures;
+      narrow = c.narrow_steps_are_moves.ensures;
     })

@@ -1,68 +1,59 @@
-use Rattle.std.proofs.Common.{Err, ap, arith, refl}
-use Rattle.occ_engine.specs.Moved.{moves_of}
-use Rattle.occ_prove_run.proofs.Growing.{grown, interface_grown, program_grown, steps_grown}
-use Rattle.occ_prove_run.proofs.Scripts.{is_wide, later_short_of, none_of, script_proved, short_of, some_of, stuck_back}
-use Rattle.occ_prove_run.specs.Proofs.{too_wide, unfinished_second}
-use Rattle.occ_prove_steps.specs.Joined.{AreWritable, IsProof, IsTooWide}
-use Rattle.occ_syntax.specs.View.{tree}
+use Rattle.std.proofs.Common.{Err, ap, arith, refl, sym}
+use Rattle.occ_prove_run.proofs.Growing.{grown, program_grown, steps_grown}
+use Rattle.occ_prove_run.proofs.Scripts.{leads_to_normal, script_proved}
+use Rattle.occ_prove_run.specs.Proofs.{long}
+use Rattle.occ_usage.proofs.Law.{faultless_keeps}
 use Rattle.occ_prove_run.proofs.proving.proved.Goals as goal
 
-pub normal-requires-2 : goal.normal-requires-2
-normal-requires-2 c =
-    let names = c.args.pair.names in
-    interface_grown names c.normal.new.names c.args.pair.right.program (grown names c.normal.new.names c.in-Ok.ensures.grown) c.requires.right
+pub normal-requires : goal.normal-requires
+normal-requires c = c.requires.ready.interface
 
-pub returns-in-Err-normal-clause-proved : goal.returns-in-Err-normal-clause-proved
-returns-in-Err-normal-clause-proved c =
-    let names = c.args.pair.names in
-    let p = c.args.pair.left.program in
-    stuck_back c.stuck-in-Err-normal.result c.in-Err-normal.fault names c.normal.new.names p c.args.pair.right.program c.stuck-in-Err-normal.ensures.stuck
-    (short_of names p c.in-Ok.outcome c.in-Ok.ensures.derived) c.in-Ok.ensures.grown (λ e. c.in-Err-normal.ensures.long (ap Err e)) (λ e. c.in-Err-normal.ensures.short (ap Err e))
+pub returns-in-Err-Long-clause-proved : goal.returns-in-Err-Long-clause-proved
+returns-in-Err-Long-clause-proved c = long (c.in-Err-Long.ensures.long (ap Err c.in-Err-Long.field-0-is)) refl
 
-pub returns-then-not-same_proc-clause-proved : goal.returns-then-not-same_proc-clause-proved
-returns-then-not-same_proc-clause-proved c =
-    let names = c.args.pair.names in
-    unfinished_second (short_of names c.args.pair.left.program c.in-Ok.outcome c.in-Ok.ensures.derived)
-    (later_short_of names c.normal.new.names c.args.pair.right.program c.in-Ok-normal.outcome c.in-Ok.ensures.grown c.in-Ok-normal.ensures.derived) refl
+pub derive_to-requires : goal.derive_to-requires
+derive_to-requires c =
+    let q = c.args.pair.right in
+    leads_to_normal c.normal_programs_are_derivable.ensures c.args.pair.names c.args.pair.left.program q.program c.in-Ok.outcome (faultless_keeps q.program q.kept)
+    c.requires.ready.header c.requires.same c.in-Ok.ensures.derived
+
+pub joined-requires-clause-there : goal.joined-requires-clause-there
+joined-requires-clause-there c = c.in-Ok.ensures.derived.derived
+
+pub joined-requires-clause-back : goal.joined-requires-clause-back
+joined-requires-clause-back c = c.in_ok-back.ensures.derived.outcome_is
+
+pub joined-requires-clause-header : goal.joined-requires-clause-header
+joined-requires-clause-header c = c.requires.ready.header
+
+pub joined-requires-clause-meet : goal.joined-requires-clause-meet
+joined-requires-clause-meet c = sym c.in_ok-back.ensures.derived.to_is
 
 pub written-requires-clause-writable : goal.written-requires-clause-writable
 written-requires-clause-writable c =
     let mid = c.normal.new.names in
-    let new = c.normal-2.new.names in
+    let new = c.derive_to.new.names in
     let name = c.in-Ok.ensures.known.first.name_is in
-    some_of c.in_ok-steps.field-0 c.in-Some.steps (AreWritable new) c.in-Some.is
-    (c.in_ok-steps.ensures.writable new
-    (steps_grown c.parts_are_known_up_to_their_greatest_name.ensures mid new c.in-Ok.outcome.steps (omega (arith, name)) (grown mid new c.in-Ok-normal.ensures.grown) c.in-Ok.ensures.known.steps)
-    c.in-Ok-normal.ensures.known.steps c.in-Ok-normal.ensures.known.first)
+    c.in_ok-steps.ensures.writable new
+    (steps_grown c.parts_are_known_up_to_their_greatest_name.ensures mid new c.in-Ok.outcome.steps (omega (arith, name)) (grown mid new c.in_ok-back.ensures.grown) c.in-Ok.ensures.known.steps)
+    c.in_ok-back.ensures.writable.steps c.in_ok-back.ensures.writable.first
 
 pub written-requires-clause-left : goal.written-requires-clause-left
 written-requires-clause-left c =
     let mid = c.normal.new.names in
-    let new = c.normal-2.new.names in
-    program_grown c.parts_are_known_up_to_their_greatest_name.ensures mid new c.args.pair.left.program (grown mid new c.in-Ok-normal.ensures.grown) c.in-Ok.ensures.known.first
+    let new = c.derive_to.new.names in
+    program_grown c.parts_are_known_up_to_their_greatest_name.ensures mid new c.args.pair.left.program (grown mid new c.in_ok-back.ensures.grown) c.in-Ok.ensures.known.first
 
-pub returns-in-Some-clause-proved : goal.returns-in-Some-clause-proved
-returns-in-Some-clause-proved c =
-    let mid = c.normal.new.names in
-    let new = c.normal-2.new.names in
-    let p = c.args.pair.left.program in
-    let q = c.args.pair.right.program in
-    let name = c.in-Ok.ensures.known.first.name_is in
-    let writable = some_of c.in_ok-steps.field-0 c.in-Some.steps (AreWritable new) c.in-Some.is
-    (c.in_ok-steps.ensures.writable new
-    (steps_grown c.parts_are_known_up_to_their_greatest_name.ensures mid new c.in-Ok.outcome.steps (omega (arith, name)) (grown mid new c.in-Ok-normal.ensures.grown) c.in-Ok.ensures.known.steps)
-    c.in-Ok-normal.ensures.known.steps c.in-Ok-normal.ensures.known.first) in
-    script_proved c.args.pair.names mid new p q c.in-Ok.outcome c.in-Ok-normal.outcome c.in-Some.steps c.in_ok-written-in-Some.field-0 c.in-Ok.ensures.grown c.in-Ok-normal.ensures.grown
-    c.in-Ok.ensures.derived c.in-Ok-normal.ensures.derived (some_of c.in_ok-steps.field-0 c.in-Some.steps (IsProof p q) c.in-Some.is c.in_ok-steps.ensures.proof) writable
-    c.in_ok-written-in-Some.ensures.said c.in_ok-written-in-Some.ensures.written
+pub written-requires-clause-right : goal.written-requires-clause-right
+written-requires-clause-right c = c.in_ok-back.ensures.writable.first
 
 pub returns-clause-proved : goal.returns-clause-proved
 returns-clause-proved c =
-    let names = c.args.pair.names in
     let mid = c.normal.new.names in
-    let q = c.args.pair.right.program in
-    let back = c.in-Ok-normal.outcome in
-    too_wide (short_of names c.args.pair.left.program c.in-Ok.outcome c.in-Ok.ensures.derived)
-    (later_short_of names mid q back c.in-Ok.ensures.grown c.in-Ok-normal.ensures.derived)
-    (is_wide names mid q back c.in-Ok.ensures.grown c.in-Ok-normal.ensures.derived
-    (none_of c.in_ok-steps.field-0 (IsTooWide (tree q.body) (moves_of back.steps)) c.in-None.is c.in_ok-steps.ensures.wide)) refl
+    let new = c.derive_to.new.names in
+    let name = c.in-Ok.ensures.known.first.name_is in
+    let writable = c.in_ok-steps.ensures.writable new
+    (steps_grown c.parts_are_known_up_to_their_greatest_name.ensures mid new c.in-Ok.outcome.steps (omega (arith, name)) (grown mid new c.in_ok-back.ensures.grown) c.in-Ok.ensures.known.steps)
+    c.in_ok-back.ensures.writable.steps c.in_ok-back.ensures.writable.first in
+    script_proved c.args.pair.names mid new c.args.pair.left.program c.args.pair.right.program c.in-Ok.outcome c.in_ok-steps.steps c.in_ok-written.field-0 c.in-Ok.ensures.grown
+    c.in_ok-back.ensures.grown c.in-Ok.ensures.derived c.in_ok-steps.ensures.proof writable c.in_ok-written.ensures.said c.in_ok-written.ensures.written
