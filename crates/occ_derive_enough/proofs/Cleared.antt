@@ -17,6 +17,7 @@ use Rattle.occ_derive_leads.proofs.Pointwise.{branches_lead, cases_lead}
 use Rattle.occ_derive_leads.specs.Leads.{BranchesLead, CasesLead, Leads, and_branches, and_cases, no_branches, no_cases}
 use Rattle.occ_derive_leads.specs.Nodes.{process_cleared}
 use Rattle.occ_derive_leads.specs.States.{scope_of}
+use Rattle.occ_derive_told.proofs.Beginning.{constant_stays}
 use Rattle.occ_law_rules.specs.Sequence.{each_branch_before, each_case_before}
 use Rattle.occ_meaning.specs.Parallel.{one}
 use Rattle.occ_meaning.specs.Substitution.{substituted}
@@ -87,10 +88,6 @@ branches_end S kept (t ∷ ts) es c {gs} {hs} k a =
     (alone_keeps (environment S) (assign (t ∷ ts) es) (c refl))))
 
 -- ---- ends
-
-pub constant_stays : (xs : List ℕ) (es : List Exp) (w : Width) (n : ℕ) → substituted xs es (constant w n) ≡ constant w n
-constant_stays xs es Truth n = refl
-constant_stays xs es (Word bits) n = refl
 
 pub cleared_stay : (inputs : List (Name × Kind)) (xs : List ℕ) (es : List Exp) → map (substituted xs es) (cleared inputs) ≡ cleared inputs
 cleared_stay [] xs es = refl

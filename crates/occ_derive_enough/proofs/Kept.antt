@@ -12,6 +12,7 @@ use Rattle.occ_derive_forms.specs.Unified.{cleared}
 use Rattle.occ_derive_law_scope.proofs.Opened.{agree_both}
 use Rattle.occ_derive_law_seq.proofs.Pairs.{and_pair, assign_keeps}
 use Rattle.occ_derive_leads.proofs.Scopes.{last_new, scope_front}
+use Rattle.occ_derive_told.proofs.Facts.{constant_type}
 use Rattle.occ_meaning.proofs.Facts.{at_itself, if_true, none_not_some}
 use Rattle.occ_syntax.specs.declared.scope.Kind.{Kind}
 use Rattle.occ_syntax.specs.declared.scope.Kind.TheVariants.{Chan, Var}
@@ -43,12 +44,6 @@ none_of ((name, Chan w d) ∷ T) x h = none_of T x (none_apart (x == name.0) (Ch
 none_of ((name, Var w) ∷ T) x h =
     let p = none_apart (x == name.0) (Var w) (environment T x) h in
     or_from (x == name.0) (is_in (variables T) x) p.0 (none_of T x p.1)
-
-pub constant_type : (Γ : Environment) (w : Width) (v : ℕ) → is_width w ≡ true → v < 2 ^ bits_of w → type_of Γ (constant w v) ≡ Some w
-constant_type Γ Truth v k h = refl
-constant_type Γ (Word bits) v k h =
-    if_true (is_width (Word bits) && nat_lt v (2 ^ bits)) (Some (Word bits)) None
-    (and_from (is_width (Word bits)) (nat_lt v (2 ^ bits)) k (lt-ltb v (2 ^ bits) h))
 
 cleared_kept : (S T : List (Name × Kind)) → scope_kept (S ++ T) ≡ true → pairs_kept (environment (S ++ T)) (variables T) (cleared T) ≡ true
 cleared_kept S [] h = refl

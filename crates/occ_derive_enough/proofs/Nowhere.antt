@@ -6,7 +6,8 @@ use Rattle.std.specs.List.{AllByRecursion}
 use Rattle.occ_base.specs.declared.names.Name.{Name}
 use Rattle.occ_bits.specs.Named.{bits_named, named_part}
 use Rattle.occ_derive_enough.specs.Begun.{IsAway}
-use Rattle.occ_derive_forms.specs.Apart.{has_declared, some_branch_declares, some_case_declares, some_declare}
+use Rattle.occ_derive_forms.specs.Apart.{has_declared}
+use Rattle.occ_derive_leads.proofs.Nowhere.{nowhere_declared}
 use Rattle.occ_derive_leads.specs.Few.{AllFew, BranchesFew, CasesFew, IsFew}
 use Rattle.occ_law_rules.specs.Lists.{conditions}
 use Rattle.occ_meaning.proofs.Facts.{false_not_true}
@@ -89,48 +90,13 @@ few_with S (t ∷ I) p all f =
 
 -- ---- declared
 
-mutual
-  pub not_declared : (p : Tree) (x : ℕ) → stands p x ≡ false → has_declared p x ≡ false
-  not_declared skip x h = refl
-  not_declared stop x h = refl
-  not_declared (assign xs es) x h = refl
-  not_declared (receive c y) x h = refl
-  not_declared (send c e) x h = refl
-  not_declared (seq ps) x h = none_declared ps x h
-  not_declared (par ps) x h = none_declared ps x h
-  not_declared (select cs) x h = no_case_declared cs x h
-  not_declared (alt gs) x h = no_branch_declared gs x h
-  not_declared (declare y w p) x h =
-      let both = or_parts (x == y) (stands p x) h in or_from (x == y) (has_declared p x) both.0 (not_declared p x both.1)
-  not_declared (connect c w p) x h =
-      let both = or_parts (x == c) (stands p x) h in or_from (x == c) (has_declared p x) both.0 (not_declared p x both.1)
-
-  none_declared : (ps : Trees) (x : ℕ) → stands_in_some ps x ≡ false → some_declare ps x ≡ false
-  none_declared no_tree x h = refl
-  none_declared (and_tree p ps) x h =
-      let both = or_parts (stands p x) (stands_in_some ps x) h in
-      or_from (has_declared p x) (some_declare ps x) (not_declared p x both.0) (none_declared ps x both.1)
-
-  no_case_declared : (cs : Cases) (x : ℕ) → stands_in_cases cs x ≡ false → some_case_declares cs x ≡ false
-  no_case_declared no_case x h = refl
-  no_case_declared (and_case b p cs) x h =
-      let both = or_parts (names b x || stands p x) (stands_in_cases cs x) h in
-      or_from (has_declared p x) (some_case_declares cs x) (not_declared p x (or_parts (names b x) (stands p x) both.0).1) (no_case_declared cs x both.1)
-
-  no_branch_declared : (gs : Branches) (x : ℕ) → stands_in_branches gs x ≡ false → some_branch_declares gs x ≡ false
-  no_branch_declared no_branch x h = refl
-  no_branch_declared (and_branch b w p gs) x h =
-      let both = or_parts ((names b x || stands_in_waiting w x) || stands p x) (stands_in_branches gs x) h in
-      or_from (has_declared p x) (some_branch_declares gs x) (not_declared p x (or_parts (names b x || stands_in_waiting w x) (stands p x) both.0).1)
-      (no_branch_declared gs x both.1)
-
 pub away : (h : Header) (p : Tree) → AllByRecursion (λ (t : Name × Kind). stands p t.0.0 ≡ false) h.inputs → IsAway h p
 away h p all = record { declared = each h.inputs all; spared = spared h.inputs all }
   where
     each : (I : List (Name × Kind)) → AllByRecursion (λ (t : Name × Kind). stands p t.0.0 ≡ false) I
         → AllByRecursion (λ (t : Name × Kind). has_declared p t.0.0 ≡ false) I
     each [] a = tt
-    each (t ∷ I) a = (not_declared p t.0.0 a.0, each I a.1)
+    each (t ∷ I) a = (nowhere_declared p t.0.0 a.0, each I a.1)
 
     spared : (I : List (Name × Kind)) → AllByRecursion (λ (t : Name × Kind). stands p t.0.0 ≡ false) I → (x : ℕ) → is_in (variables I) x ≡ true → free p x ≡ false
     spared [] a x h = false_not_true h

@@ -7,7 +7,7 @@ use Rattle.occ_base.specs.declared.names.Name.{Name}
 use Rattle.occ_base.specs.declared.width.Width.TheVariants.{Bool as Truth}
 use Rattle.occ_base.specs.Width.{bits_of}
 use Rattle.occ_derive_enough.proofs.Beginning.{bodies_begin}
-use Rattle.occ_derive_enough.proofs.Nowhere.{away, few_behind, few_with, not_declared}
+use Rattle.occ_derive_enough.proofs.Nowhere.{away, few_behind, few_with}
 use Rattle.occ_derive_enough.proofs.Parting.{behind_skip}
 use Rattle.occ_derive_enough.specs.Begun.{HasBegun}
 use Rattle.occ_derive_forms.specs.Facts.{is_target}
@@ -17,6 +17,7 @@ use Rattle.occ_derive_law_if.proofs.Holding.{copy_law}
 use Rattle.occ_derive_law_scope.proofs.Declared.{round_last}
 use Rattle.occ_derive_law_scope.proofs.Values.{pair_comes}
 use Rattle.occ_derive_law_seq.proofs.Turns.{first_keeps, rest_keeps}
+use Rattle.occ_derive_leads.proofs.Nowhere.{nowhere_declared}
 use Rattle.occ_derive_leads.proofs.Fresh.{IsFresh, fresh_name}
 use Rattle.occ_derive_leads.proofs.Leading.{first_leads, law_leads, law_leads_back, leads_keep, leads_on}
 use Rattle.occ_derive_leads.proofs.Scopes.{declared_keeps, scope_front}
@@ -120,7 +121,7 @@ module _ (h : Header) (is : IsHeader h) (p : Tree) (keeps : Keeps (environment h
       let come = pair_comes S y Truth [] [] (constant Truth 0) found.new refl refl refl in
       let second = first_leads S (one p) (law_leads_back S 55 come) in
       let kept = leads_keep S front (leads_keep S front keeps first) second in
-      let round = round_last S y Truth (assign (y ∷ []) (constant Truth 0 ∷ [])) p kept (not_declared p y found.nowhere) in
+      let round = round_last S y Truth (assign (y ∷ []) (constant Truth 0 ∷ [])) p kept (nowhere_declared p y found.nowhere) in
       leads_on S first (leads_on S second (law_leads_back S 50 round))
 
   within : Keeps (environment (S ++ ys)) p

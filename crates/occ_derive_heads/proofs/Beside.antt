@@ -7,7 +7,7 @@ use Rattle.occ_derive_forms.specs.Apart.{has_declared}
 use Rattle.occ_derive_forms.specs.Weight.{weight}
 use Rattle.occ_derive_heads.proofs.Bits.{few_there, more_counts}
 use Rattle.occ_derive_heads.proofs.Choices.{choices_head, each_case, first_then, its_own}
-use Rattle.occ_derive_heads.proofs.Renaming.{nowhere_declared, renewed}
+use Rattle.occ_derive_heads.proofs.Renaming.{renewed}
 use Rattle.occ_derive_heads.specs.Headed.{HasHead}
 use Rattle.occ_derive_law_par.proofs.Beside.{after_skip, assignment_leaves, assignment_leaves_spares, before_skip, choices_leave, choices_leave_spares, last_true, one_is_it, others_as_one, others_as_one_spares, turned, turned_spares, two_of}
 use Rattle.occ_derive_law_par.proofs.Expanding.{expansion_spares}
@@ -16,6 +16,7 @@ use Rattle.occ_derive_law_par.proofs.Meeting.{expansion}
 use Rattle.occ_derive_law_scope.proofs.Declared.{round_par, round_par_spares}
 use Rattle.occ_derive_law_scope.proofs.Using.{first_part, later_parts, one_uses}
 use Rattle.occ_derive_law_seq.proofs.Turns.{one_law_back, one_spares_back}
+use Rattle.occ_derive_leads.proofs.Nowhere.{nowhere_declared}
 use Rattle.occ_derive_leads.proofs.Leading.{first_beside_spares, law_spares, law_spares_back, second_beside_spares, spares_keep, spares_on}
 use Rattle.occ_derive_leads.specs.Few.{BranchesFew, IsFew}
 use Rattle.occ_derive_leads.specs.Heads.{IsHead, assigns, assigns_first, chooses, declares, nothing, or_else, waits}

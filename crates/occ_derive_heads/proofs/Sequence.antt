@@ -5,11 +5,12 @@ use Rattle.occ_base.specs.declared.width.Width.{Width}
 use Rattle.occ_derive_forms.specs.Weight.{heaviest_branch, weight_of_all}
 use Rattle.occ_derive_heads.proofs.Bits.{few_there, more_counts}
 use Rattle.occ_derive_heads.proofs.Choices.{choices_head, each_case, first_then}
-use Rattle.occ_derive_heads.proofs.Renaming.{nowhere_declared, renewed}
+use Rattle.occ_derive_heads.proofs.Renaming.{renewed}
 use Rattle.occ_derive_heads.specs.Headed.{HasHead}
 use Rattle.occ_derive_law_scope.proofs.Declared.{round_last, round_last_spares}
 use Rattle.occ_derive_law_seq.proofs.Behind.{alt_law, alt_spares, if_law, if_spares}
 use Rattle.occ_derive_law_seq.proofs.Turns.{first_keeps, flat_last_back, flat_last_spares_back, flat_law, flat_spares, skip_law, skip_spares}
+use Rattle.occ_derive_leads.proofs.Nowhere.{nowhere_declared}
 use Rattle.occ_derive_leads.proofs.Leading.{first_spares, law_spares, law_spares_back, spares_keep, spares_on}
 use Rattle.occ_derive_leads.specs.Few.{AllFew, BranchesFew, IsFew}
 use Rattle.occ_derive_leads.specs.Heads.{IsHead, assigns, assigns_first, chooses, declares, nothing, or_else, waits}

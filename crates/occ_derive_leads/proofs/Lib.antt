@@ -3,3 +3,4 @@ pub mod Leading
 pub mod Pointwise
 pub mod Rows
 pub mod Scopes
+pub mod Nowhere
