@@ -1,5 +1,5 @@
 -- The machine that builds steps, and what each instruction does.
-use Rattle.std.specs.Prelude.{ℕ, suc, zero, Bool, true, nat_lt, ◌&&◌, List, [], ◌∷◌, ◌++◌, Option, None, Some, ◌≡◌, if◌then◌else◌}
+use Rattle.std.specs.Prelude.{ℕ, suc, zero, Bool, nat_lt, ◌&&◌, List, [], ◌∷◌, ◌++◌, Option, None, Some, ◌≡◌, if◌then◌else◌}
 use Rattle.occ_base.specs.declared.width.Width.{Width}
 use Rattle.occ_base.specs.declared.width.Width.TheVariants.{Bool as TruthValue, Word}
 use Rattle.occ_derive_codes.specs.declared.instruction.Instruction.{Instruction}
