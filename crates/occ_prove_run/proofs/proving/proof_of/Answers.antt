@@ -9,12 +9,12 @@ returns-then-not-is_same-clause-proves c =
     told_as_same one two c.in_ok-told.told c.in_ok-told.ensures.settles
     (not_same c.is_same.result c.in_ok-told.told (AreApartAll one two) c.if-not-is_same.true c.is_same.ensures.1)
 
-pub proved-in-Some-requires-clause-ready : goal.proved-in-Some-requires-clause-ready
-proved-in-Some-requires-clause-ready c =
+pub proved-requires-clause-ready : goal.proved-requires-clause-ready
+proved-requires-clause-ready c =
     (some_of c.in_ok-pair.field-0 c.in-Some.pair (IsPairOf c.args.one.now c.args.two.now) c.in-Some.is c.in_ok-pair.ensures.pair).ready
 
-pub proved-in-Some-requires-clause-same : goal.proved-in-Some-requires-clause-same
-proved-in-Some-requires-clause-same c =
+pub proved-requires-clause-same : goal.proved-requires-clause-same
+proved-requires-clause-same c =
     let one = c.args.one.now in
     let two = c.args.two.now in
     pair_means_the_same c.same_files_mean_the_same.ensures one two c.in_ok-told.told c.in-Some.pair c.requires.first c.requires.second c.in_ok-told.ensures.settles
