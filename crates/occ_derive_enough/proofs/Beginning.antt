@@ -6,7 +6,6 @@ use Rattle.std.proofs.lemmas.List.{append-nil, append_assoc}
 use Rattle.std.specs.List.{AllByRecursion}
 use Rattle.occ_base.specs.declared.names.Name.{Name}
 use Rattle.occ_base.specs.Width.{bits_of}
-use Rattle.occ_derive_enough.proofs.Kept.{constant_type}
 use Rattle.occ_derive_enough.proofs.Parting.{behind_skip}
 use Rattle.occ_derive_enough.proofs.Tabled.{becomes_table, start, start_state, tolds, zeros_there}
 use Rattle.occ_derive_enough.proofs.Whole.{only_variables, within_keeps}
@@ -20,6 +19,7 @@ use Rattle.occ_derive_law_seq.proofs.Behind.{if_law}
 use Rattle.occ_derive_law_seq.proofs.Pairs.{assign_pairs, id_law_back}
 use Rattle.occ_derive_law_seq.proofs.Turns.{first_keeps, rest_keeps}
 use Rattle.occ_derive_law_seq.specs.Alike.{AreVariables}
+use Rattle.occ_derive_told.proofs.Facts.{constant_type}
 use Rattle.occ_derive_leads.proofs.Leading.{declared_leads, declaring_leads, first_leads, law_leads, law_leads_back, leads_itself, leads_keep, leads_on}
 use Rattle.occ_derive_leads.proofs.Scopes.{declared_keeps, last_new, scope_front}
 use Rattle.occ_derive_leads.specs.Configured.{IsConfigured, IsLeft}
