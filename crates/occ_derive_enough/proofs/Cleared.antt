@@ -3,8 +3,6 @@ use Rattle.std.proofs.Common.{◌≡◌, ◌∙◌, ◌++◌, ◌&&◌, ℕ, suc
 use Rattle.std.proofs.lemmas.Bool.{and_parts}
 use Rattle.std.proofs.lemmas.List.{append_assoc}
 use Rattle.occ_base.specs.declared.names.Name.{Name}
-use Rattle.occ_base.specs.declared.width.Width.{Width}
-use Rattle.occ_base.specs.declared.width.Width.TheVariants.{Bool as Truth, Word}
 use Rattle.occ_behaviour.specs.States.{is_state}
 use Rattle.occ_derive_enough.proofs.Parting.{end_parted}
 use Rattle.occ_derive_enough.specs.Clearing.{and_then, with_clearing}

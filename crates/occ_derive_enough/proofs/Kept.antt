@@ -1,11 +1,9 @@
 -- The clearing of the last variables of a scope keeps the rules there.
-use Rattle.std.proofs.Common.{◌≡◌, ◌∙◌, ◌++◌, ◌==◌, ◌<◌, ◌^◌, ◌&&◌, ℕ, Bool, cond, nat_lt, false, true, List, [], ◌∷◌, Option, None, Some, refl, sym, ap, subst}
-use Rattle.std.proofs.lemmas.Bool.{and_from, and_parts, lt-ltb, or_from}
+use Rattle.std.proofs.Common.{◌≡◌, ◌∙◌, ◌++◌, ◌==◌, ℕ, Bool, cond, false, true, List, [], ◌∷◌, Option, None, Some, refl, sym, ap, subst}
+use Rattle.std.proofs.lemmas.Bool.{and_parts, or_from}
 use Rattle.std.proofs.lemmas.Nat.{pow_pos}
 use Rattle.std.proofs.lemmas.List.{append_assoc}
 use Rattle.occ_base.specs.declared.names.Name.{Name}
-use Rattle.occ_base.specs.declared.width.Width.{Width}
-use Rattle.occ_base.specs.declared.width.Width.TheVariants.{Bool as Truth, Word}
 use Rattle.occ_base.specs.Width.{bits_of}
 use Rattle.occ_bits.proofs.Laid.{fresh_first}
 use Rattle.occ_derive_forms.specs.Unified.{cleared}
@@ -13,13 +11,13 @@ use Rattle.occ_derive_law_scope.proofs.Opened.{agree_both}
 use Rattle.occ_derive_law_seq.proofs.Pairs.{and_pair, assign_keeps}
 use Rattle.occ_derive_leads.proofs.Scopes.{last_new, scope_front}
 use Rattle.occ_derive_told.proofs.Facts.{constant_type}
-use Rattle.occ_meaning.proofs.Facts.{at_itself, if_true, none_not_some}
+use Rattle.occ_meaning.proofs.Facts.{at_itself, none_not_some}
 use Rattle.occ_syntax.specs.declared.scope.Kind.{Kind}
 use Rattle.occ_syntax.specs.declared.scope.Kind.TheVariants.{Chan, Var}
 use Rattle.occ_syntax.specs.Names.{is_in}
-use Rattle.occ_syntax.specs.Scopes.{Environment, environment, variable_kind, variable_width}
+use Rattle.occ_syntax.specs.Scopes.{environment, variable_kind, variable_width}
 use Rattle.occ_syntax.specs.Tree.{assign}
-use Rattle.occ_syntax.specs.Types.{can_declare, is_pair, is_width, pairs_kept, scope_kept, type_of, width_of_kind}
+use Rattle.occ_syntax.specs.Types.{can_declare, is_pair, pairs_kept, scope_kept, type_of, width_of_kind}
 use Rattle.occ_syntax.specs.Usage.{Keeps}
 use Rattle.occ_target.specs.States.{constant, variables}
 

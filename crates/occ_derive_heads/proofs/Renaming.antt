@@ -1,6 +1,6 @@
 -- Declared variables under a name that stands nowhere else.
 use Rattle.std.proofs.Common.{arith, ◌≡◌, ◌∙◌, ℕ, ◌+◌, ◌==◌, max, false, ◌||◌, if◌then◌else◌, List, [], ◌∷◌, ◌++◌, None, refl, ap, subst, sym}
-use Rattle.std.proofs.lemmas.Bool.{or_from, or_parts}
+use Rattle.std.proofs.lemmas.Bool.{or_parts}
 use Rattle.occ_base.specs.declared.names.Name.{Name}
 use Rattle.occ_base.specs.declared.width.Width.{Width}
 use Rattle.occ_derive_forms.specs.Weight.{heaviest_branch, heaviest_case, weight, weight_of_all}
@@ -18,7 +18,7 @@ use Rattle.occ_meaning.proofs.Facts.{at_itself, if_false, if_true, name_off, off
 use Rattle.occ_meaning.proofs.Redeclared.{replaced_is_exchanged}
 use Rattle.occ_meaning.proofs.Renaming.{IsExchange, exchange_is}
 use Rattle.occ_meaning.specs.Parallel.{two}
-use Rattle.occ_meaning.specs.Rename.{all_renamed, branches_renamed, cases_renamed, exchanging, renamed, renamed_exp, renamed_exps, replacing, stands, stands_in_branches, stands_in_cases, stands_in_some, stands_in_waiting}
+use Rattle.occ_meaning.specs.Rename.{all_renamed, branches_renamed, cases_renamed, exchanging, renamed, renamed_exp, renamed_exps, replacing, stands}
 use Rattle.occ_syntax.specs.declared.scope.Kind.{Kind}
 use Rattle.occ_syntax.specs.declared.scope.Kind.TheVariants.{Chan, Var}
 use Rattle.occ_syntax.specs.Names.{names}
