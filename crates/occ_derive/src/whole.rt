@@ -210,7 +210,7 @@ fn names_in(
 }
 
 /// Steps from a program to its normal program, whose body is given, as the strategy proposes them.
-#[tactic(auto, using(occ_fresh::proofs::Growing::grows_on))]
+#[tactic(auto, using(occ_fresh::proofs::Growing::grows_not, occ_fresh::proofs::Growing::grows_on))]
 pub(crate) fn proposals(
     alloc: Global,
     names: &mut Names,
