@@ -1,10 +1,10 @@
 -- The next row of digits.
-use Rattle.std.proofs.Common.{◌≡◌, ℕ, zero, suc, ◌+◌, ◌*◌, ◌-◌, ◌<◌, ◌≤◌, ltb, Bool, true, false, cond, List, [], ◌∷◌, ◌++◌, length, take, drop, get_or, add-one, set, append-nil, refl, sym, ap, subst, ◌∙◌, arith}
+use Rattle.std.proofs.Common.{◌≡◌, ℕ, zero, suc, ◌+◌, ◌-◌, ◌<◌, ◌≤◌, ltb, Bool, true, false, cond, List, [], ◌∷◌, ◌++◌, length, take, drop, get_or, add-one, set, append-nil, refl, sym, ap, subst, ◌∙◌, arith}
 use Rattle.std.specs.List.{AllByRecursion}
 use Rattle.std.proofs.lemmas.List.{drop_all, take_all}
 use Rattle.std.proofs.lemmas.Bool.{le-ltb, lt-ltb, ltb-false}
 use Rattle.occ_derive_codes.specs.declared.instruction.TheConstants.{DIGITS}
-use Rattle.occ_derive_search.specs.Rows.{IsDigit, carried, rank}
+use Rattle.occ_derive_search.specs.Rows.{IsDigit, rank}
 
 -- the next row
 abbrev pub next : List ℕ → List ℕ
@@ -53,7 +53,6 @@ small_set (a ∷ rest) zero d h k = (k, h.1)
 small_set (a ∷ rest) (suc i) d h k = (h.0, small_set rest i d h.1 k)
 
 -- ---- where the row goes
-
 
 -- a digit that doesn't turn over ends it
 pub stopped : (old s : List ℕ) (i d : ℕ) → AllByRecursion IsDigit old → next old ≡ take i s ++ next (drop i s) → i < length s → get_or s i 0 ≡ d → d < DIGITS - 1

@@ -1,5 +1,5 @@
 -- A row of digits is tried, and goes on to the next.
-use Rattle.std.proofs.Common.{◌≡◌, ℕ, ◌<◌, ◌≤◌, List, None, Some, sym, ap, subst, ◌∙◌, arith}
+use Rattle.std.proofs.Common.{◌≡◌, ℕ, ◌<◌, ◌≤◌, List, None, sym, subst, arith}
 use Rattle.std.specs.List.{AllByRecursion}
 use Rattle.occ_derive_check.specs.Derivations.{AreFollowed, IsDerived}
 use Rattle.occ_derive_codes.specs.Codes.{Spells}
