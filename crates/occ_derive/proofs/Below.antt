@@ -29,9 +29,10 @@ step_more : (a m : ℕ) (step : Done) → a ≤ m → IsBelow a step → IsBelow
 step_more a m step l h = let low = h.part in record { part = omega (arith, low, l); path = h.path }
 
 -- one step more
-pub steps_on : (a r m : ℕ) (steps : List Done) (i : ℕ) (d : Done) → i < length steps → IsBelow a (get_or steps i d) → a ≤ r → r ≤ m
+pub steps_on : (a r m : ℕ) (steps : List Done) (i : ℕ) (d step : Done) → i < length steps → get_or steps i d ≡ step → IsBelow a step → a ≤ r → r ≤ m
     → AllByRecursion (IsBelow m) (drop (i + 1) steps) → AllByRecursion (IsBelow m) (drop i steps)
-steps_on a r m steps i d h first low l rest = from_next (IsBelow m) steps i d h (step_more a m (get_or steps i d) (omega (arith, low, l)) first) rest
+steps_on a r m steps i d step h e first low l rest =
+    from_next (IsBelow m) steps i d h (subst (IsBelow m) (sym e) (step_more a m step (omega (arith, low, l)) first)) rest
 
 params_more : (a m : ℕ) (params : List (Name × Kind)) → a ≤ m → AllByRecursion (ParamIsBelow a) params → AllByRecursion (ParamIsBelow m) params
 params_more a m [] l h = tt

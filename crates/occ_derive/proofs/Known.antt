@@ -1,9 +1,8 @@
 -- Names up to one that stands in a table stand in it.
-use Rattle.std.proofs.Common.{◌≡◌, ◌≤◌, ◌<◌, ◌+◌, ℕ, suc, arith, List, [], ◌∷◌, length, Result, Ok, Err, IfOk}
+use Rattle.std.proofs.Common.{◌≡◌, ◌≤◌, ◌<◌, ◌+◌, ℕ, suc, arith, List, [], ◌∷◌, length}
 use Rattle.std.specs.List.{AllByRecursion}
 use Rattle.occ_base.specs.declared.names.Name.{Name}
 use Rattle.occ_derive.specs.Derived.{AreBelow, CanBeWritten, IsBelow, IsDerivation, IsProgramOf, ParamIsBelow, ProgramIsBelow}
-use Rattle.occ_derive.specs.declared.fault.DeriveFault.{DeriveFault}
 use Rattle.occ_engine.specs.declared.outcome.Outcome.{Outcome}
 use Rattle.occ_engine.specs.Outcomes.{IsTabled}
 use Rattle.occ_print.specs.Known.{PartIsKnown}
@@ -50,9 +49,3 @@ can_be_written law names last from body o l d h = record {
   said = steps_said last o.steps h.steps d.outcome_is.tabled;
   last = program_known law names last o.to l h.to;
 }
-
--- where there is one
-pub written_if : KnownLaw → (names : List (List ℕ)) (last : ℕ) (from : Program) (body : Tree) (r : Result Outcome DeriveFault) → last < length names → IfOk r (IsDerivation from body)
-    → IfOk r (AreBelow last from) → IfOk r (CanBeWritten names from)
-written_if law names last from body (Ok o) l d h = can_be_written law names last from body o l d h
-written_if law names last from body (Err e) l d h = tt

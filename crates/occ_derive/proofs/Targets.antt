@@ -1,12 +1,10 @@
 -- The names of the variables into which a normal program inputs are names of the language.
-use Rattle.std.proofs.Common.{◌≡◌, ℕ, zero, suc, ◌+◌, ◌<◌, ◌≤◌, Bool, true, false, cond, nat_le, ◌&&◌, List, [], ◌∷◌, ◌++◌, length, filter, length-append, Result, Ok, Err, OnOk, refl, sym, subst, arith, lit<}
+use Rattle.std.proofs.Common.{◌≡◌, ℕ, zero, suc, ◌+◌, ◌<◌, ◌≤◌, Bool, true, false, cond, nat_le, ◌&&◌, List, [], ◌∷◌, ◌++◌, length, filter, length-append, refl, sym, subst, arith, lit<}
 use Rattle.std.specs.List.{list_all}
 use Rattle.std.proofs.lemmas.Bool.{and_from, and_parts, le-leb, leb-true}
 use Rattle.occ_base.specs.declared.names.Name.{Name}
 use Rattle.occ_base.specs.declared.width.Width.{Width}
 use Rattle.occ_base.specs.Names.{with_text}
-use Rattle.occ_derive.specs.declared.fault.DeriveFault.{DeriveFault}
-use Rattle.occ_engine.specs.declared.outcome.Outcome.{Outcome}
 use Rattle.occ_fresh.specs.Growth.{GrowsByNames, IsNameText}
 use Rattle.occ_fresh.proofs.Growing.{grows_not, grows_on, grows_once}
 use Rattle.occ_fresh.proofs.Spelled.{is_name_text}
@@ -78,7 +76,6 @@ module _ (params : List (Name × Kind)) (count : length params ≤ 16) where
   inputs_grow names = names_grow names all_widths refl
 
 -- and by the names of the steps behind them
-pub derived_grows : (r : Result Outcome DeriveFault) (params : List (Name × Kind)) (old mid new : List (List ℕ)) → length params ≤ 16 → mid ≡ input_names old params
-    → GrowsByNames mid new → OnOk r (GrowsByNames old new)
-derived_grows (Ok o) params old mid new count e g = grows_on old mid new (subst (GrowsByNames old) (sym e) (inputs_grow params count old)) g
-derived_grows (Err f) params old mid new count e g = tt
+pub derived_grows : (params : List (Name × Kind)) (old mid new : List (List ℕ)) → length params ≤ 16 → mid ≡ input_names old params → GrowsByNames mid new
+    → GrowsByNames old new
+derived_grows params old mid new count e g = grows_on old mid new (subst (GrowsByNames old) (sym e) (inputs_grow params count old)) g

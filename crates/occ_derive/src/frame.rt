@@ -57,6 +57,7 @@ pub(crate) fn greatest(number: usize, names: &[Name]) -> usize {
 #[tactic(auto, using(occ_fresh::proofs::Growing::grows_not, occ_fresh::proofs::Growing::grows_on))]
 pub(crate) fn above(alloc: Global, names: &mut Names, letter: u8, last: usize) -> Result<Name, Lost>
     requires { is_letter letter ≡ true }
+    ensures greater { IfOk result (λ name. last < name.0) }
     ensures within { IfOk result (λ name. name.0 < length names.new) }
     ensures grown { GrowsByNames names.old names.new }
 {

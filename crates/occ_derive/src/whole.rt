@@ -209,8 +209,39 @@ fn names_in(
     Ok(all)
 }
 
+/// A body in which each declared name is its own, and two names that stand nowhere in it.
+#[derive(Drop)]
+struct Named {
+    body: Proc,
+    spare: Name,
+    stand_in: Name,
+}
+
+/// Gives each declaration of a body a name that is none of those taken.
+#[tactic(auto, using(occ_fresh::proofs::Growing::grows_on))]
+fn named(
+    trail: &mut Trail,
+    names: &mut Names,
+    taken: &[Name],
+    header: Name,
+    body: Proc,
+) -> Result<Named, Lost>
+    ensures grown { GrowsByNames names.old names.new }
+{
+    let alloc = trail.alloc();
+    let body = apart(trail, names, taken, body)?;
+    let last = greatest(greatest_name(&body), taken).max(header.0);
+    let spare = above(alloc, names, b'z', last)?;
+    let stand_in = above(alloc, names, b'd', spare.0)?;
+    Ok(Named {
+        body,
+        spare,
+        stand_in,
+    })
+}
+
 /// Steps from a program to its normal program, whose body is given, as the strategy proposes them.
-#[tactic(auto, using(occ_fresh::proofs::Growing::grows_not, occ_fresh::proofs::Growing::grows_on))]
+#[tactic(auto, using(occ_fresh::proofs::Growing::grows_not))]
 pub(crate) fn proposals(
     alloc: Global,
     names: &mut Names,
@@ -224,10 +255,11 @@ pub(crate) fn proposals(
     let mut trail = Trail::new(alloc);
     let taken = names_in(alloc, params, targets.as_slice())?;
     let body = program.body.copy(alloc)?;
-    let body = apart(&mut trail, names, taken.as_slice(), body)?;
-    let last = greatest(greatest_name(&body), taken.as_slice()).max(program.name.0);
-    let spare = above(alloc, names, b'z', last)?;
-    let stand_in = above(alloc, names, b'd', spare.0)?;
+    let Named {
+        body,
+        spare,
+        stand_in,
+    } = named(&mut trail, names, taken.as_slice(), program.name, body)?;
     let frame = Frame {
         params: variables(alloc, params)?,
         targets,

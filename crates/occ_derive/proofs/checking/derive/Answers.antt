@@ -1,17 +1,27 @@
-use Rattle.std.proofs.Common.{◌≤◌, length, ap, arith}
+use Rattle.std.proofs.Common.{◌≤◌, ◌∙◌, length, ap, arith, subst, sym}
 use Rattle.occ_derive.proofs.Targets.{derived_grows}
-use Rattle.occ_derive.proofs.Known.{written_if}
-use Rattle.occ_syntax.specs.declared.scope.Program.{Program}
+use Rattle.occ_derive.specs.Derived.{IsDerivation}
+use Rattle.occ_derive_steps.specs.Steps.{Derivable}
+use Rattle.occ_syntax.specs.Tree.{Tree}
 use Rattle.occ_syntax.specs.View.{tree}
+use Rattle.occ_usage.proofs.Law.{faultless_keeps}
 use Rattle.occ_derive.proofs.checking.derive.Goals as goal
 
-pub returns-in-Ok-proposals-clause-writable : goal.returns-in-Ok-proposals-clause-writable
-returns-in-Ok-proposals-clause-writable c =
-    written_if c.parts_are_known_up_to_their_greatest_name.ensures c.proposals.new.names c.in-Ok-proposals.proposal.last.0 c.args.accepted.now.program
-    (tree c.in-Ok.normal.body) c.checked.result c.in-Ok-proposals.ensures.within c.checked.ensures.derived c.checked.ensures.below
+pub derive_to-requires : goal.derive_to-requires
+derive_to-requires c =
+    let p = c.args.accepted.now.program in
+    let t = c.args.table.now in
+    subst (Derivable p.params (tree p.body)) (sym c.in-Ok.ensures.body)
+    (c.normal_programs_are_derivable.ensures p (record { names = c.args.names.now; params = t.params; rows = t.rows; states = t.states })
+    (faultless_keeps p c.args.accepted.now.kept) c.requires.params c.requires.normal c.requires.stands)
 
-pub returns-in-Ok-proposals-clause-grown : goal.returns-in-Ok-proposals-clause-grown
-returns-in-Ok-proposals-clause-grown c =
+pub returns-clause-derived : goal.returns-clause-derived
+returns-clause-derived c =
+    subst (λ (b : Tree). IsDerivation c.args.accepted.now.program b c.in_ok-outcome.outcome) c.in-Ok.ensures.body c.in_ok-outcome.ensures.derived
+
+pub returns-clause-grown : goal.returns-clause-grown
+returns-clause-grown c =
     let count : length c.args.table.now.params ≤ 16 =
-    omega (arith, c.program.ensures.accepted.typed.parameters, ap (λ (p : Program). length p.params) c.program.ensures.same, ap length c.requires.params) in
-    derived_grows c.checked.result c.args.table.now.params c.args.names.now c.target.new.names c.proposals.new.names count c.in-Ok.ensures.names c.in-Ok-proposals.ensures.grown
+    let few = (faultless_keeps c.args.accepted.now.program c.args.accepted.now.kept).typed.parameters in
+    omega (arith, few, ap length c.requires.params) in
+    derived_grows c.args.table.now.params c.args.names.now c.target.new.names c.derive_to.new.names count c.in-Ok.ensures.names c.in_ok-outcome.ensures.grown
