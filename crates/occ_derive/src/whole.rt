@@ -219,7 +219,7 @@ struct Named {
 
 /// Gives each declaration of a body a name that is none of those taken.
 #[tactic(auto, using(occ_fresh::proofs::Growing::grows_on))]
-fn named(
+fn with_own_names(
     trail: &mut Trail,
     names: &mut Names,
     taken: &[Name],
@@ -259,7 +259,7 @@ pub(crate) fn proposals(
         body,
         spare,
         stand_in,
-    } = named(&mut trail, names, taken.as_slice(), program.name, body)?;
+    } = with_own_names(&mut trail, names, taken.as_slice(), program.name, body)?;
     let frame = Frame {
         params: variables(alloc, params)?,
         targets,
