@@ -1,11 +1,8 @@
 -- A row of digits is tried, and goes on to the next.
-use Rattle.std.proofs.Common.{◌≡◌, ℕ, ◌<◌, ◌≤◌, List, None, sym, subst, arith}
-use Rattle.std.specs.List.{AllByRecursion}
+use Rattle.std.proofs.Common.{◌≡◌, ℕ, List, None, sym, subst}
 use Rattle.occ_derive_check.specs.Derivations.{AreFollowed, IsDerived}
 use Rattle.occ_derive_codes.specs.Codes.{Spells}
-use Rattle.occ_derive_search.proofs.Ranking.{one_row}
 use Rattle.occ_derive_search.specs.Attempts.{IsAttempt}
-use Rattle.occ_derive_search.specs.Rows.{IsDigit, rank}
 use Rattle.occ_derive_steps.proofs.Steps.{one_end}
 use Rattle.occ_derive_steps.specs.Steps.{Steps}
 use Rattle.occ_engine.specs.Followed.{ended}
@@ -30,12 +27,3 @@ pub elsewhere : (from to : Program) (q : Tree) (code : List ℕ) (steps : List D
 elsewhere from to q code steps read derived other moves spells led =
     other (one_end from.params (tree from.body) (tree to.body) q (moves_of steps) derived.steps
     (subst (λ ms. Steps from.params (tree from.body) ms q) (sym (read moves spells)) led))
-
--- a row in front of a code that doesn't spell a derivation isn't the code: it comes before it
-pub comes_before : (from : Program) (q : Tree) (code row : List ℕ) (moves : List Move) → AllByRecursion IsDigit code → AllByRecursion IsDigit row → Spells code moves
-    → Steps from.params (tree from.body) moves q → rank row ≤ rank code → IsAttempt from q row None → rank row < rank code
-comes_before from q code row moves h k spells led low none = strict (rank row) (rank code) low (λ e.
-    none moves (subst (λ ds. Spells ds moves) (one_row code row h k (sym e)) spells) led)
-  where
-    strict : (m n : ℕ) → m ≤ n → (m ≡ n → ⊥) → m < n
-    strict m n l apart = omega arith

@@ -14,7 +14,7 @@ use occ_usage::Accepted;
 use std::alloc::Global;
 
 /// A derivation from an accepted program to the one of its header with this body, where there is one: all rows of digits are read as
-/// steps, the short ones first, until those of one are a derivation. It ends since there is one, however late.
+/// steps, the short ones first, until those of one are a derivation. Where memory suffices it ends at a code of one at the latest.
 pub fn search(alloc: Global, accepted: &Accepted, body: &Proc) -> Result<Outcome, Memory>
     requires { Derivable accepted.now.program.params (tree accepted.now.program.body) (tree body.now) }
     ensures derived { IfOk result (IsDerived accepted.now.program) }
