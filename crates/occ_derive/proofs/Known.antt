@@ -1,5 +1,5 @@
 -- Names up to one that stands in a table stand in it.
-use Rattle.std.proofs.Common.{◌≡◌, ◌≤◌, ◌<◌, ◌+◌, ℕ, suc, arith, List, [], ◌∷◌, length}
+use Rattle.std.proofs.Common.{◌<◌, ℕ, arith, List, [], ◌∷◌, length}
 use Rattle.std.specs.List.{AllByRecursion}
 use Rattle.occ_base.specs.declared.names.Name.{Name}
 use Rattle.occ_derive.specs.Derived.{AreBelow, CanBeWritten, IsBelow, IsDerivation, IsProgramOf, ParamIsBelow, ProgramIsBelow}

@@ -1,4 +1,4 @@
-use Rattle.std.proofs.Common.{◌<◌, arith}
+use Rattle.std.proofs.Common.{arith}
 use Rattle.occ_derive.proofs.checking.cover.Goals as goal
 
 pub returns-in-Ok-clause-within : goal.returns-in-Ok-clause-within

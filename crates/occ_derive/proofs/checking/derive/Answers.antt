@@ -1,4 +1,4 @@
-use Rattle.std.proofs.Common.{◌≤◌, ◌∙◌, length, ap, arith, subst, sym}
+use Rattle.std.proofs.Common.{◌≤◌, length, ap, arith, subst, sym}
 use Rattle.occ_derive.proofs.Targets.{derived_grows}
 use Rattle.occ_derive.specs.Derived.{IsDerivation}
 use Rattle.occ_derive_steps.specs.Steps.{Derivable}

@@ -1,4 +1,4 @@
-use Rattle.std.proofs.Common.{◌≤◌, arith}
+use Rattle.std.proofs.Common.{arith}
 use Rattle.occ_derive.proofs.Below.{params_on}
 use Rattle.occ_derive.proofs.last.last_in_params.Goals as goal
 

@@ -1,4 +1,4 @@
-use Rattle.std.proofs.Common.{◌≤◌, arith, sym}
+use Rattle.std.proofs.Common.{arith, sym}
 use Rattle.occ_derive.proofs.Below.{steps_on}
 use Rattle.occ_derive.proofs.last.last_in_steps.Goals as goal
 
