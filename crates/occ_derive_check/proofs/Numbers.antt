@@ -1,5 +1,5 @@
 -- Steps have laws of the table.
-use Rattle.std.proofs.Common.{◌≡◌, ℕ, List, [], ◌∷◌}
+use Rattle.std.proofs.Common.{List, [], ◌∷◌}
 use Rattle.std.specs.List.{AllByRecursion}
 use Rattle.occ_base.specs.declared.names.Name.{Name}
 use Rattle.occ_derive_steps.proofs.Numbers.{joined_number}

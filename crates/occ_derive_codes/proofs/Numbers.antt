@@ -1,5 +1,5 @@
 -- Laws have small numbers.
-use Rattle.std.proofs.Common.{◌≡◌, ℕ, ◌≤◌, arith, true, List}
+use Rattle.std.proofs.Common.{◌≡◌, ℕ, arith, true, List}
 use Rattle.std.proofs.lemmas.Bool.{lt-ltb}
 use Rattle.std.specs.Prelude.{nat_lt}
 use Rattle.occ_base.specs.declared.names.Name.{Name}

@@ -46,12 +46,6 @@ raised [] i d l e h = absurd (omega (arith, l))
 raised (a ∷ rest) zero d l e h = next_below a rest (lt-ltb a (DIGITS - 1) (subst (λ z. z < DIGITS - 1) (sym e) h)) ∙ ap (λ z. (z + 1) ∷ rest) e
 raised (a ∷ rest) (suc i) d l e h = ap (λ zs. a ∷ zs) (raised rest i d (omega (arith, l)) e h)
 
--- a digit in the place of another one
-pub small_set : (s : List ℕ) (i d : ℕ) → AllByRecursion IsDigit s → IsDigit d → AllByRecursion IsDigit (set s i d)
-small_set [] i d h k = tt
-small_set (a ∷ rest) zero d h k = (k, h.1)
-small_set (a ∷ rest) (suc i) d h k = (h.0, small_set rest i d h.1 k)
-
 -- ---- where the row goes
 
 -- a digit that doesn't turn over ends it
