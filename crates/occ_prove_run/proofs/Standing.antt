@@ -3,7 +3,7 @@ use Rattle.std.proofs.Common.{◌≡◌, ◌↔◌, ℕ, true, List, get_or}
 use Rattle.std.proofs.lemmas.Bool.{and_parts}
 use Rattle.occ_base.specs.declared.names.Name.{Name}
 use Rattle.occ_behaviour.specs.States.{is_state}
-use Rattle.occ_nform.proofs.Programs.{state_values}
+use Rattle.occ_run.proofs.Holding.{holds_state}
 use Rattle.occ_nform_table.specs.Behaviours.{Stands}
 use Rattle.occ_nform_table.specs.declared.table.TableRow.{TableRow}
 use Rattle.occ_syntax.specs.declared.scope.Kind.{Kind}
@@ -17,12 +17,12 @@ pub stands_for_same : (params : List (Name × Kind)) (rows : List TableRow) (sta
     → SAME (environment params) p q → Stands params rows states p → Stands params rows states q
 stands_for_same params rows states p q scope same one = record {
   fails_so = λ s t X state of.
-      let both = same.same_failures (values s) t X (state_values params s scope state)
+      let both = same.same_failures (values s) t X (holds_state params s state)
       (λ e k. (and_parts (in_scope (environment params) e) (allows (environment params e.chan.0) e.dir) (of.1 e k)).0) in
       let is = one.fails_so s t X state of in
       (λ f. both.0 (is.0 f), λ f. is.1 (both.1 f));
   ends_so = λ s u t state last of.
-      let both = same.same_ends (values s) t (values u) (state_values params s scope state) in
+      let both = same.same_ends (values s) t (values u) (holds_state params s state) in
       let is = one.ends_so s u t state last of in
       (λ f. both.0 (is.0 f), λ f. is.1 (both.1 f));
 }
