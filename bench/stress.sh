@@ -4,7 +4,7 @@
 here=$(cd "$(dirname "$0")" && pwd) || exit 1
 program=$here/../crates/occ_tool/out/occ_tool
 if [ ! -x "$program" ]; then
-    echo "build the program first, by ./occam stress buffers 1" >&2
+    echo "build the program first, by ./occam build" >&2
     exit 1
 fi
 out=$(mktemp) || exit 1

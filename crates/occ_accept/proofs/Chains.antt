@@ -90,9 +90,6 @@ same_refusals r s p q h = same_strict sets_total set_exact r s p.increasing q.in
 pub told : (r s : List (List Event)) → IsTold r s
 told r s = record { one = same_refusals r s }
 
-pub no_sets : IsAntichain []
-no_sets = record { increasing = refl; events = refl; apart = refl }
-
 -- ---- adding a set of which no part is there
 module _ (sets : List (List Event)) (set : List Event) where
   abbrev pub left_over : List (List Event)

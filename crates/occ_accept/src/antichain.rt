@@ -79,7 +79,7 @@ fn has_part(sets: &[AcceptSet], set: &AcceptSet) -> bool
 }
 
 // Adds a set to an antichain: nothing where a part of it is there, and else it takes the place of the
-// sets that contain it. After want of memory sets may be lost.
+// sets that contain it. Where memory runs out, sets may be lost.
 pub(crate) fn add(sets: &mut Vec<AcceptSet>, set: AcceptSet) -> Result<(), Memory>
     requires { IsAntichain sets.old.items }
     ensures chain { OnOk result (IsAntichain sets.new.items) }

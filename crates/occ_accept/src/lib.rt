@@ -10,5 +10,6 @@ mod set;
 
 pub use antichain::{Antichain, join, least, without};
 pub use law::refusals_tell_antichains;
+pub use occ_base::{Dir, Event, Memory, Name};
 pub use pairs::cross;
 pub use set::AcceptSet;

@@ -40,7 +40,7 @@ impl<T> List<T> {
         Ok(())
     }
 
-    /// Adds an item at the end. After want of memory the list is as before.
+    /// Adds an item at the end. Where memory runs out, the list is as before.
     pub fn push(&mut self, item: T) -> Result<(), Memory>
     where
         T: Drop,

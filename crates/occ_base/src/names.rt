@@ -41,7 +41,7 @@ impl Names {
     }
 
     /// The name of a text: the number that it has, or a new one where it isn't in the table yet.
-    /// After want of memory the table is as before.
+    /// Where memory runs out, the table is as before.
     pub fn intern(&mut self, text: &[u8]) -> Result<Name, Memory>
         ensures number { IfOk result (λ name. name.0 ≡ place_of self.old text.now) }
         ensures table { OnOk result (self.new ≡ with_text self.old text.now) }

@@ -1,6 +1,6 @@
 -- The places of the channels of an interface.
 use Rattle.std.specs.Prelude.{ℕ, ◌+◌, ◌==◌, List, [], ◌∷◌, if◌then◌else◌}
-use Rattle.occ_base.specs.declared.names.Name.{Name}
+use Rattle.occ_syntax.specs.occ_base.declared.names.Name.{Name}
 use Rattle.occ_syntax.specs.declared.scope.Kind.{Kind}
 
 -- the place of a channel among the parameters; one that is none has the place after all

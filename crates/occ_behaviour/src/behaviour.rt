@@ -1,4 +1,4 @@
-use occ_base::{Events, State};
+use occ_syntax::{Events, State};
 
 /// How a behaviour stands after its trace.
 #[derive(Debug, Drop)]

@@ -2,8 +2,7 @@ ghost use Rattle.std.specs.Prelude.{◌≡◌, ◌≤◌, length};
 ghost use Rattle.occ_syntax.specs.Counts.{bits_of_scope};
 ghost use Rattle.occ_behaviour.specs.Places.{place_in};
 
-use occ_base::Name;
-use occ_syntax::Kind;
+use occ_syntax::{Kind, Name};
 
 /// The place of a channel among the parameters, or the place after all.
 pub fn place_in(params: &[(Name, Kind)], chan: Name) -> usize

@@ -5,7 +5,7 @@ ghost use Rattle.occ_behaviour.specs.Members.{AreNamed, LastIsNamed, IsNamed, Ve
 
 use crate::{Behaviour, Last, Side, Verdict};
 use itoa::Buffer;
-use occ_base::{Dir, Event, Memory, Name, Names};
+use occ_syntax::{Dir, Event, Memory, Name, Names};
 use std::alloc::Global;
 
 /// The lines of a verdict: `SAME`, or `DIFFER` with a behaviour and the program that it belongs to.

@@ -1,7 +1,7 @@
 -- The lines of a text: how many there are, and the one at a place.
 use Rattle.std.proofs.Common.{arith, ◌≡◌, ◌<◌, ◌∙◌, ◌==◌, ◌≤◌, ◌+◌, ℕ, zero, suc, cond, true, false, refl, sym, ap, List, [], ◌∷◌, length, map, drop, Option, None, Some, inl, inr}
 use Rattle.std.specs.Prelude.{slice_get}
-use Rattle.occ_lex.specs.Rows.{rows}
+use Rattle.occ_nform_read.specs.occ_lex.Rows.{rows}
 use Rattle.occ_behaviour_read.specs.Claims.{bare, bare_lines}
 
 pub bare_count : (text : List ℕ) → length (bare_lines text) ≡ length (rows text)

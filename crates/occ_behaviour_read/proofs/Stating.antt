@@ -1,13 +1,13 @@
 -- States that lines say are states of the interface.
 use Rattle.std.proofs.Common.{◌≡◌, ℕ, true, refl, sym, subst, List, Option, None, Some, codes}
-use Rattle.occ_base.specs.declared.event.Event.{Event}
-use Rattle.occ_base.specs.declared.names.Name.{Name}
+use Rattle.occ_nform_read.specs.occ_base.declared.event.Event.{Event}
+use Rattle.occ_nform_read.specs.occ_base.declared.names.Name.{Name}
 use Rattle.occ_syntax.specs.declared.scope.Kind.{Kind}
-use Rattle.occ_behaviour.specs.States.{is_state}
-use Rattle.occ_behaviour.specs.declared.behaviour.Last.{Last}
-use Rattle.occ_behaviour.specs.declared.behaviour.Last.TheVariants.{Refuses, Ends}
-use Rattle.occ_nform_table.specs.Words.{then_read, or_else, between}
-use Rattle.occ_nform_table.specs.Lines.{set_of, state_of}
+use Rattle.occ_compare.specs.occ_behaviour.States.{is_state}
+use Rattle.occ_compare.specs.occ_behaviour.declared.behaviour.Last.{Last}
+use Rattle.occ_compare.specs.occ_behaviour.declared.behaviour.Last.TheVariants.{Refuses, Ends}
+use Rattle.occ_nform_read.specs.occ_nform_table.Words.{then_read, or_else, between}
+use Rattle.occ_nform_read.specs.occ_nform_table.Lines.{set_of, state_of}
 use Rattle.occ_nform_read.proofs.Forms.{state_is}
 use Rattle.occ_behaviour_read.specs.Claims.{LastIsOf, last_line, state_line}
 

@@ -1,16 +1,16 @@
 -- What a behaviour text is read as: a behaviour of a program with these parameters, or the number of its least faulty line.
 use Rattle.std.specs.Prelude.{ℕ, ◌+◌, ◌≡◌, ◌==◌, Bool, true, false, ◌||◌, if◌then◌else◌, List, [], ◌∷◌, length, map, max, slice_get, unwrap_or, Option, None, Some, Result, Ok, Err, codes}
 use Rattle.std.specs.Str.{bytes_eq}
-use Rattle.occ_base.specs.declared.event.Event.{Event}
-use Rattle.occ_base.specs.declared.names.Name.{Name}
-use Rattle.occ_lex.specs.Rows.{rows}
+use Rattle.occ_nform_read.specs.occ_base.declared.event.Event.{Event}
+use Rattle.occ_nform_read.specs.occ_base.declared.names.Name.{Name}
+use Rattle.occ_nform_read.specs.occ_lex.Rows.{rows}
 use Rattle.occ_syntax.specs.declared.scope.Kind.{Kind}
-use Rattle.occ_behaviour.specs.States.{is_state}
-use Rattle.occ_behaviour.specs.declared.behaviour.Behaviour.{Behaviour}
-use Rattle.occ_behaviour.specs.declared.behaviour.Last.{Last}
-use Rattle.occ_behaviour.specs.declared.behaviour.Last.TheVariants.{Refuses, Ends}
-use Rattle.occ_nform_table.specs.Words.{then_read, or_else, behind, before, between, items_of, each}
-use Rattle.occ_nform_table.specs.Lines.{event_of, set_of, state_of}
+use Rattle.occ_compare.specs.occ_behaviour.States.{is_state}
+use Rattle.occ_compare.specs.occ_behaviour.declared.behaviour.Behaviour.{Behaviour}
+use Rattle.occ_compare.specs.occ_behaviour.declared.behaviour.Last.{Last}
+use Rattle.occ_compare.specs.occ_behaviour.declared.behaviour.Last.TheVariants.{Refuses, Ends}
+use Rattle.occ_nform_read.specs.occ_nform_table.Words.{then_read, or_else, behind, before, between, items_of, each}
+use Rattle.occ_nform_read.specs.occ_nform_table.Lines.{event_of, set_of, state_of}
 use Rattle.occ_behaviour_read.specs.declared.claim.ClaimFault.{ClaimFault}
 use Rattle.occ_behaviour_read.specs.declared.claim.ClaimFault.TheVariants as fault
 
@@ -95,7 +95,7 @@ claim_read names params text = claim_in names params (bare_lines text) (is_diffe
 
 -- ---- what a call answers
 
--- a fault is the one of that line, or want of memory
+-- a fault is the one of that line, or memory ran out
 abbrev pub IsFaultOf : {A : Type 0} → Result A ℕ → ClaimFault → Type 0
 IsFaultOf read (fault.Form line) = read ≡ Err line
 IsFaultOf read fault.Memory = Unit {0}

@@ -1,13 +1,13 @@
 ghost use Rattle.std.specs.Prelude.{◌≡◌, ◌≤◌, length, max, slice_get, true, IfOk};
-ghost use Rattle.occ_behaviour.specs.States.{is_state};
-ghost use Rattle.occ_nform_table.specs.Lines.{HaveWidths};
-ghost use Rattle.occ_nform_table.specs.Tables.{IsInterface};
+ghost use Rattle.occ_compare.specs.occ_behaviour.States.{is_state};
+ghost use Rattle.occ_nform_read.specs.occ_nform_table.Lines.{HaveWidths};
+ghost use Rattle.occ_nform_read.specs.occ_nform_table.Tables.{IsInterface};
 ghost use Rattle.occ_behaviour_read.specs.declared.claim.ClaimFault.TheVariants as fault;
 ghost use Rattle.occ_behaviour_read.specs.Claims.{Gives, IsOf, LastIsOf, bare_lines, claim_read, closed, ends_at, last_line, line_read, only_line, state_line, trace_line};
 
 use crate::lines::{is_differ, last_line, last_number, line, only_line, state_line, trace_line};
-use occ_base::{Events, Memory, Name, Names, State};
-use occ_behaviour::{Behaviour, Last};
+use occ_compare::{Behaviour, Last};
+use occ_nform_read::{BaseNames as Names, Events, Memory, Name, State};
 use occ_syntax::Kind;
 use std::alloc::Global;
 use thiserror::Error;

@@ -1,12 +1,14 @@
 ghost use Rattle.std.specs.Prelude.{◌≡◌, ◌≤◌, [], length, max, slice_get, codes, IfOk, Option, Some, None};
-ghost use Rattle.occ_nform_table.specs.Lines.{HaveWidths, event_of, set_of, state_of};
-ghost use Rattle.occ_nform_table.specs.Tables.{IsInterface};
-ghost use Rattle.occ_nform_table.specs.Words.{Finds, between, each, then_read};
+ghost use Rattle.occ_nform_read.specs.occ_nform_table.Lines.{HaveWidths, event_of, set_of, state_of};
+ghost use Rattle.occ_nform_read.specs.occ_nform_table.Tables.{IsInterface};
+ghost use Rattle.occ_nform_read.specs.occ_nform_table.Words.{Finds, between, each, then_read};
 ghost use Rattle.occ_behaviour_read.specs.Claims.{bare, bare_lines, is_differ, last_line, only_line, spaced_words, state_line, trace_line};
 
-use occ_base::{Events, Memory, Name, Names, State};
-use occ_behaviour::Last;
-use occ_nform_read::{before, behind, between, events_of, first_line, set_of, state_of};
+use occ_compare::Last;
+use occ_nform_read::{
+    BaseNames as Names, Events, Memory, Name, State, before, behind, between, events_of,
+    first_line, set_of, state_of,
+};
 use occ_syntax::Kind;
 use std::alloc::Global;
 

@@ -1,8 +1,7 @@
 -- Facts on plain numbers that the circuits need.
-use Rattle.std.proofs.Common.{◌≡◌, ◌≢◌, ℕ, suc, ◌+◌, ◌-◌, ◌*◌, ◌/◌, ◌%◌, ◌^◌, ◌<◌, ◌≤◌, ◌==◌, Bool, true, false, nat_lt, if◌then◌else◌, sym, ap, ◌∙◌, arith, ⊎_elim}
+use Rattle.std.proofs.Common.{◌≡◌, ℕ, suc, ◌+◌, ◌-◌, ◌*◌, ◌/◌, ◌%◌, ◌^◌, ◌<◌, ◌≤◌, ◌==◌, Bool, true, false, nat_lt, if◌then◌else◌, sym, ap, ◌∙◌, arith, ⊎_elim}
 use Rattle.std.proofs.Math.Nat.{pow-succ', mod-eq_of_lt, add-mul-mod_self_left, div-div-eq-div-mul}
-use Rattle.std.proofs.lemmas.Bool.{cases_Bool, eqb-true, eqb-false, eq-eqb, ne_eqb, lt-ltb, le-ltb}
-use Rattle.std.proofs.lemmas.Bool.Decides.{eqb_tells}
+use Rattle.std.proofs.lemmas.Bool.{cases_Bool, eqb-true, eqb-false, lt-ltb, le-ltb}
 use Rattle.std.proofs.lemmas.Nat.{div-add-mod', pow-add}
 use Rattle.std.proofs.lemmas.Nat.Bits.{bit_at-lt, bit_at_cat_low}
 use Rattle.std.specs.Int.{bit_at}
@@ -58,12 +57,6 @@ less_of true n p a b h e =
 less_of false n p a b h e =
     let le : b ≤ a = omega (arith, h, e) in
     sym (le-ltb a b le)
-
-same_test : (a b c d : ℕ) → (a ≡ b → c ≡ d) → (c ≡ d → a ≡ b) → (a == b) ≡ (c == d)
-same_test a b c d f g = ⊎_elim
-    (λ (e : ((a == b) ≡ true) × (a ≡ b)). e.0 ∙ sym (eq-eqb c d (f e.1)))
-    (λ (e : ((a == b) ≡ false) × (a ≢ b)). e.0 ∙ sym (ne_eqb c d (λ h. e.1 (g h))))
-    (eqb_tells a b)
 
 -- ---- bits in a row
 pub low_bit : (y n i : ℕ) → i < n → bit_at (y % 2 ^ n) i ≡ bit_at y i

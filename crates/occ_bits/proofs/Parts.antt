@@ -2,9 +2,9 @@
 use Rattle.std.proofs.Common.{◌≡◌, ℕ, ◌-◌, ◌^◌, ◌==◌, Bool, true, false, ◌&&◌, ◌||◌, if◌then◌else◌, cond, List, [], ◌∷◌, Option, Some, None, refl, sym, ap, ◌∙◌, ⊎_elim}
 use Rattle.std.specs.Option.{is_none}
 use Rattle.std.proofs.lemmas.Bool.{and_from, and_parts, cases_Bool, eqb-true, eq-eqb, or_from}
-use Rattle.occ_base.specs.declared.names.Name.{Name}
-use Rattle.occ_base.specs.declared.width.Width.{Width}
-use Rattle.occ_base.specs.declared.width.Width.TheVariants.{Bool as TruthValue}
+use Rattle.occ_dd.specs.occ_base.declared.names.Name.{Name}
+use Rattle.occ_dd.specs.occ_base.declared.width.Width.{Width}
+use Rattle.occ_dd.specs.occ_base.declared.width.Width.TheVariants.{Bool as TruthValue}
 use Rattle.occ_meaning.proofs.Facts.{agreed, clash, none_not_some}
 use Rattle.occ_meaning.proofs.Typing.{condition_in_scope, names_in_scope}
 use Rattle.occ_syntax.specs.declared.scope.Kind.{Kind}

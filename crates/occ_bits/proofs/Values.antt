@@ -4,14 +4,14 @@ use Rattle.std.specs.Int.{bit_at}
 use Rattle.std.proofs.Math.Nat.{mod-lt}
 use Rattle.std.proofs.lemmas.Bool.{and_parts}
 use Rattle.std.proofs.lemmas.Nat.{pow_pos}
-use Rattle.occ_base.specs.declared.names.Name.{Name}
-use Rattle.occ_base.specs.declared.width.Width.{Width}
-use Rattle.occ_base.specs.declared.width.Width.TheVariants.{Bool as TruthValue, Word}
-use Rattle.occ_base.specs.Width.{bits_of}
+use Rattle.occ_dd.specs.occ_base.declared.names.Name.{Name}
+use Rattle.occ_dd.specs.occ_base.declared.width.Width.{Width}
+use Rattle.occ_dd.specs.occ_base.declared.width.Width.TheVariants.{Bool as TruthValue, Word}
+use Rattle.occ_dd.specs.occ_base.Width.{bits_of}
 use Rattle.occ_dd.specs.Store.{has, IsKnown, IsSet}
 use Rattle.occ_dd.specs.declared.set.SetId.{SetId}
 use Rattle.occ_dd.specs.declared.store.Store.{Store}
-use Rattle.occ_eval.proofs.Widths.{variable_is_wide, variable_within, width_within}
+use Rattle.occ_syntax.proofs.Widths.{variable_is_wide, variable_within, width_within}
 use Rattle.occ_meaning.proofs.Facts.{some_is, none_not_some}
 use Rattle.occ_meaning.proofs.Typing.{bits_of_type, condition_type, truth_type, two_types, word_type}
 use Rattle.occ_syntax.specs.declared.expr.Op.{Op}

@@ -1,6 +1,6 @@
 -- The variables that expressions name, and equality of expressions under conditions.
 use Rattle.std.specs.Prelude.{ℕ, ◌≡◌, Bool, true, ◌&&◌, List, [], ◌∷◌, filter}
-use Rattle.occ_base.specs.declared.names.Name.{Name}
+use Rattle.occ_dd.specs.occ_base.declared.names.Name.{Name}
 use Rattle.occ_syntax.specs.declared.scope.Kind.{Kind}
 use Rattle.occ_syntax.specs.Counts.{bits_of_scope}
 use Rattle.occ_syntax.specs.Eval.{eval, is_true}

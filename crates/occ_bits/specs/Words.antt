@@ -1,8 +1,8 @@
 -- Numbers of a few binary digits, each digit a set of assignments.
 use Rattle.std.specs.Prelude.{ℕ, ◌+◌, ◌*◌, ◌≡◌, List, [], ◌∷◌, length, if◌then◌else◌}
 use Rattle.std.specs.List.{All}
-use Rattle.occ_base.specs.declared.names.Name.{Name}
-use Rattle.occ_base.specs.declared.width.Width.{Width}
+use Rattle.occ_dd.specs.occ_base.declared.names.Name.{Name}
+use Rattle.occ_dd.specs.occ_base.declared.width.Width.{Width}
 use Rattle.occ_dd.specs.Store.{has, IsKnown}
 use Rattle.occ_dd.specs.declared.set.SetId.{SetId}
 use Rattle.occ_dd.specs.declared.store.Store.{Store}

@@ -6,8 +6,7 @@ ghost use Rattle.occ_bits.specs.Words.{IsWord, number_at};
 ghost use Rattle.occ_bits.specs.Circuits.{IsAdded, IsTaken, IsDifference, HasBits, digits_of, row_at};
 
 use crate::digits::{Digits, single};
-use occ_base::Memory;
-use occ_dd::{SetId, Store};
+use occ_dd::{Memory, SetId, Store};
 use occ_syntax::Op;
 use std::alloc::Global;
 

@@ -6,8 +6,7 @@ ghost use Rattle.occ_bits.specs.Layout.{IsLayout, environment_in, state_of};
 ghost use Rattle.occ_bits.specs.Words.{IsWord};
 
 use crate::layout::find;
-use occ_base::{Memory, Name, Width};
-use occ_dd::{SetId, Store};
+use occ_dd::{Memory, Name, SetId, Store, Width};
 use smallvec::SmallVec;
 use std::alloc::Global;
 use std::marker::Model;

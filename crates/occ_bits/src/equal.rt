@@ -11,15 +11,14 @@ use crate::Layout;
 use crate::circuits::equal;
 use crate::expr::{condition, word};
 use crate::named::named_scope;
-use occ_base::Memory;
-use occ_dd::{SetId, Store};
+use occ_dd::{Memory, SetId, Store};
 use occ_syntax::{Expr, Scope};
 use std::alloc::Global;
 
 /// Whether two expressions have one value in each state of the scope in which all conditions of `under` are TRUE. The
 /// conditions are BOOL in the scope, and the two expressions have one type there. The variables that all of them name
 /// have at most 24 bits together (as `named_bits` counts them), and only these are laid out. Each number that the store
-/// gave keeps its set, also after want of memory.
+/// gave keeps its set, also where memory runs out.
 pub fn equal_under(
     alloc: Global,
     store: &mut Store,

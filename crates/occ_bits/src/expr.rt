@@ -9,13 +9,12 @@ ghost use Rattle.occ_bits.specs.Words.{IsValue};
 use crate::circuits::{apply, flip};
 use crate::digits::{Digits, numeral, variable};
 use crate::{Layout, WordBits};
-use occ_base::{Memory, Name, Width};
-use occ_dd::{SetId, Store};
+use occ_dd::{Memory, Name, SetId, Store, Width};
 use occ_syntax::Expr;
 use std::alloc::Global;
 
 /// The set of the assignments in whose state a condition is TRUE. The expression is a BOOL in the layout. Each number
-/// that the store gave keeps its set, also after want of memory.
+/// that the store gave keeps its set, also where memory runs out.
 pub fn condition(
     alloc: Global,
     store: &mut Store,
@@ -33,7 +32,7 @@ pub fn condition(
 
 /// The binary digits of an expression's value, the lowest first: for each the set of the assignments in whose state it
 /// is 1. The expression has a type in the layout; a BOOL has one digit. Each number that the store gave keeps its set,
-/// also after want of memory. Sums and differences go digit by digit, as in the full adder and subtractor of hardware.
+/// also where memory runs out. Sums and differences go digit by digit, as in the full adder and subtractor of hardware.
 pub fn word(
     alloc: Global,
     store: &mut Store,

@@ -3,7 +3,7 @@ ghost use Rattle.occ_syntax.specs.Counts.{bits_of_scope};
 ghost use Rattle.occ_syntax.specs.Types.{scope_kept};
 ghost use Rattle.occ_bits.specs.Layout.{laid_out, entry_of, IsLayout};
 
-use occ_base::{List, Memory, Name, Width};
+use occ_dd::{List, Memory, Name, Width};
 use occ_syntax::{Kind, Scope};
 use std::alloc::Global;
 use std::marker::Model;
@@ -18,8 +18,8 @@ pub struct Layout {
 
 impl Model for Layout {
     ghost use Rattle.std.specs.Prelude.{List, ℕ};
-    ghost use Rattle.occ_base.specs.declared.names.Name.{Name};
-    ghost use Rattle.occ_base.specs.declared.width.Width.{Width};
+    ghost use Rattle.occ_dd.specs.occ_base.declared.names.Name.{Name};
+    ghost use Rattle.occ_dd.specs.occ_base.declared.width.Width.{Width};
     ghost use Rattle.occ_bits.specs.Layout.{IsLayout};
 
     ghost Value = { List (Name × Width × ℕ) };

@@ -5,15 +5,15 @@ use Rattle.std.proofs.lemmas.List.Folds.{list_any_at, list_any_more, Any-from_li
 use Rattle.std.proofs.lemmas.List.Sums.{AllPass-from_list_all, list_all-from_AllPass}
 use Rattle.std.specs.List.{list_all, list_any, All}
 use Rattle.std.specs.Ordering.{eq_by_cmp}
-use Rattle.occ_base.specs.declared.event.Dir.TheVariants.{Input}
-use Rattle.occ_base.specs.declared.event.Event.{Event}
-use Rattle.occ_base.specs.declared.names.Name.{Name}
-use Rattle.occ_dd.specs.Store.{IsSet}
-use Rattle.occ_dd.specs.declared.set.SetId.{SetId}
-use Rattle.occ_accept.specs.Order.{event_cmp, strict}
-use Rattle.occ_accept.specs.Accept.{in_set, in_some, misses, refuses}
-use Rattle.occ_accept.proofs.Strict.{any_same, same_tests, or_skip, tied, tied_same, all_each, all_at}
-use Rattle.occ_accept.proofs.Events.{cmp_total, event_exact}
+use Rattle.occ_node.specs.occ_base.declared.event.Dir.TheVariants.{Input}
+use Rattle.occ_node.specs.occ_base.declared.event.Event.{Event}
+use Rattle.occ_node.specs.occ_base.declared.names.Name.{Name}
+use Rattle.occ_node.specs.occ_dd.Store.{IsSet}
+use Rattle.occ_node.specs.occ_dd.declared.set.SetId.{SetId}
+use Rattle.occ_node.specs.occ_accept.Order.{event_cmp, strict}
+use Rattle.occ_node.specs.occ_accept.Accept.{in_set, in_some, misses, refuses}
+use Rattle.occ_node.proofs.from_accept.Strict.{any_same, same_tests, or_skip, tied, tied_same, all_each, all_at}
+use Rattle.occ_node.proofs.from_accept.Events.{cmp_total, event_exact}
 use Rattle.occ_node.specs.Offers.{offer_cmp, next_in, are_below, are_offered}
 use Rattle.occ_node.specs.World.{IsNode, nodes_of, fails, ends, row_fails, row_ends, Leads, IsMade}
 use Rattle.occ_node.specs.declared.node.NodeId.{NodeId}

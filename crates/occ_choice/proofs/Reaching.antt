@@ -7,11 +7,11 @@ use Rattle.std.proofs.lemmas.Option.{same_Some}
 use Rattle.std.specs.List.{list_all, All}
 use Rattle.std.specs.Option.{IfSome}
 use Rattle.std.specs.Ordering.{is_lt, eq_by_cmp}
-use Rattle.occ_base.specs.declared.event.Event.{Event}
-use Rattle.occ_accept.specs.Order.{event_cmp, strict}
-use Rattle.occ_accept.specs.Accept.{in_set}
-use Rattle.occ_accept.proofs.Strict.{all_more, tied_same}
-use Rattle.occ_accept.proofs.Events.{cmp_total, event_exact}
+use Rattle.occ_node.specs.occ_base.declared.event.Event.{Event}
+use Rattle.occ_node.specs.occ_accept.Order.{event_cmp, strict}
+use Rattle.occ_node.specs.occ_accept.Accept.{in_set}
+use Rattle.occ_node.proofs.from_accept.Strict.{all_more, tied_same}
+use Rattle.occ_node.proofs.from_accept.Events.{cmp_total, event_exact}
 use Rattle.occ_node.specs.Offers.{offer_cmp, next_in, is_offered, are_below}
 use Rattle.occ_node.specs.Rows.{goes_on}
 use Rattle.occ_node.specs.World.{IsNode, nodes_of, fails, ends, Leads}

@@ -1,11 +1,11 @@
 use Rattle.std.proofs.Common.{◌≡◌, ◌<◌, ◌+◌, ◌*◌, ◌||◌, ◌++◌, ℕ, Bool, true, false, List, [], ◌∷◌, Option, Some, None, length, get_or, take, is_some, nat_lt, refl, sym, ap, ◌∙◌, subst, ⊎_elim, arith}
 use Rattle.std.proofs.lemmas.Bool.{or_cases, or_parts, or_left, or_right, both_ways, true≢false, ltb-true, lt-ltb}
 use Rattle.std.specs.Option.{IfSome}
-use Rattle.occ_base.specs.declared.event.Event.{Event}
-use Rattle.occ_dd.specs.Store.{IsSet, has}
-use Rattle.occ_accept.specs.Order.{event_cmp, strict}
-use Rattle.occ_accept.specs.Accept.{in_set, in_some, misses, refuses}
-use Rattle.occ_accept.proofs.Strict.{all_more}
+use Rattle.occ_node.specs.occ_base.declared.event.Event.{Event}
+use Rattle.occ_node.specs.occ_dd.Store.{IsSet, has}
+use Rattle.occ_node.specs.occ_accept.Order.{event_cmp, strict}
+use Rattle.occ_node.specs.occ_accept.Accept.{in_set, in_some, misses, refuses}
+use Rattle.occ_node.proofs.from_accept.Strict.{all_more}
 use Rattle.occ_node.specs.Offers.{next_in, is_offered}
 use Rattle.occ_node.specs.Rows.{goes_on}
 use Rattle.occ_node.specs.World.{IsNode, nodes_of, row_of, fails, ends, row_fails, row_ends, Leads, IsFit, IsMade}

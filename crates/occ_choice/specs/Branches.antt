@@ -1,11 +1,11 @@
 use Rattle.std.specs.Prelude.{ℕ, ◌≡◌, ◌+◌, ◌||◌, ◌&&◌, Bool, true, false, not, List, [], ◌∷◌, Option, Some, None, is_some}
 use Rattle.std.specs.List.{list_all, list_any, All}
 use Rattle.std.specs.Ordering.{eq_by_cmp}
-use Rattle.occ_base.specs.declared.event.Dir.TheVariants.{Input}
-use Rattle.occ_base.specs.declared.event.Event.{Event}
-use Rattle.occ_base.specs.declared.names.Name.{Name}
-use Rattle.occ_accept.specs.Order.{event_cmp}
-use Rattle.occ_accept.specs.Accept.{misses}
+use Rattle.occ_node.specs.occ_base.declared.event.Dir.TheVariants.{Input}
+use Rattle.occ_node.specs.occ_base.declared.event.Event.{Event}
+use Rattle.occ_node.specs.occ_base.declared.names.Name.{Name}
+use Rattle.occ_node.specs.occ_accept.Order.{event_cmp}
+use Rattle.occ_node.specs.occ_accept.Accept.{misses}
 use Rattle.occ_node.specs.Offers.{next_in}
 use Rattle.occ_node.specs.World.{IsNode, fails, ends}
 use Rattle.occ_node.specs.declared.node.NodeId.{NodeId}

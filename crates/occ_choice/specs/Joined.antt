@@ -1,9 +1,9 @@
 use Rattle.std.specs.Prelude.{ℕ, ◌+◌, ◌*◌, ◌≡◌, ◌||◌, Bool, true, List, ◌∷◌, map, Option, Some, None, IfSome, is_some}
 use Rattle.std.specs.List.{All}
-use Rattle.occ_base.specs.declared.event.Event.{Event}
-use Rattle.occ_dd.specs.Store.{IsKnown}
-use Rattle.occ_accept.specs.Accept.{in_set}
-use Rattle.occ_accept.specs.Order.{event_cmp, strict}
+use Rattle.occ_node.specs.occ_base.declared.event.Event.{Event}
+use Rattle.occ_node.specs.occ_dd.Store.{IsKnown}
+use Rattle.occ_node.specs.occ_accept.Accept.{in_set}
+use Rattle.occ_node.specs.occ_accept.Order.{event_cmp, strict}
 use Rattle.occ_node.specs.Offers.{offer_cmp, are_below, are_offered, is_offered}
 use Rattle.occ_node.specs.Rows.{goes_on}
 use Rattle.occ_node.specs.World.{IsNode, nodes_of, row_of, fails, ends, row_fails, row_ends}

@@ -1,7 +1,7 @@
 use Rattle.std.specs.Prelude.{ℕ, ◌≡◌, ◌||◌, Bool, List, Some}
-use Rattle.occ_base.specs.declared.event.Event.{Event}
-use Rattle.occ_diagram.specs.Memo.{recalled}
-use Rattle.occ_diagram.specs.declared.memo.Call.{Call}
+use Rattle.occ_node.specs.occ_base.declared.event.Event.{Event}
+use Rattle.occ_node.specs.occ_dd.Memo.{recalled}
+use Rattle.occ_node.specs.occ_dd.declared.memo.Call.{Call}
 use Rattle.occ_node.specs.World.{IsNode, fails, ends, row_fails, row_ends}
 use Rattle.occ_node.specs.declared.node.NodeId.{NodeId}
 use Rattle.occ_node.specs.declared.row.Row.{Row}

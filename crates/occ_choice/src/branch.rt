@@ -1,5 +1,4 @@
-use occ_base::Event;
-use occ_node::NodeId;
+use occ_node::{Event, NodeId};
 
 /// An enabled branch of an ALT, with the behaviours of its process.
 #[derive(Clone, Copy, Debug, PartialEq, Eq)]

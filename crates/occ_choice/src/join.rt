@@ -1,14 +1,12 @@
 ghost use Rattle.std.specs.Prelude.{◌≡◌, ◌||◌, IfOk};
-ghost use Rattle.occ_accept.specs.Accept.{in_set};
-ghost use Rattle.occ_base.specs.declared.event.Event.{Event};
+ghost use Rattle.occ_node.specs.occ_accept.Accept.{in_set};
+ghost use Rattle.occ_node.specs.occ_base.declared.event.Event.{Event};
 ghost use Rattle.occ_node.specs.Offers.{is_offered};
 ghost use Rattle.occ_node.specs.World.{IsNode, Leads};
 ghost use Rattle.occ_choice.specs.Joined.{AreJoined, IsSound};
 ghost use Rattle.occ_choice.specs.Union.{IsAdded};
 
-use occ_accept::AcceptSet;
-use occ_base::Memory;
-use occ_node::{NodeId, Offers, Row, World};
+use occ_node::{AcceptSet, Memory, NodeId, Offers, Row, World};
 use std::alloc::Global;
 
 // The events of either of two lists of offers.
@@ -35,7 +33,7 @@ pub(crate) fn join(
 {
     let other = world.row(b);
     let other_ends = other.ends;
-    let accepts = occ_accept::join(alloc, &row.accepts, &other.accepts)?;
+    let accepts = occ_node::join(alloc, &row.accepts, &other.accepts)?;
     let ends = world.store.or(row.ends, other_ends)?;
     world.make(Row {
         ends,

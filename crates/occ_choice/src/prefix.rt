@@ -5,8 +5,7 @@ ghost use Rattle.occ_choice.specs.Branches.{IsAlt, inputs_from};
 ghost use Rattle.occ_choice.specs.declared.branch.Branch.TheVariants.{Event as Comm};
 
 use crate::{Branch, alt};
-use occ_base::{Dir, Event, Memory, Name};
-use occ_node::{NodeId, World};
+use occ_node::{Dir, Event, Memory, Name, NodeId, World};
 use std::alloc::Global;
 
 /// The node that offers the input of each value v on a channel, after which it is `nexts[v]`.

@@ -1,9 +1,7 @@
 ghost use Rattle.std.specs.Prelude.{◌≡◌, Option, Some, IfSome};
 ghost use Rattle.occ_node.specs.declared.world.World.{World};
 
-use occ_base::Memory;
-use occ_diagram::{Call, Memo};
-use occ_node::NodeId;
+use occ_node::{Call, Memo, Memory, NodeId};
 use std::alloc::Global;
 
 /// The unions that were made, by the nodes of which they are: a table that can serve many calls with one
@@ -32,7 +30,7 @@ impl Unions {
         self.memo.get(call(a, b)).map(NodeId)
     }
 
-    // Remembers a union. After want of memory the table is as before.
+    // Remembers a union. Where memory runs out, the table is as before.
     pub(crate) fn insert(&mut self, a: NodeId, b: NodeId, union: NodeId) -> Result<(), Memory>
         ensures { (w : World) → AreUnions w self.old → IsUnion w a b union → AreUnions w self.new }
     {

@@ -5,8 +5,7 @@ ghost use Rattle.occ_choice.specs.Union.{AreUnions, IsAdded, IsUnion};
 
 use crate::Unions;
 use crate::join::{either_events, join};
-use occ_base::Memory;
-use occ_node::{NodeId, Offers, Row, World};
+use occ_node::{Memory, NodeId, Offers, Row, World};
 use std::alloc::Global;
 
 /// The node that has the behaviours of both nodes.

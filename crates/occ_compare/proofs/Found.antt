@@ -2,22 +2,21 @@
 use Rattle.std.proofs.Common.{◌≡◌, ◌<◌, ◌≤◌, ◌%◌, ◌^◌, ℕ, List, Option, Some, None, IsSomeAnd, refl, sym, ap, ◌∙◌, subst, arith}
 use Rattle.std.proofs.Math.Nat.{mod-lt, pow-le-pow_right}
 use Rattle.std.proofs.lemmas.Nat.{pow_pos}
-use Rattle.occ_base.specs.declared.names.Name.{Name}
+use Rattle.occ_behaviour.specs.occ_base.declared.names.Name.{Name}
 use Rattle.occ_syntax.specs.declared.scope.Kind.{Kind}
 use Rattle.occ_syntax.specs.Counts.{bits_of_scope}
 use Rattle.occ_behaviour.specs.declared.behaviour.Behaviour.{Behaviour}
 use Rattle.occ_behaviour.specs.declared.behaviour.Side.{Side}
 use Rattle.occ_behaviour.specs.declared.behaviour.Verdict.{Verdict}
 use Rattle.occ_behaviour.specs.declared.behaviour.Verdict.TheVariants.{Same, Differ}
-use Rattle.occ_mdd.specs.Maps.{value}
-use Rattle.occ_mdd.specs.declared.map.MapId.{MapId}
-use Rattle.occ_mdd.proofs.Values.{canonical_maps}
-use Rattle.occ_node.specs.World.{IsNode, fails, ends}
+use Rattle.occ_node.specs.occ_mdd.Maps.{value}
+use Rattle.occ_node.specs.occ_mdd.declared.map.MapId.{MapId}
+use Rattle.occ_node.proofs.from_mdd.Values.{canonical_maps}
+use Rattle.occ_node.specs.World.{IsNode}
 use Rattle.occ_node.specs.declared.node.NodeId.{NodeId}
 use Rattle.occ_node.specs.declared.root.Root.{Root}
 use Rattle.occ_node.specs.declared.world.World.{World}
 use Rattle.occ_node.proofs.Recovery.{canonical}
-use Rattle.std.proofs.lemmas.Option.{same_Some}
 use Rattle.occ_compare.specs.Places.{state_at, byte_state}
 use Rattle.occ_compare.specs.Interface.{HasNodes, AreComparable, IsWithin, IsOfInterface}
 use Rattle.occ_compare.specs.Walk.{IsFirstDifference}
@@ -51,11 +50,6 @@ module _ (w : World) (a b : Root) (roots : AreComparable w a b) where
       ∙ ap (λ n. value w.maps b.states (x % 2 ^ n)) (sym bits_b) ∙ sym (ib.map x h))
 
   -- one map, one meaning
-  pub means : a.states ≡ b.states → MeanTheSame w a.states b.states
-  means same x m n h p q =
-      let one : m ≡ n = same_Some m n (sym p ∙ ap (λ s. value w.maps s x) same ∙ q) in
-      record { same_fails = λ t X. ap (λ c. fails w c t X) one; same_ends = λ t y k. ap (λ c. ends w c t y) one }
-
   pub meant : MeanTheSame w a.states b.states → a.states ≡ b.states
   meant same = (canonical_maps w.maps).one a.states b.states roots.first.known roots.second.known (λ x h.
       let p = some_there w (value w.maps a.states x) (roots.first.nodes x h) in

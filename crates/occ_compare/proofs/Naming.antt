@@ -3,8 +3,8 @@ use Rattle.std.proofs.Common.{◌≡◌, ◌⊎◌, ◌<◌, ◌==◌, ◌||◌,
 use Rattle.std.proofs.lemmas.Bool.{and_parts, and_from, or_cases, cases_Bool, eqb-true, false≢true}
 use Rattle.std.proofs.lemmas.List.Elements.{All-from_recursion, recursion_from_All}
 use Rattle.std.specs.List.{list_all, All, AllByRecursion}
-use Rattle.occ_base.specs.declared.event.Event.{Event}
-use Rattle.occ_base.specs.declared.names.Name.{Name}
+use Rattle.occ_behaviour.specs.occ_base.declared.event.Event.{Event}
+use Rattle.occ_behaviour.specs.occ_base.declared.names.Name.{Name}
 use Rattle.occ_syntax.specs.declared.scope.Kind.{Kind}
 use Rattle.occ_syntax.specs.Scopes.{environment, in_interface, in_scope, allows, channel_width, channel_kind, has_width}
 use Rattle.occ_behaviour.specs.declared.behaviour.Behaviour.{Behaviour}
@@ -13,9 +13,9 @@ use Rattle.occ_behaviour.specs.declared.behaviour.Last.TheVariants.{Refuses, End
 use Rattle.occ_behaviour.specs.declared.behaviour.Side.{Side}
 use Rattle.occ_behaviour.specs.declared.behaviour.Side.TheVariants.{First, Second}
 use Rattle.occ_behaviour.specs.Members.{AreNamed, LastIsNamed, IsNamed}
-use Rattle.occ_accept.specs.Accept.{in_set}
-use Rattle.occ_accept.proofs.Strict.{all_each}
-use Rattle.occ_accept.proofs.Events.{cmp_total, event_exact}
+use Rattle.occ_node.specs.occ_accept.Accept.{in_set}
+use Rattle.occ_node.proofs.from_accept.Strict.{all_each}
+use Rattle.occ_node.proofs.from_accept.Events.{cmp_total, event_exact}
 use Rattle.occ_node.specs.Offers.{next_in, is_offered}
 use Rattle.occ_node.specs.World.{IsNode, row_of}
 use Rattle.occ_node.specs.declared.node.NodeId.{NodeId}

@@ -11,17 +11,17 @@ use Rattle.std.specs.Cmp.Lexicographic.{slice_cmp, lists_total}
 use Rattle.std.specs.Ordering.{is_lt, is_eq, eq_by_cmp, nat_cmp, ordering_then, ordering_reverse}
 use Rattle.std.specs.declared.cmp.Ordering.{Ordering}
 use Rattle.std.specs.declared.cmp.Ordering.TheVariants.{Less, Equal, Greater}
-use Rattle.occ_base.specs.declared.event.Dir.{Dir}
-use Rattle.occ_base.specs.declared.event.Dir.TheVariants.{Input, Output}
-use Rattle.occ_base.specs.declared.event.Event.{Event}
-use Rattle.occ_base.specs.declared.names.Name.{Name}
-use Rattle.occ_base.specs.contracts.event.EventPartialEq.TheImpl.{ghosts as event_eq}
+use Rattle.occ_behaviour.specs.occ_base.declared.event.Dir.{Dir}
+use Rattle.occ_behaviour.specs.occ_base.declared.event.Dir.TheVariants.{Input, Output}
+use Rattle.occ_behaviour.specs.occ_base.declared.event.Event.{Event}
+use Rattle.occ_behaviour.specs.occ_base.declared.names.Name.{Name}
+use Rattle.occ_behaviour.specs.occ_base.contracts.event.EventPartialEq.TheImpl.{ghosts as event_eq}
 use Rattle.occ_syntax.specs.declared.scope.Kind.{Kind}
-use Rattle.occ_accept.specs.Order.{event_cmp, dir_number, strict, is_in}
-use Rattle.occ_accept.specs.Accept.{in_set}
-use Rattle.occ_accept.proofs.Strict.{IsExact, less_is, same_tests, tied, tied_same, any_same, above-not_in, above-above, same_strict}
-use Rattle.occ_accept.proofs.Events.{cmp_total, event_exact, eq_is, sets_total, set_exact}
-use Rattle.occ_accept.proofs.Sets.{gathered}
+use Rattle.occ_node.specs.occ_accept.Order.{event_cmp, dir_number, strict, is_in}
+use Rattle.occ_node.specs.occ_accept.Accept.{in_set}
+use Rattle.occ_node.proofs.from_accept.Strict.{IsExact, less_is, same_tests, tied, tied_same, any_same, above-not_in, above-above, same_strict}
+use Rattle.occ_node.proofs.from_accept.Events.{cmp_total, event_exact, eq_is, sets_total, set_exact}
+use Rattle.occ_node.proofs.from_accept.Sets.{gathered}
 use Rattle.occ_behaviour.specs.Places.{place_in}
 use Rattle.occ_compare.specs.Orders.{print_cmp, list_cmp, set_cmp, IsListOf, has_set}
 use Rattle.occ_compare.specs.Walk.{IsLeastSet}

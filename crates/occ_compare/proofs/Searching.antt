@@ -6,27 +6,26 @@ use Rattle.std.proofs.lemmas.List.Folds.{list_any_more}
 use Rattle.std.proofs.lemmas.List.MinMax.{ranks_by}
 use Rattle.std.specs.List.{list_all, list_any}
 use Rattle.std.specs.Cmp.{nat_cmp_is, ranked}
-use Rattle.std.specs.Cmp.Lexicographic.{slice_cmp, pointwise, lists_ties}
-use Rattle.std.specs.Ordering.{is_lt, eq_by_cmp, nat_cmp, ordering_then, MatchOrdering}
+use Rattle.std.specs.Cmp.Lexicographic.{slice_cmp}
+use Rattle.std.specs.Ordering.{is_lt, eq_by_cmp, nat_cmp, MatchOrdering}
 use Rattle.std.specs.declared.cmp.Ordering.{Ordering}
 use Rattle.std.specs.declared.cmp.Ordering.TheVariants.{Less, Equal, Greater}
-use Rattle.occ_base.specs.declared.event.Event.{Event}
-use Rattle.occ_base.specs.declared.names.Name.{Name}
-use Rattle.occ_base.specs.contracts.event.EventPartialEq.TheImpl.{ghosts as event_eq}
+use Rattle.occ_behaviour.specs.occ_base.declared.event.Event.{Event}
+use Rattle.occ_behaviour.specs.occ_base.declared.names.Name.{Name}
 use Rattle.occ_syntax.specs.declared.scope.Kind.{Kind}
 use Rattle.occ_syntax.specs.Counts.{bits_of_scope}
 use Rattle.occ_behaviour.specs.declared.behaviour.Side.{Side}
 use Rattle.occ_behaviour.specs.declared.behaviour.Side.TheVariants.{First, Second}
-use Rattle.occ_dd.specs.Store.{has}
-use Rattle.occ_dd.specs.declared.set.SetId.{SetId}
-use Rattle.occ_dd.specs.declared.store.Store.{Store}
-use Rattle.occ_mdd.specs.Maps.{value}
-use Rattle.occ_mdd.specs.declared.map.MapId.{MapId}
-use Rattle.occ_accept.specs.Order.{event_cmp, strict}
-use Rattle.occ_accept.specs.Accept.{in_set}
-use Rattle.occ_accept.proofs.Strict.{tied, tied_same, less-not_equal, all_at}
-use Rattle.occ_accept.proofs.Sets.{in_either}
-use Rattle.occ_accept.proofs.Events.{cmp_total, event_exact, eq_is}
+use Rattle.occ_bits.specs.occ_dd.Store.{has}
+use Rattle.occ_bits.specs.occ_dd.declared.set.SetId.{SetId}
+use Rattle.occ_bits.specs.occ_dd.declared.store.Store.{Store}
+use Rattle.occ_node.specs.occ_mdd.Maps.{value}
+use Rattle.occ_node.specs.occ_mdd.declared.map.MapId.{MapId}
+use Rattle.occ_node.specs.occ_accept.Order.{event_cmp, strict}
+use Rattle.occ_node.specs.occ_accept.Accept.{in_set}
+use Rattle.occ_node.proofs.from_accept.Strict.{tied, tied_same, less-not_equal, all_at}
+use Rattle.occ_node.proofs.from_accept.Sets.{in_either}
+use Rattle.occ_node.proofs.from_accept.Events.{cmp_total, event_exact}
 use Rattle.occ_node.specs.Offers.{next_in, is_offered}
 use Rattle.occ_node.specs.declared.node.NodeId.{NodeId}
 use Rattle.occ_node.specs.declared.world.World.{World}
@@ -39,14 +38,7 @@ use Rattle.occ_compare.specs.Steps.{IsSide, Tells, IsLeastStart, same_node, same
 use Rattle.occ_compare.proofs.Numbers.{small, below, again, back, less}
 use Rattle.occ_compare.proofs.Printing.{print_total, print_exact, in_printed, kept_none, kept_some, first_some, less_some, more_some, of_two}
 
--- ---- equality of sets
-pub sets_same : (xs ys : List Event) → pointwise event_eq.eq xs ys ≡ eq_by_cmp (slice_cmp event_cmp) xs ys
-sets_same xs ys = lists_ties event_cmp eq_is xs ys
-
 -- ---- lists of events by their first difference
-
-pub first_same : (r s : Ordering) → r ≡ Equal → ordering_then r s ≡ s
-first_same r s h = ap (λ o. ordering_then o s) h
 
 suc_rank : (n m : ℕ) (r : Ordering) → MatchOrdering r (n < m) (n ≡ m) (m < n) → MatchOrdering r (suc n < suc m) (suc n ≡ suc m) (suc m < suc n)
 suc_rank n m Less h = omega (arith, h)

@@ -1,14 +1,14 @@
 -- Roots that can be compared, and what their meaning needs.
 use Rattle.std.specs.Prelude.{ℕ, ◌<◌, ◌≤◌, ◌≡◌, ◌%◌, ◌^◌, true, List, Some, IsSomeAnd}
 use Rattle.std.specs.List.{list_all}
-use Rattle.occ_base.specs.declared.event.Event.{Event}
-use Rattle.occ_base.specs.declared.names.Name.{Name}
+use Rattle.occ_behaviour.specs.occ_base.declared.event.Event.{Event}
+use Rattle.occ_behaviour.specs.occ_base.declared.names.Name.{Name}
 use Rattle.occ_syntax.specs.declared.scope.Kind.{Kind}
 use Rattle.occ_syntax.specs.Counts.{bits_of_scope}
 use Rattle.occ_syntax.specs.Scopes.{environment, in_interface}
 use Rattle.occ_syntax.specs.Types.{scope_kept}
-use Rattle.occ_mdd.specs.Maps.{value, IsKnown}
-use Rattle.occ_mdd.specs.declared.map.MapId.{MapId}
+use Rattle.occ_node.specs.occ_mdd.Maps.{value, IsKnown}
+use Rattle.occ_node.specs.occ_mdd.declared.map.MapId.{MapId}
 use Rattle.occ_node.specs.Canonical.{HasTrace}
 use Rattle.occ_node.specs.World.{IsNode, ends}
 use Rattle.occ_node.specs.declared.node.NodeId.{NodeId}

@@ -1,15 +1,15 @@
 -- What the functions of this crate find on the way.
 use Rattle.std.specs.Prelude.{ℕ, ◌<◌, ◌≡◌, ◌==◌, ◌^◌, ◌&&◌, ◌||◌, ◌⊎◌, Bool, true, false, not, List, [], ◌∷◌, Option, Some, None, if◌then◌else◌}
 use Rattle.std.specs.Ordering.{is_lt}
-use Rattle.occ_base.specs.declared.event.Event.{Event}
-use Rattle.occ_base.specs.declared.names.Name.{Name}
+use Rattle.occ_behaviour.specs.occ_base.declared.event.Event.{Event}
+use Rattle.occ_behaviour.specs.occ_base.declared.names.Name.{Name}
 use Rattle.occ_syntax.specs.declared.scope.Kind.{Kind}
 use Rattle.occ_syntax.specs.Counts.{bits_of_scope}
 use Rattle.occ_behaviour.specs.declared.behaviour.Side.{Side}
-use Rattle.occ_dd.specs.declared.set.SetId.{SetId}
-use Rattle.occ_dd.specs.declared.store.Store.{Store}
-use Rattle.occ_mdd.specs.Maps.{value}
-use Rattle.occ_mdd.specs.declared.map.MapId.{MapId}
+use Rattle.occ_bits.specs.occ_dd.declared.set.SetId.{SetId}
+use Rattle.occ_bits.specs.occ_dd.declared.store.Store.{Store}
+use Rattle.occ_node.specs.occ_mdd.Maps.{value}
+use Rattle.occ_node.specs.occ_mdd.declared.map.MapId.{MapId}
 use Rattle.occ_node.specs.Offers.{next_in, is_offered}
 use Rattle.occ_node.specs.World.{row_of}
 use Rattle.occ_node.specs.declared.node.NodeId.{NodeId}

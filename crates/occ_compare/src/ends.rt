@@ -1,16 +1,14 @@
 ghost use Rattle.std.specs.Prelude.{◌≡◌, ◌≤◌, MatchOption};
 ghost use Rattle.occ_syntax.specs.Counts.{bits_of_scope};
-ghost use Rattle.occ_dd.specs.Store.{IsKnown};
-ghost use Rattle.occ_mdd.specs.Maps.{IsKnown as IsMapKnown};
+ghost use Rattle.occ_bits.specs.occ_dd.Store.{IsKnown};
+ghost use Rattle.occ_node.specs.occ_mdd.Maps.{IsKnown as IsMapKnown};
 ghost use Rattle.occ_compare.specs.Steps.{Tells, IsSide, IsLeastStart, SameStarts, same_node};
 ghost use Rattle.occ_compare.specs.Walk.{SameEnds};
 
 use crate::places::{assignment, last_number};
-use occ_base::Name;
-use occ_behaviour::Side;
-use occ_dd::{SetId, Store};
-use occ_mdd::MapId;
-use occ_node::{NodeId, World};
+use occ_behaviour::{Name, Side};
+use occ_bits::{SetId, Store};
+use occ_node::{MapId, NodeId, World};
 use occ_syntax::Kind;
 
 // An assignment that only one of two sets has, and whose it is.

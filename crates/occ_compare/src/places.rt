@@ -2,8 +2,7 @@ ghost use Rattle.std.specs.Prelude.{◌≡◌, ◌<◌, ◌≤◌, ◌+◌, ◌*
 ghost use Rattle.occ_syntax.specs.Counts.{bits_of_scope};
 ghost use Rattle.occ_compare.specs.Places.{assignment_at, byte_state};
 
-use occ_base::{Memory, Name, State};
-use occ_behaviour::interface_bits;
+use occ_behaviour::{Memory, Name, State, interface_bits};
 use occ_syntax::Kind;
 use std::alloc::Global;
 

@@ -1,15 +1,14 @@
 ghost use Rattle.std.specs.Prelude.{◌≡◌, true, IfOk, MatchOption, Some, if◌then◌else◌};
 ghost use Rattle.std.specs.Ordering.{is_lt};
 ghost use Rattle.std.specs.Cmp.Lexicographic.{slice_cmp};
-ghost use Rattle.occ_accept.specs.Order.{event_cmp, strict};
+ghost use Rattle.occ_node.specs.occ_accept.Order.{event_cmp, strict};
 ghost use Rattle.occ_compare.specs.Orders.{set_cmp, has_set};
 ghost use Rattle.occ_compare.specs.Walk.{SameSets};
 ghost use Rattle.occ_compare.specs.Steps.{AllIn, Chooses, IsLeastOnly, IsLesserSide};
 
 use crate::events::{in_order, is_less};
-use occ_accept::AcceptSet;
-use occ_base::{Event, Memory, Name};
-use occ_behaviour::Side;
+use occ_behaviour::{Event, Memory, Name, Side};
+use occ_node::AcceptSet;
 use occ_syntax::Kind;
 use std::alloc::Global;
 use std::cmp::Ordering;

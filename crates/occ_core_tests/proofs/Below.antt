@@ -4,13 +4,13 @@ use Rattle.std.specs.Prelude.{Result, Ok, Err, IfOk, OnOk}
 use Rattle.std.specs.List.{AllByRecursion}
 use Rattle.std.proofs.lemmas.Bool.{cases_lt}
 use Rattle.std.proofs.lemmas.List.{length-append}
-use Rattle.occ_base.specs.Names.{place_of, with_text}
-use Rattle.occ_base.specs.declared.memory.Memory.{Memory}
-use Rattle.occ_base.proofs.Naming.{with_there, with_new, place-le}
-use Rattle.occ_base.specs.declared.names.Name.{Name}
+use Rattle.occ_desk.specs.occ_base.Names.{place_of, with_text}
+use Rattle.occ_desk.specs.occ_base.declared.memory.Memory.{Memory}
+use Rattle.occ_desk.proofs.from_base.Naming.{with_there, with_new, place-le}
+use Rattle.occ_desk.specs.occ_base.declared.names.Name.{Name}
 use Rattle.occ_syntax.specs.declared.scope.Kind.{Kind}
 use Rattle.occ_syntax.specs.Tree.{Exp, variable, numeral, truth, negation, complement, operation, Waiting, ready, input, output, Tree, skip, stop, assign, receive, send, seq, par, select, alt, declare, connect, Trees, no_tree, and_tree, Cases, no_case, and_case, Branches, no_branch, and_branch}
-use Rattle.occ_print.specs.Known.{ExpIsKnown, WaitingIsKnown, PartIsKnown, PartsAreKnown, CasesAreKnown, BranchesAreKnown, ProgramIsKnown}
+use Rattle.occ_gen.specs.occ_print.Known.{ExpIsKnown, WaitingIsKnown, PartIsKnown, PartsAreKnown, CasesAreKnown, BranchesAreKnown, ProgramIsKnown}
 
 pub all_greater : {X : Type 0} (P Q : X → Type 0) → ((x : X) → P x → Q x) → (xs : List X) → AllByRecursion P xs → AllByRecursion Q xs
 all_greater P Q f [] h = tt

@@ -1,8 +1,17 @@
+mod accept;
 mod base;
 mod behaviour;
 mod behaviour_read;
+mod dd;
 mod desk;
+mod diagram;
+mod events;
+mod follow;
 mod generated;
 mod known;
+mod mdd;
 mod nform_read;
+mod node;
+mod norm_flatten;
+mod norm_straight;
 mod print;

@@ -4,10 +4,10 @@ use Rattle.std.proofs.lemmas.Bool.{cases_eq}
 use Rattle.std.proofs.lemmas.Nat.{div-add-mod'}
 use Rattle.std.proofs.lemmas.Nat.Bits.{bit_at_cat_low}
 use Rattle.std.specs.Int.{bit_at}
-use Rattle.occ_diagram.proofs.DiagramLemmas.{depth-le, end_agree, end-turned_free}
-use Rattle.occ_diagram.specs.Assignment.{turned}
-use Rattle.occ_diagram.specs.Diagram.{depth_of}
-use Rattle.occ_diagram.specs.Table.{nodes_of}
+use Rattle.occ_dd.proofs.DiagramLemmas.{depth-le, end_agree, end-turned_free}
+use Rattle.occ_dd.specs.Assignment.{turned}
+use Rattle.occ_dd.specs.Diagram.{depth_of}
+use Rattle.occ_dd.specs.Table.{nodes_of}
 use Rattle.occ_dd.specs.Store.{sets_of, IsKnown, has, depth, IsConstant, IsEmpty, IsFull, Keeps, IsSet}
 use Rattle.occ_dd.specs.declared.set.SetId.{SetId}
 use Rattle.occ_dd.specs.declared.store.Store.{Store}

@@ -2,17 +2,17 @@ use Rattle.std.proofs.Common.{◌≡◌, ◌≢◌, ℕ, ◌+◌, ◌<◌, ◌�
 use Rattle.std.specs.Int.{bit_at}
 use Rattle.std.proofs.lemmas.Bool.{cases_Bool}
 use Rattle.std.proofs.lemmas.Option.{slice_get_within}
-use Rattle.occ_diagram.proofs.Bits.{bit_cases, is_one, is_zero, bit_at-with_bit_other}
-use Rattle.occ_diagram.proofs.DiagramLemmas.{depth-branch, low_part, high_part, end-part, end-with_bit_free}
-use Rattle.occ_diagram.proofs.Growth.{known-keeps, depth-keeps, end-keeps}
-use Rattle.occ_diagram.specs.Assignment.{with_bit}
-use Rattle.occ_diagram.specs.Memo.{recalled, Learns}
-use Rattle.occ_diagram.specs.Diagram.{depth_of, end_of, IsDiagram, Keeps, IsSplit, IsPart}
-use Rattle.occ_diagram.specs.declared.memo.Call.{Call}
-use Rattle.occ_diagram.specs.declared.memo.Memo.{Memo}
-use Rattle.occ_diagram.specs.declared.node.Decision.{Decision}
-use Rattle.occ_diagram.specs.declared.node.Node.{Node}
-use Rattle.occ_diagram.specs.declared.node.Node.TheVariants.{Branch}
+use Rattle.occ_dd.proofs.Bits.{bit_cases, is_one, is_zero, bit_at-with_bit_other}
+use Rattle.occ_dd.proofs.DiagramLemmas.{depth-branch, low_part, high_part, end-part, end-with_bit_free}
+use Rattle.occ_dd.proofs.Growth.{known-keeps, depth-keeps, end-keeps}
+use Rattle.occ_dd.specs.Assignment.{with_bit}
+use Rattle.occ_dd.specs.Memo.{recalled, Learns}
+use Rattle.occ_dd.specs.Diagram.{depth_of, end_of, IsDiagram, Keeps, IsSplit, IsPart}
+use Rattle.occ_dd.specs.declared.memo.Call.{Call}
+use Rattle.occ_dd.specs.declared.memo.Memo.{Memo}
+use Rattle.occ_dd.specs.declared.node.Decision.{Decision}
+use Rattle.occ_dd.specs.declared.node.Node.{Node}
+use Rattle.occ_dd.specs.declared.node.Node.TheVariants.{Branch}
 use Rattle.occ_dd.specs.Choices.{greatest_depth, IsChoice, AreChoices, IsUnion, AreUnions, IsTop}
 
 -- the choice between two numbers by a third

@@ -4,12 +4,12 @@ use Rattle.std.proofs.Math.Nat.{two-pow-succ}
 use Rattle.std.proofs.Math.Pow.{pow_mono}
 use Rattle.std.proofs.lemmas.Nat.{one_shl, pow_pos, div-add-mod'}
 use Rattle.std.proofs.lemmas.Nat.Bits.{bit_at_above, bit_at_cat_low, bit_at_cat_high}
-use Rattle.occ_diagram.proofs.Bits.{bit_cases}
-use Rattle.occ_diagram.proofs.DiagramLemmas.{depth-branch, end-leaf, end_agree, one_terminal, low_part, high_part}
-use Rattle.occ_diagram.specs.Diagram.{depth_of, end_of}
-use Rattle.occ_diagram.specs.Table.{nodes_of}
-use Rattle.occ_diagram.specs.declared.node.Decision.{Decision}
-use Rattle.occ_diagram.specs.declared.node.Node.TheVariants.{Leaf, Branch}
+use Rattle.occ_dd.proofs.Bits.{bit_cases}
+use Rattle.occ_dd.proofs.DiagramLemmas.{depth-branch, end-leaf, end_agree, one_terminal, low_part, high_part}
+use Rattle.occ_dd.specs.Diagram.{depth_of, end_of}
+use Rattle.occ_dd.specs.Table.{nodes_of}
+use Rattle.occ_dd.specs.declared.node.Decision.{Decision}
+use Rattle.occ_dd.specs.declared.node.Node.TheVariants.{Leaf, Branch}
 use Rattle.occ_dd.specs.Grows.{IsLeastOf}
 use Rattle.occ_dd.specs.Store.{IsEmpty, IsLeastMember}
 use Rattle.occ_dd.specs.declared.set.SetId.{SetId}

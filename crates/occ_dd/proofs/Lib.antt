@@ -1,3 +1,7 @@
+pub mod Bits
+pub mod DiagramLemmas
+pub mod Growth
+pub mod MemoLemmas
 pub mod Choosing
 pub mod Sets
 pub mod Steps

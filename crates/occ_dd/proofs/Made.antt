@@ -1,12 +1,12 @@
 use Rattle.std.proofs.Common.{◌≡◌, ℕ, ◌+◌, ◌<◌, ◌≤◌, Bool, true, false, List, [], length, Option, Some, None, slice_get, unwrap_or, sym, ap, ◌∙◌, arith}
 use Rattle.std.proofs.lemmas.Option.{slice_get_within}
-use Rattle.occ_diagram.proofs.DiagramLemmas.{label-leaf}
-use Rattle.occ_diagram.specs.Diagram.{label_of, IsDiagram, Keeps}
-use Rattle.occ_diagram.specs.Memo.{recalled}
-use Rattle.occ_diagram.specs.declared.memo.Call.{Call}
-use Rattle.occ_diagram.specs.declared.memo.Memo.{Memo}
-use Rattle.occ_diagram.specs.declared.node.Node.{Node}
-use Rattle.occ_diagram.specs.declared.node.Node.TheVariants.{Leaf}
+use Rattle.occ_dd.proofs.DiagramLemmas.{label-leaf}
+use Rattle.occ_dd.specs.Diagram.{label_of, IsDiagram, Keeps}
+use Rattle.occ_dd.specs.Memo.{recalled}
+use Rattle.occ_dd.specs.declared.memo.Call.{Call}
+use Rattle.occ_dd.specs.declared.memo.Memo.{Memo}
+use Rattle.occ_dd.specs.declared.node.Node.{Node}
+use Rattle.occ_dd.specs.declared.node.Node.TheVariants.{Leaf}
 use Rattle.occ_dd.specs.Choices.{AreChoices, AreUnions}
 
 -- a table of two terminals

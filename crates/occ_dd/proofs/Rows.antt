@@ -3,9 +3,9 @@ use Rattle.std.specs.List.{All}
 use Rattle.std.proofs.Math.Nat.{two-pow-succ}
 use Rattle.std.proofs.lemmas.Bool.{cases_Bool}
 use Rattle.std.proofs.lemmas.List.{get_or-take, get_or-drop}
-use Rattle.occ_diagram.proofs.Growth.{end-keeps}
-use Rattle.occ_diagram.specs.Diagram.{end_of}
-use Rattle.occ_diagram.specs.Table.{nodes_of}
+use Rattle.occ_dd.proofs.Growth.{end-keeps}
+use Rattle.occ_dd.specs.Diagram.{end_of}
+use Rattle.occ_dd.specs.Table.{nodes_of}
 use Rattle.occ_dd.specs.Choices.{IsChoice}
 use Rattle.occ_dd.specs.Grows.{Grows, IsRows}
 use Rattle.occ_dd.specs.Store.{IsKnown, has, row_of, Keeps, IsSet}
@@ -43,9 +43,6 @@ row_empty s rows inputs none e = record {
 }
 
 -- ---- the number of a row
-digit : Bool → ℕ
-digit t = cond t 1 0
-
 digit_small : (t : Bool) → cond t 1 0 ≤ 1
 digit_small true = omega arith
 digit_small false = omega arith

@@ -2,15 +2,15 @@ use Rattle.std.proofs.Common.{◌≡◌, ◌⊎◌, ℕ, ◌+◌, ◌<◌, ◌�
 use Rattle.std.specs.Int.{bit_at}
 use Rattle.std.proofs.lemmas.Bool.{cases_eq}
 use Rattle.std.proofs.lemmas.Option.{same_Some}
-use Rattle.occ_diagram.proofs.Bits.{bit_cases, is_one, is_zero}
-use Rattle.occ_diagram.proofs.DiagramLemmas.{depth-leaf, depth-branch, end-leaf, label-leaf, end_terminal, one_terminal, terminal, canonical, low_part, high_part, end-part, end-turned_free}
-use Rattle.occ_diagram.proofs.Growth.{depth-keeps, end-keeps, keeps_refl, keeps_trans}
-use Rattle.occ_diagram.specs.Assignment.{turned, with_bit}
-use Rattle.occ_diagram.specs.Diagram.{label_of_node, label_of, depth_of, end_of, IsSplit, IsPart, IsTurned}
-use Rattle.occ_diagram.specs.Table.{nodes_of}
-use Rattle.occ_diagram.specs.declared.node.Decision.{Decision}
-use Rattle.occ_diagram.specs.declared.node.Node.{Node}
-use Rattle.occ_diagram.specs.declared.node.Node.TheVariants.{Leaf, Branch}
+use Rattle.occ_dd.proofs.Bits.{bit_cases, is_one, is_zero}
+use Rattle.occ_dd.proofs.DiagramLemmas.{depth-leaf, depth-branch, end-leaf, label-leaf, end_terminal, one_terminal, terminal, canonical, low_part, high_part, end-part, end-turned_free}
+use Rattle.occ_dd.proofs.Growth.{depth-keeps, end-keeps, keeps_refl, keeps_trans}
+use Rattle.occ_dd.specs.Assignment.{turned, with_bit}
+use Rattle.occ_dd.specs.Diagram.{label_of_node, label_of, depth_of, end_of, IsSplit, IsPart, IsTurned}
+use Rattle.occ_dd.specs.Table.{nodes_of}
+use Rattle.occ_dd.specs.declared.node.Decision.{Decision}
+use Rattle.occ_dd.specs.declared.node.Node.{Node}
+use Rattle.occ_dd.specs.declared.node.Node.TheVariants.{Leaf, Branch}
 use Rattle.occ_dd.specs.Choices.{IsChoice, IsUnion}
 use Rattle.occ_dd.specs.Grows.{Grows}
 use Rattle.occ_dd.specs.Store.{sets_of, IsKnown, has, depth, Keeps, IsSet, IsConstant, Splits, IsSubsetAnswer, IsCanonical}

@@ -1,10 +1,10 @@
 use Rattle.std.proofs.Common.{◌≡◌, ◌≢◌, ◌⊎◌, ℕ, ◌+◌, ◌<◌, ◌≤◌, length, max, Some, cond, eq-eqb, ne_eqb, slice_get, sym, ap, ◌∙◌, subst, ⊎_elim, arith}
 use Rattle.std.proofs.lemmas.Option.{slice_get_within}
-use Rattle.occ_diagram.proofs.Growth.{known-keeps, depth-keeps}
-use Rattle.occ_diagram.specs.Diagram.{depth_of, end_of, IsSplit, IsPart}
-use Rattle.occ_diagram.specs.Table.{nodes_of}
-use Rattle.occ_diagram.specs.declared.node.Decision.{Decision}
-use Rattle.occ_diagram.specs.declared.node.Node.TheVariants.{Branch}
+use Rattle.occ_dd.proofs.Growth.{known-keeps, depth-keeps}
+use Rattle.occ_dd.specs.Diagram.{depth_of, end_of, IsSplit, IsPart}
+use Rattle.occ_dd.specs.Table.{nodes_of}
+use Rattle.occ_dd.specs.declared.node.Decision.{Decision}
+use Rattle.occ_dd.specs.declared.node.Node.TheVariants.{Branch}
 use Rattle.occ_dd.specs.Choices.{greatest_depth, IsChoice, IsUnion, IsTop}
 use Rattle.occ_dd.specs.Grows.{Grows}
 use Rattle.occ_dd.specs.declared.store.Store.{Store}

@@ -1,10 +1,10 @@
 use Rattle.std.specs.Prelude.{ℕ, ◌+◌, ◌<◌, ◌≤◌, ◌≡◌, ◌==◌, Bool, List, Some, length, max, if◌then◌else◌}
-use Rattle.occ_diagram.specs.Assignment.{with_bit}
-use Rattle.occ_diagram.specs.Memo.{recalled}
-use Rattle.occ_diagram.specs.Diagram.{depth_of, end_of}
-use Rattle.occ_diagram.specs.declared.memo.Call.{Call}
-use Rattle.occ_diagram.specs.declared.memo.Memo.{Memo}
-use Rattle.occ_diagram.specs.declared.node.Node.{Node}
+use Rattle.occ_dd.specs.Assignment.{with_bit}
+use Rattle.occ_dd.specs.Memo.{recalled}
+use Rattle.occ_dd.specs.Diagram.{depth_of, end_of}
+use Rattle.occ_dd.specs.declared.memo.Call.{Call}
+use Rattle.occ_dd.specs.declared.memo.Memo.{Memo}
+use Rattle.occ_dd.specs.declared.node.Node.{Node}
 
 -- the greatest depth of three functions
 abbrev pub greatest_depth : List (Node Bool) → ℕ → ℕ → ℕ → ℕ

@@ -1,6 +1,6 @@
 use Rattle.std.specs.Prelude.{ℕ, ◌<◌, ◌≤◌, ◌≡◌, ◌^◌, Bool, false, List, length, slice_index_or, if◌then◌else◌}
-use Rattle.occ_diagram.specs.Diagram.{Keeps, depth_of, end_of}
-use Rattle.occ_diagram.specs.Table.{nodes_of}
+use Rattle.occ_dd.specs.Diagram.{Keeps, depth_of, end_of}
+use Rattle.occ_dd.specs.Table.{nodes_of}
 use Rattle.occ_dd.specs.Store.{row_of}
 use Rattle.occ_dd.specs.declared.set.SetId.{SetId}
 use Rattle.occ_dd.specs.declared.store.Store.{Store}

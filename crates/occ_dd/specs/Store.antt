@@ -1,7 +1,7 @@
 use Rattle.std.specs.Prelude.{ℕ, ◌+◌, ◌*◌, ◌<◌, ◌≤◌, ◌≡◌, ◌==◌, ◌^◌, ◌⊎◌, Bool, true, false, List, [], ◌∷◌, length, if◌then◌else◌}
-use Rattle.occ_diagram.specs.Assignment.{turned, with_bit}
-use Rattle.occ_diagram.specs.Diagram.{depth_of, end_of}
-use Rattle.occ_diagram.specs.Table.{nodes_of}
+use Rattle.occ_dd.specs.Assignment.{turned, with_bit}
+use Rattle.occ_dd.specs.Diagram.{depth_of, end_of}
+use Rattle.occ_dd.specs.Table.{nodes_of}
 use Rattle.occ_dd.specs.declared.set.SetId.{SetId}
 use Rattle.occ_dd.specs.declared.store.Store.{Store}
 

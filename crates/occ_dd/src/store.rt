@@ -1,21 +1,20 @@
 ghost use Rattle.std.specs.Prelude.{◌≡◌, ℕ, ◌<◌, ◌≤◌, ◌+◌, ◌^◌, ◌==◌, IfOk, IfSome, true, false, not, ◌&&◌, ◌||◌, if◌then◌else◌, length, unwrap_or};
 ghost use Rattle.std.specs.Int.{bit_at};
-ghost use Rattle.occ_diagram.specs.Assignment.{turned, with_bit};
-ghost use Rattle.occ_diagram.specs.Diagram.{depth_of, label_of, IsSplit};
-ghost use Rattle.occ_diagram.specs.Table.{nodes_of};
+ghost use Rattle.occ_dd.specs.Assignment.{turned, with_bit};
+ghost use Rattle.occ_dd.specs.Diagram.{depth_of, label_of, IsSplit};
+ghost use Rattle.occ_dd.specs.Table.{nodes_of};
 ghost use Rattle.occ_dd.specs.Choices.{AreChoices, AreUnions, IsChoice, IsUnion, IsTop};
 
 mod reads;
 mod truth;
 
-use crate::SetId;
+use crate::{Call, Memo, Node, SetId, Table};
 use occ_base::Memory;
-use occ_diagram::{Call, Memo, Node, Table};
 use std::alloc::Global;
 
 /// Sets of assignments of 64 bits, known by their numbers. An assignment is a u64 whose k-th binary
 /// digit is bit k. One set has one number, and a number keeps its set whatever is made later, also
-/// after want of memory. The sets are ordered reduced decision diagrams with shared nodes, and the
+/// where memory runs out. The sets are ordered reduced decision diagrams with shared nodes, and the
 /// results of operations are remembered by the numbers of their arguments (Bryant 1986).
 #[derive(Drop)]
 pub struct Store {

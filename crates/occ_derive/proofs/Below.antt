@@ -2,11 +2,11 @@
 use Rattle.std.proofs.Common.{◌<◌, ◌≤◌, ℕ, suc, ◌+◌, ◌≡◌, List, [], ◌∷◌, drop, get_or, length, sym, subst, arith}
 use Rattle.std.specs.List.{AllByRecursion}
 use Rattle.std.proofs.Math.Seq.{drop-cons}
-use Rattle.occ_base.specs.declared.names.Name.{Name}
+use Rattle.occ_script_back.specs.occ_base.declared.names.Name.{Name}
 use Rattle.occ_derive.specs.Derived.{AreBelow, IsBelow, ParamIsBelow, ProgramIsBelow}
-use Rattle.occ_engine.specs.declared.outcome.Outcome.{Outcome}
-use Rattle.occ_print_known.specs.Greatest.{greatest}
-use Rattle.occ_script_write.specs.declared.writing.Done.{Done}
+use Rattle.occ_derive_search.specs.occ_engine.declared.outcome.Outcome.{Outcome}
+use Rattle.occ_script_back.specs.occ_print.Greatest.{greatest}
+use Rattle.occ_script_back.specs.occ_script_write.declared.writing.Done.{Done}
 use Rattle.occ_syntax.specs.declared.scope.Kind.{Kind}
 use Rattle.occ_syntax.specs.declared.scope.Program.{Program}
 use Rattle.occ_syntax.specs.View.{tree}

@@ -1,15 +1,15 @@
 -- Names up to one that stands in a table stand in it.
 use Rattle.std.proofs.Common.{◌<◌, ℕ, arith, List, [], ◌∷◌, length}
 use Rattle.std.specs.List.{AllByRecursion}
-use Rattle.occ_base.specs.declared.names.Name.{Name}
+use Rattle.occ_script_back.specs.occ_base.declared.names.Name.{Name}
 use Rattle.occ_derive.specs.Derived.{AreBelow, CanBeWritten, IsBelow, IsDerivation, IsProgramOf, ParamIsBelow, ProgramIsBelow}
-use Rattle.occ_engine.specs.declared.outcome.Outcome.{Outcome}
-use Rattle.occ_engine.specs.Outcomes.{IsTabled}
-use Rattle.occ_print.specs.Known.{PartIsKnown}
-use Rattle.occ_print_known.specs.Greatest.{greatest}
-use Rattle.occ_script_write.specs.declared.writing.Done.{Done}
-use Rattle.occ_script_write.specs.Text.{IsWritable}
-use Rattle.occ_script_write_back.specs.Said.{IsSaid}
+use Rattle.occ_derive_search.specs.occ_engine.declared.outcome.Outcome.{Outcome}
+use Rattle.occ_derive_search.specs.occ_engine.Outcomes.{IsTabled}
+use Rattle.occ_script_back.specs.occ_print.Known.{PartIsKnown}
+use Rattle.occ_script_back.specs.occ_print.Greatest.{greatest}
+use Rattle.occ_script_back.specs.occ_script_write.declared.writing.Done.{Done}
+use Rattle.occ_script_back.specs.occ_script_write.Text.{IsWritable}
+use Rattle.occ_script_back.specs.Said.{IsSaid}
 use Rattle.occ_syntax.specs.declared.scope.Kind.{Kind}
 use Rattle.occ_syntax.specs.declared.scope.Program.{Program}
 use Rattle.occ_syntax.specs.Tree.{Tree}

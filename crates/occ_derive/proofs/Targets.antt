@@ -2,16 +2,16 @@
 use Rattle.std.proofs.Common.{◌≡◌, ℕ, zero, suc, ◌+◌, ◌≤◌, Bool, true, false, cond, nat_le, List, [], ◌∷◌, ◌++◌, length, filter, length-append, refl, sym, subst, arith}
 use Rattle.std.specs.List.{list_all}
 use Rattle.std.proofs.lemmas.Bool.{and_from, and_parts, le-leb, leb-true}
-use Rattle.occ_base.specs.declared.names.Name.{Name}
-use Rattle.occ_base.specs.declared.width.Width.{Width}
-use Rattle.occ_base.specs.Names.{with_text}
-use Rattle.occ_fresh.specs.Growth.{GrowsByNames, IsNameText}
-use Rattle.occ_fresh.proofs.Growing.{grows_not, grows_on, grows_once}
-use Rattle.occ_fresh.proofs.Spelled.{is_name_text}
-use Rattle.occ_lex.specs.Spelling.{is_name_byte}
-use Rattle.occ_lex.proofs.Classes.{digit_name_byte}
+use Rattle.occ_script_back.specs.occ_base.declared.names.Name.{Name}
+use Rattle.occ_script_back.specs.occ_base.declared.width.Width.{Width}
+use Rattle.occ_script_back.specs.occ_base.Names.{with_text}
+use Rattle.occ_script_back.specs.occ_lex.Growth.{GrowsByNames, IsNameText}
+use Rattle.occ_script_back.proofs.from_lex.Growing.{grows_not, grows_on, grows_once}
+use Rattle.occ_script_back.proofs.from_lex.Spelled.{is_name_text}
+use Rattle.occ_script_back.specs.occ_lex.Spelling.{is_name_byte}
+use Rattle.occ_script_back.proofs.from_lex.Classes.{digit_name_byte}
 use Rattle.occ_syntax.specs.declared.scope.Kind.{Kind}
-use Rattle.occ_target.specs.Inputs.{all_widths, digit_of, dotted, input_names, input_text, is_input_width, is_taken, names_with}
+use Rattle.occ_derive_search.specs.occ_target.Inputs.{all_widths, digit_of, dotted, input_names, input_text, is_input_width, is_taken, names_with}
 
 -- bytes of names, so many at most
 record AreNameBytes (most : ℕ) (bytes : List ℕ) : Type 0 where

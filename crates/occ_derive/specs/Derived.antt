@@ -1,22 +1,22 @@
 -- Derivations of normal programs.
 use Rattle.std.specs.Prelude.{ℕ, ◌≡◌, ◌≤◌, List}
 use Rattle.std.specs.List.{AllByRecursion}
-use Rattle.occ_derive_check.specs.Derivations.{IsDerived}
-use Rattle.occ_engine.specs.declared.outcome.Outcome.{Outcome}
-use Rattle.occ_nform_table.specs.Behaviours.{Stands}
-use Rattle.occ_nform_table.specs.declared.table.Table.{Table}
-use Rattle.occ_nform_table.specs.Tables.{IsNormal}
-use Rattle.occ_print.specs.Known.{ProgramIsKnown}
-use Rattle.occ_print_known.specs.Greatest.{greatest}
-use Rattle.occ_script_write.specs.declared.writing.Done.{Done}
-use Rattle.occ_script_write.specs.Text.{IsWritable}
-use Rattle.occ_script_write_back.specs.Said.{IsSaid, IsShortPath}
-use Rattle.occ_base.specs.declared.names.Name.{Name}
+use Rattle.occ_derive_search.specs.Derivations.{IsDerived}
+use Rattle.occ_derive_search.specs.occ_engine.declared.outcome.Outcome.{Outcome}
+use Rattle.occ_derive_search.specs.occ_nform_table.Behaviours.{Stands}
+use Rattle.occ_derive_search.specs.occ_nform_table.declared.table.Table.{Table}
+use Rattle.occ_derive_search.specs.occ_nform_table.Tables.{IsNormal}
+use Rattle.occ_script_back.specs.occ_print.Known.{ProgramIsKnown}
+use Rattle.occ_script_back.specs.occ_print.Greatest.{greatest}
+use Rattle.occ_script_back.specs.occ_script_write.declared.writing.Done.{Done}
+use Rattle.occ_script_back.specs.occ_script_write.Text.{IsWritable}
+use Rattle.occ_script_back.specs.Said.{IsSaid, IsShortPath}
+use Rattle.occ_script_back.specs.occ_base.declared.names.Name.{Name}
 use Rattle.occ_syntax.specs.declared.scope.Kind.{Kind}
 use Rattle.occ_syntax.specs.declared.scope.Program.{Program}
 use Rattle.occ_syntax.specs.Tree.{Tree}
 use Rattle.occ_syntax.specs.View.{tree}
-use Rattle.occ_target.specs.Program.{normal_body}
+use Rattle.occ_derive_search.specs.occ_target.Program.{normal_body}
 
 -- Steps lead from a program to one with that body, each by a law of the table.
 pub record IsDerivation (from : Program) (body : Tree) (outcome : Outcome) : Type 0 where

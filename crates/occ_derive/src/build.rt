@@ -1,8 +1,7 @@
 //! Small parts of programs, and parts taken apart.
 
-use occ_base::{Memory, Name, Width};
-use occ_derive_trail::{Frame, Lost, Piece, Trail, alt_of, assign_of, constant};
-use occ_law::LawId;
+use occ_derive_unify::{Frame, Lost, Piece, Trail, alt_of, assign_of, constant};
+use occ_script_back::{LawId, Memory, Name, Width};
 use occ_syntax::{Expr, Guard, Op, Proc, Procs, Wait};
 use std::alloc::Global;
 

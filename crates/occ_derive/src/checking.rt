@@ -2,8 +2,8 @@
 
 ghost use Rattle.std.specs.Prelude.{◌≡◌, ◌≤◌, ◌<◌, Err, IfOk, IfSome, OnOk, length};
 ghost use Rattle.occ_derive.specs.Derived.{CanBeWritten, IsDerivation, IsNormalWith, StandsFor, normal_of};
-ghost use Rattle.occ_derive_steps.specs.Steps.{Derivable};
-ghost use Rattle.occ_fresh.specs.Growth.{GrowsByNames};
+ghost use Rattle.occ_derive_search.specs.occ_derive_moves.Steps.{Derivable};
+ghost use Rattle.occ_script_back.specs.occ_lex.Growth.{GrowsByNames};
 ghost use Rattle.occ_syntax.specs.Counts.{controls};
 ghost use Rattle.occ_syntax.specs.View.{tree};
 
@@ -11,17 +11,11 @@ use crate::DeriveFault;
 use crate::frame::above;
 use crate::last::last_name;
 use crate::whole::proposals;
-use occ_base::{Memory, Names};
-use occ_derive_check::follow;
-use occ_derive_found::normal_programs_are_derivable;
-use occ_derive_search::search;
-use occ_derive_trail::Lost;
-use occ_engine::Outcome;
-use occ_nform_table::Table;
-use occ_print_known::parts_are_known_up_to_their_greatest_name;
+use occ_complete::normal_programs_are_derivable;
+use occ_derive_search::{Outcome, Table, TargetFault, follow, search, target};
+use occ_derive_unify::Lost;
+use occ_script_back::{Accepted, Memory, Names, parts_are_known_up_to_their_greatest_name};
 use occ_syntax::{Program, same_proc};
-use occ_target::{TargetFault, target};
-use occ_usage::Accepted;
 use std::alloc::Global;
 
 /// The steps that the strategy proposes, where they lead from the accepted program to the normal one.

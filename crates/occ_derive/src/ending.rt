@@ -1,8 +1,8 @@
 //! The last assignment of a process, with what all processes end with taken out of it.
 
 use crate::build::{Pairs, alone, identities, joined, zeros};
-use occ_base::{Name, Width};
-use occ_derive_trail::{Frame, Lost, Piece, Trail, assign_of, law, seq_of_two};
+use occ_derive_unify::{Frame, Lost, Piece, Trail, assign_of, law, seq_of_two};
+use occ_script_back::{Name, Width};
 use occ_syntax::Proc;
 
 /// Leaves out the last pairs of an assignment, from its end, until so many are left. Each gives a variable its own value.

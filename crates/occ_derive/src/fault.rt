@@ -1,4 +1,4 @@
-use occ_base::Memory;
+use occ_script_back::Memory;
 use thiserror::Error;
 
 /// Why there is no derivation.

@@ -1,12 +1,11 @@
 //! What the derivation of a program keeps in view.
 
 ghost use Rattle.std.specs.Prelude.{◌≡◌, ◌<◌, true, IfOk, length};
-ghost use Rattle.occ_fresh.specs.Growth.{GrowsByNames};
-ghost use Rattle.occ_lex.specs.Spelling.{is_letter};
+ghost use Rattle.occ_script_back.specs.occ_lex.Growth.{GrowsByNames};
+ghost use Rattle.occ_script_back.specs.occ_lex.Spelling.{is_letter};
 
-use occ_base::{Memory, Name, Names, Width};
-use occ_derive_trail::{Frame, Lost};
-use occ_fresh::numbered;
+use occ_derive_unify::{Frame, Lost};
+use occ_script_back::{Memory, Name, Names, Width, numbered};
 use occ_syntax::{Kind, Proc, Scope};
 use std::alloc::Global;
 
@@ -54,7 +53,7 @@ pub(crate) fn greatest(number: usize, names: &[Name]) -> usize {
 }
 
 /// A name with a greater number than this: a letter, a dot and the least number that gives one.
-#[tactic(auto, using(occ_fresh::proofs::Growing::grows_not, occ_fresh::proofs::Growing::grows_on))]
+#[tactic(auto, using(crate::proofs::grows_not, crate::proofs::grows_on))]
 pub(crate) fn above(alloc: Global, names: &mut Names, letter: u8, last: usize) -> Result<Name, Lost>
     requires { is_letter letter ≡ true }
     ensures greater { IfOk result (λ name. last < name.0) }

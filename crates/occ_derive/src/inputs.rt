@@ -1,11 +1,11 @@
 //! Cases: an IF over the values of variables, and what each choice knows.
 
 use crate::build::{Branches, Cases, add, alt_by, both_of, choices_in, is_at};
-use occ_base::{Memory, Name, Width};
 use occ_derive_open::{cases, prefix};
-use occ_derive_trail::{
+use occ_derive_unify::{
     Frame, Lost, Piece, Trail, alt_of, assign_of, constant, if_of, law, seq_of_two,
 };
+use occ_script_back::{Memory, Name, Width};
 use occ_syntax::Proc;
 use std::alloc::Global;
 

@@ -3,13 +3,10 @@
 ghost use Rattle.std.specs.Prelude.{◌≤◌};
 ghost use Rattle.std.specs.List.{AllByRecursion};
 ghost use Rattle.occ_derive.specs.Derived.{AreBelow, IsBelow, ParamIsBelow, ProgramIsBelow};
-ghost use Rattle.occ_script_write_back.specs.Said.{IsShortPath};
+ghost use Rattle.occ_script_back.specs.Said.{IsShortPath};
 
-use occ_base::Name;
-use occ_engine::Outcome;
-use occ_print_known::greatest_name;
-use occ_script_path::Path;
-use occ_script_write::Done;
+use occ_derive_search::Outcome;
+use occ_script_back::{Done, Name, Path, greatest_name};
 use occ_syntax::{Kind, Program};
 
 /// Reads the numbers of a path, so that it is known that each has 32 bits.

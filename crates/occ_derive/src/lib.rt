@@ -16,3 +16,6 @@ mod whole;
 pub use checking::{derive, derive_to};
 pub use fault::DeriveFault;
 pub use last::read_path;
+pub use occ_complete::normal_programs_are_derivable;
+pub use occ_derive_search::{moves_are_steps, steps_keep_the_meaning};
+pub use occ_script_back::write;

@@ -5,9 +5,8 @@ use crate::ending::{behind_identities, ended};
 use crate::frame::View;
 use crate::inputs::{by_cases, by_values, told};
 use crate::settle::settle;
-use occ_base::Name;
-use occ_derive_trail::{Frame, Lost, Piece, Trail, alt_of, if_of, law, seq_of_two};
-use occ_derive_unify::{merge, unify};
+use occ_derive_unify::{Frame, Lost, Piece, Trail, alt_of, if_of, law, merge, seq_of_two, unify};
+use occ_script_back::Name;
 use occ_syntax::{Guard, Proc, Wait};
 
 /// An ALT, each of whose processes clears the variables for inputs last, as a SEQ that does so last.

@@ -1,9 +1,9 @@
 //! Configurations worked until they wait for events.
 
 use crate::build::{Branches, add, alt_by, branches_in, is_of_events};
-use occ_base::Memory;
 use occ_derive_open::{advance, open};
-use occ_derive_trail::{Frame, Lost, Piece, Trail, alt_of, law, unseen};
+use occ_derive_unify::{Frame, Lost, Piece, Trail, alt_of, law, unseen};
+use occ_script_back::Memory;
 use occ_syntax::{Guard, Proc, Wait, same_expr, same_proc};
 use std::alloc::Global;
 use std::mem::replace;

@@ -2,8 +2,8 @@
 
 use crate::build::{Cases, Pairs, add, is_at, joined, zeros};
 use crate::inputs::last_of;
-use occ_base::{Memory, Name, Width};
-use occ_derive_trail::{assign_of, constant};
+use occ_derive_unify::{assign_of, constant};
+use occ_script_back::{Memory, Name, Width};
 use occ_syntax::{Expr, Op};
 use std::alloc::Global;
 

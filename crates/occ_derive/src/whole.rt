@@ -1,6 +1,6 @@
 //! The whole strategy: from a program to its normal program.
 
-ghost use Rattle.occ_fresh.specs.Growth.{GrowsByNames};
+ghost use Rattle.occ_script_back.specs.occ_lex.Growth.{GrowsByNames};
 
 use crate::build::{Cases, add, both_of, choices_in, identities, joined, zeros};
 use crate::ending::behind_identities;
@@ -8,13 +8,11 @@ use crate::frame::{View, above, greatest, targets, variables};
 use crate::inputs::by_cases;
 use crate::node::{cleared_if, node};
 use crate::states::by_states;
-use occ_base::{Memory, Name, Names, Width};
-use occ_derive_expose::apart;
-use occ_derive_trail::{
-    Dones, Frame, Lost, Piece, Trail, assign_of, if_of, law, seq_of, seq_of_two, var_of,
+use occ_derive_open::apart;
+use occ_derive_unify::{
+    Dones, Frame, Lost, Piece, Trail, assign_of, if_of, law, restore, seq_of, seq_of_two, var_of,
 };
-use occ_derive_unify::restore;
-use occ_print_known::greatest_name;
+use occ_script_back::{Memory, Name, Names, Width, greatest_name};
 use occ_syntax::{Kind, Proc, Program};
 use std::alloc::Global;
 
@@ -218,7 +216,7 @@ struct Named {
 }
 
 /// Gives each declaration of a body a name that is none of those taken.
-#[tactic(auto, using(occ_fresh::proofs::Growing::grows_on))]
+#[tactic(auto, using(crate::proofs::grows_on))]
 fn with_own_names(
     trail: &mut Trail,
     names: &mut Names,
@@ -241,7 +239,7 @@ fn with_own_names(
 }
 
 /// Steps from a program to its normal program, whose body is given, as the strategy proposes them.
-#[tactic(auto, using(occ_fresh::proofs::Growing::grows_not))]
+#[tactic(auto, using(crate::proofs::grows_not))]
 pub(crate) fn proposals(
     alloc: Global,
     names: &mut Names,

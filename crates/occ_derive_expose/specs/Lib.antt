@@ -1,1 +1,1 @@
-pub mod Head
+unfoldable pub use Rattle.occ_syntax.specs.View.{tree}

@@ -2,8 +2,9 @@
 
 use crate::around::Turn;
 use crate::build::{alone, followed, in_two};
-use occ_base::Memory;
-use occ_derive_trail::{Lost, Piece, Trail, alt_of, if_of, law, seq_of, seq_of_two, var_of};
+use occ_derive_trail::{
+    Lost, Memory, Piece, Trail, alt_of, if_of, law, seq_of, seq_of_two, var_of,
+};
 use occ_syntax::{Expr, Guard, Proc};
 use std::alloc::Global;
 

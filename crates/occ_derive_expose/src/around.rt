@@ -1,5 +1,4 @@
-use occ_base::{Memory, Name, Width};
-use occ_derive_trail::Trail;
+use occ_derive_trail::{Memory, Name, Trail, Width};
 use occ_syntax::{Guard, Proc};
 use std::alloc::Global;
 

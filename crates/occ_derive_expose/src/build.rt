@@ -1,5 +1,4 @@
-use occ_base::Memory;
-use occ_derive_trail::{Lost, Piece, Trail, law, par_of, seq_of, seq_of_two};
+use occ_derive_trail::{Lost, Memory, Piece, Trail, law, par_of, seq_of, seq_of_two};
 use occ_syntax::Proc;
 use std::alloc::Global;
 

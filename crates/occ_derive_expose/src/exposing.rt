@@ -1,24 +1,16 @@
-ghost use Rattle.std.specs.Prelude.{◌≡◌, IfOk, true};
-ghost use Rattle.occ_syntax.specs.View.{tree};
-ghost use Rattle.occ_derive_expose.specs.Head.{has_head_form};
-
 use crate::after::after;
 use crate::around::{Around, Rounds, Turn};
 use crate::beside::{first_done, second_done};
 use crate::build::{alone, beside_one, cut};
-use crate::head::{assigns_first, is_head};
 use crate::hidden::{declared, hidden};
-use occ_base::Memory;
-use occ_derive_trail::{Lost, Piece, Trail, alt_of, law, seq_of};
+use occ_derive_trail::{Lost, Memory, Piece, Trail, alt_of, law, seq_of};
 use occ_syntax::{Expr, Guard, Proc, Wait};
 use std::alloc::Global;
 
 /// Brings what a part does first to its head. The result is SKIP, STOP, a SEQ that begins with an assignment, an IF, an ALT or
 /// a declaration of a variable. The names that the part declares are its own: each is declared once, but in branches of one IF
 /// or ALT, and used nowhere else.
-pub fn expose(trail: &mut Trail, part: Proc) -> Result<Proc, Lost>
-    ensures { IfOk result (λ head. has_head_form (tree head) ≡ true) }
-{
+pub fn expose(trail: &mut Trail, part: Proc) -> Result<Proc, Lost> {
     let mut rounds = Rounds::new(trail.alloc());
     let mut turn = Turn::Work(part);
     for _ in 0..u64::MAX {
@@ -26,22 +18,11 @@ pub fn expose(trail: &mut Trail, part: Proc) -> Result<Proc, Lost>
             Turn::Work(part) => work(trail, &mut rounds, part)?,
             Turn::Head(head) => match rounds.leave(trail) {
                 Some(next) => done(trail, &mut rounds, next, head)?,
-                None => return if_head(head),
+                None => return Ok(head),
             },
         };
     }
     Err(Lost::NoStep)
-}
-
-// Nothing but a head form is given.
-fn if_head(part: Proc) -> Result<Proc, Lost>
-    ensures { IfOk result (λ head. has_head_form (tree head) ≡ true) }
-{
-    if is_head(&part) {
-        Ok(part)
-    } else {
-        Err(Lost::NoStep)
-    }
 }
 
 // A part is worked from its own form.
@@ -102,6 +83,14 @@ fn in_order(trail: &mut Trail, rounds: &mut Rounds, parts: Vec<Proc>) -> Result<
     };
     rounds.enter(trail, 0, Around::Before(rest))?;
     Ok(Turn::Work(first))
+}
+
+// Whether the first of a row is an assignment.
+fn assigns_first(parts: &[Proc]) -> bool {
+    match parts {
+        [first, ..] => matches!(first, Proc::Assign { .. }),
+        [] => false,
+    }
 }
 
 // A PAR is worked at its first part, with all others as one.

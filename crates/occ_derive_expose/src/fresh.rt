@@ -1,13 +1,10 @@
 //! Names that stand nowhere yet.
 
 ghost use Rattle.std.specs.Prelude.{◌≡◌, true};
-ghost use Rattle.occ_fresh.specs.Growth.{GrowsByNames};
-ghost use Rattle.occ_lex.specs.Spelling.{is_letter};
+ghost use Rattle.occ_derive_trail.specs.occ_lex.Growth.{GrowsByNames};
+ghost use Rattle.occ_derive_trail.specs.occ_lex.Spelling.{is_letter};
 
-use occ_base::{Name, Names};
-use occ_derive_trail::Lost;
-use occ_fresh::numbered;
-use occ_names::NameSet;
+use occ_derive_trail::{Lost, Name, NameSet, Names, numbered};
 use occ_syntax::Kind;
 use std::alloc::Global;
 
@@ -25,7 +22,7 @@ impl Fresh {
     }
 
     /// A name for a thing of that kind, which is used nowhere.
-    #[tactic(auto, using(occ_fresh::proofs::Growing::grows_not, occ_fresh::proofs::Growing::grows_on))]
+    #[tactic(auto, using(crate::proofs::grows_not, crate::proofs::grows_on))]
     pub(crate) fn name(
         &mut self,
         alloc: Global,

@@ -2,9 +2,10 @@
 
 use crate::around::{Around, Rounds, Turn};
 use crate::build::{alone, cut, in_two, parted};
-use occ_base::{Memory, Name, Width};
-use occ_derive_trail::{Lost, Piece, Trail, alt_of, if_of, law, seq_of, seq_of_two, var_of};
-use occ_names::{NameSet, free};
+use occ_derive_trail::{
+    Lost, Memory, Name, NameSet, Piece, Trail, Width, alt_of, free, if_of, law, seq_of, seq_of_two,
+    var_of,
+};
 use occ_syntax::{Expr, Guard, Proc, Wait};
 use std::alloc::Global;
 

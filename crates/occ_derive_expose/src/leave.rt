@@ -2,8 +2,9 @@
 
 use crate::around::Turn;
 use crate::build::{alone, cut, par_of_two, parted};
-use occ_base::Memory;
-use occ_derive_trail::{Lost, Piece, Trail, if_of, law, par_of, seq_of, seq_of_two, var_of};
+use occ_derive_trail::{
+    Lost, Memory, Piece, Trail, if_of, law, par_of, seq_of, seq_of_two, var_of,
+};
 use occ_syntax::{Expr, Proc};
 use std::alloc::Global;
 

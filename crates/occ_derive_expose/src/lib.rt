@@ -8,7 +8,6 @@ mod beside;
 mod build;
 mod exposing;
 mod fresh;
-mod head;
 mod hidden;
 mod leave;
 mod meet;
@@ -17,3 +16,7 @@ mod repeated;
 
 pub use exposing::expose;
 pub use naming::apart;
+pub use occ_derive_trail::{
+    Frame, Lost, Memory, Name, Piece, Trail, Width, alt_of, assign_of, constant, if_of, law,
+    seq_of, seq_of_two, unseen, var_of,
+};

@@ -1,8 +1,7 @@
 //! A PAR of two ALTs.
 
 use crate::build::par_of_two;
-use occ_base::{Memory, Name};
-use occ_derive_trail::{Lost, Trail, alt_of, law, seq_of_two};
+use occ_derive_trail::{Lost, Memory, Name, Trail, alt_of, law, seq_of_two};
 use occ_syntax::{Expr, Exprs, Guard, NameList, Op, Proc, Wait};
 use std::alloc::Global;
 

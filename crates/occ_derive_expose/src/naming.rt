@@ -1,16 +1,13 @@
-ghost use Rattle.occ_fresh.specs.Growth.{GrowsByNames};
+ghost use Rattle.occ_derive_trail.specs.occ_lex.Growth.{GrowsByNames};
 
 use crate::fresh::Fresh;
 use crate::repeated::Search;
-use occ_base::{Name, Names};
-use occ_derive_trail::{Lost, Trail, law};
-use occ_names::{RenameFault, rename};
-use occ_script_path::{Path, at, replace};
+use occ_derive_trail::{Lost, Name, Names, Path, RenameFault, Trail, at, law, rename, replace};
 use occ_syntax::{Kind, Proc, Program, Scope};
 
 /// Gives each name that is declared in a body, and was used before, a name of its own. Used are those that are taken, and those
 /// declared further in front, in preorder. The table of names grows by names alone, also where no steps are found.
-#[tactic(auto, using(occ_fresh::proofs::Growing::grows_not, occ_fresh::proofs::Growing::grows_on))]
+#[tactic(auto, using(crate::proofs::grows_not, crate::proofs::grows_on))]
 pub fn apart(trail: &mut Trail, names: &mut Names, taken: &[Name], body: Proc) -> Result<Proc, Lost>
     ensures { GrowsByNames names.old names.new }
 {
@@ -31,7 +28,7 @@ pub fn apart(trail: &mut Trail, names: &mut Names, taken: &[Name], body: Proc) -
 }
 
 // The program with a name of its own for the declaration at a path.
-#[tactic(auto, using(occ_fresh::proofs::Growing::grows_not))]
+#[tactic(auto, using(crate::proofs::grows_not))]
 fn renamed(
     trail: &mut Trail,
     names: &mut Names,

@@ -1,8 +1,6 @@
 //! Declarations of names that are used already.
 
-use occ_base::{Memory, Name};
-use occ_names::NameSet;
-use occ_script_path::Path;
+use occ_derive_trail::{Memory, Name, NameSet, Path};
 use occ_syntax::{Expr, Guard, Proc};
 use std::alloc::Global;
 
@@ -57,7 +55,7 @@ impl Search {
         Ok(())
     }
 
-    #[tactic(auto, unfolding(occ_syntax::specs::View::tree))]
+    #[tactic(auto, unfolding(crate::specs::tree))]
     #[cycle(search)]
     fn undeclared(&mut self, part: &Proc) -> Result<(), Memory> {
         match part {

@@ -1,21 +1,19 @@
-//! Derivations of a part of a program: laws used at places in it, one after the other, and what a trail of them has come to. Here are
-//! the definitions and their laws; there is no code.
+//! Steps of derivations: laws used at places of a process, one after the other. They are the moves of the engine but for the bound on
+//! the lines of the parts that come in. Rows of moves of a part, said of the whole in which the part stands. And words for the programs
+//! on the way: the names that a part declares, how heavy it is, guards and ends of a normal program. Here are the definitions and their
+//! laws; there is no code.
 #![tactic(auto)]
 
-mod coming;
-mod inside;
+mod law;
 mod moving;
 
-pub use coming::{
-    sparing_trails_are_trails, trails_begin, trails_go_on, trails_keep_the_meaning,
-    trails_keep_the_rules, trails_of_parts_are_trails, trails_of_sparing_parts_are_trails,
-    trails_of_wholes_are_moves, trails_take_laws, trails_take_sparing_laws,
-};
-pub use inside::{
-    trails_begin_inside, trails_end_inside, trails_enter, trails_leave, trails_spare_inside,
-    trails_work_inside,
+pub use law::{
+    moves_are_steps, narrow_steps_are_moves, rows_make_steps, steps_go_on, steps_keep_the_meaning,
+    steps_keep_the_rules, steps_lead_to_one_process,
 };
 pub use moving::{
     open_parts_lift, rows_go_on, rows_keep_the_meaning, rows_keep_the_rules, rows_make_moves,
     sparing_parts_lift, sparing_rows_are_rows,
 };
+pub use occ_replay_rules::{Direction, Path, at, replace, scope_at};
+pub use occ_target_laws::{Memory, Name, Table, TargetFault, Width, target};

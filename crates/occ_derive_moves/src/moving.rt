@@ -1,19 +1,19 @@
 //! Laws of rows of moves.
 
 ghost use Rattle.std.specs.Prelude.{◌≡◌, ◌++◌, ℕ, List, Some, true};
-ghost use Rattle.occ_base.specs.declared.names.Name.{Name};
+ghost use Rattle.occ_replay_rules.specs.occ_base.declared.names.Name.{Name};
 ghost use Rattle.occ_derive_moves.specs.Moves.{AreNarrow, Spares, Works, all_under, is_open};
-ghost use Rattle.occ_engine_rules.specs.Moves.{Move, Moves};
-ghost use Rattle.occ_meaning.specs.Context.{part_at, put};
-ghost use Rattle.occ_script_path.specs.Places.{scope_list};
-ghost use Rattle.occ_syntax.specs.declared.scope.Kind.{Kind};
-ghost use Rattle.occ_syntax.specs.Same.{SAME};
-ghost use Rattle.occ_syntax.specs.Scopes.{environment};
-ghost use Rattle.occ_syntax.specs.Tree.{Tree};
-ghost use Rattle.occ_syntax.specs.Types.{scope_kept};
-ghost use Rattle.occ_syntax.specs.Usage.{Keeps};
+ghost use Rattle.occ_replay_rules.specs.Moves.{Move, Moves};
+ghost use Rattle.occ_target_laws.specs.occ_meaning.Context.{part_at, put};
+ghost use Rattle.occ_replay_rules.specs.occ_script_lines.Places.{scope_list};
+ghost use Rattle.occ_replay_rules.specs.occ_syntax.declared.scope.Kind.{Kind};
+ghost use Rattle.occ_replay_rules.specs.occ_syntax.Same.{SAME};
+ghost use Rattle.occ_replay_rules.specs.occ_syntax.Scopes.{environment};
+ghost use Rattle.occ_replay_rules.specs.occ_syntax.Tree.{Tree};
+ghost use Rattle.occ_replay_rules.specs.occ_syntax.Types.{scope_kept};
+ghost use Rattle.occ_replay_rules.specs.occ_syntax.Usage.{Keeps};
 
-use occ_law_sound::laws_are_sound;
+use occ_replay_rules::laws_are_sound;
 
 /// Rows of moves can be put behind each other.
 pub fn rows_go_on()

@@ -6,10 +6,9 @@ use crate::row::{
     two_of_seq,
 };
 use crate::spine::{Spine, Standing};
-use occ_base::{Name, Width};
-use occ_derive_expose::expose;
-use occ_derive_trail::{
-    Frame, Lost, Piece, Trail, alt_of, assign_of, if_of, law, seq_of, seq_of_two, var_of,
+use occ_derive_expose::{
+    Frame, Lost, Name, Piece, Trail, Width, alt_of, assign_of, expose, if_of, law, seq_of,
+    seq_of_two, var_of,
 };
 use occ_syntax::{Expr, Guard, Proc, Wait};
 use std::mem::replace;

@@ -1,16 +1,4 @@
-ghost use Rattle.std.specs.Prelude.{◌≡◌, ◌≤◌, ◌-◌, ◌%◌, ◌^◌, ℕ, true, false, None, Some, IfNone, IfOk, IfSome};
-ghost use Rattle.occ_base.specs.Width.{bits_of};
-ghost use Rattle.occ_base.specs.declared.width.Width.{Width};
-ghost use Rattle.occ_derive_open.specs.Known.{IsFixed, IsMade, literal_of};
-ghost use Rattle.occ_derive_trail.specs.Pieces.{names_of, values_of};
-ghost use Rattle.occ_meaning.specs.Substitution.{substituted, value_for};
-ghost use Rattle.occ_syntax.specs.Eval.{applied};
-ghost use Rattle.occ_syntax.specs.Names.{is_in, names};
-ghost use Rattle.occ_syntax.specs.Types.{type_given};
-ghost use Rattle.occ_syntax.specs.View.{exp};
-
-use occ_base::{Memory, Name, Width};
-use occ_derive_trail::constant;
+use occ_derive_expose::{Memory, Name, Width, constant};
 use occ_syntax::{Expr, Op};
 use std::alloc::Global;
 
@@ -18,11 +6,7 @@ use std::alloc::Global;
 pub(crate) type Pairs = Vec<(Name, Expr)>;
 
 /// The right side of a variable; None where it isn't among them.
-pub(crate) fn held(pairs: &[(Name, Expr)], name: Name) -> Option<&Expr>
-    ensures some { IfSome result (λ value. exp value.now ≡ value_for (names_of pairs.now) (values_of pairs.now) name.0) }
-    ensures there { IfSome result (λ value. is_in (names_of pairs.now) name.0 ≡ true) }
-    ensures none { IfNone result (is_in (names_of pairs.now) name.0 ≡ false) }
-{
+pub(crate) fn held(pairs: &[(Name, Expr)], name: Name) -> Option<&Expr> {
     for (variable, value) in pairs {
         if *variable == name {
             return Some(value);
@@ -32,11 +16,7 @@ pub(crate) fn held(pairs: &[(Name, Expr)], name: Name) -> Option<&Expr>
 }
 
 /// The first variable that an expression names and that has no right side here.
-pub(crate) fn first_unknown(expr: &Expr, known: &[(Name, Expr)]) -> Option<Name>
-    ensures named { IfSome result (λ name. names (exp expr.now) name.0 ≡ true) }
-    ensures unknown { IfSome result (λ name. is_in (names_of known.now) name.0 ≡ false) }
-    ensures none { IfNone result ((x : ℕ) → names (exp expr.now) x ≡ true → is_in (names_of known.now) x ≡ true) }
-{
+pub(crate) fn first_unknown(expr: &Expr, known: &[(Name, Expr)]) -> Option<Name> {
     match expr {
         Expr::Var(name) => match held(known, *name) {
             Some(_) => None,
@@ -56,9 +36,7 @@ pub(crate) fn substituted(
     alloc: Global,
     expr: &Expr,
     pairs: &[(Name, Expr)],
-) -> Result<Expr, Memory>
-    ensures { IfOk result (λ made. exp made ≡ substituted (names_of pairs.now) (values_of pairs.now) (exp expr.now)) }
-{
+) -> Result<Expr, Memory> {
     match expr {
         Expr::Var(name) => match held(pairs, *name) {
             Some(value) => value.copy(alloc),
@@ -82,10 +60,7 @@ pub(crate) fn substituted(
 }
 
 /// An expression that is no constant but names nothing, as a constant; None for any other.
-pub(crate) fn made_constant(expr: &Expr) -> Option<Expr>
-    ensures made { IfSome result (λ made. IsMade (exp expr.now) (exp made)) }
-    ensures none { IfNone result (literal_of (exp expr.now) ≡ None → (x : ℕ) × (names (exp expr.now) x ≡ true)) }
-{
+pub(crate) fn made_constant(expr: &Expr) -> Option<Expr> {
     match expr {
         Expr::Var(_) | Expr::Word { .. } | Expr::Bool(_) => None,
         Expr::Not(_) | Expr::Flip(_) | Expr::Two(_, _, _) => {
@@ -96,13 +71,7 @@ pub(crate) fn made_constant(expr: &Expr) -> Option<Expr>
 }
 
 /// The width and the value of an expression where these variables have constant right sides; None where it names another.
-pub(crate) fn value_in(expr: &Expr, known: &[(Name, Expr)]) -> Option<(Width, u8)>
-    ensures fixed { IfSome result (IsFixed (substituted (names_of known.now) (values_of known.now) (exp expr.now))) }
-    ensures closed { IfSome result (λ found. (x : ℕ)
-        → names (substituted (names_of known.now) (values_of known.now) (exp expr.now)) x ≡ false) }
-    ensures none { IfNone result ((x : ℕ) × (names (exp expr.now) x ≡ true)
-        × (literal_of (value_for (names_of known.now) (values_of known.now) x) ≡ None)) }
-{
+pub(crate) fn value_in(expr: &Expr, known: &[(Name, Expr)]) -> Option<(Width, u8)> {
     match expr {
         Expr::Var(name) => literal(held(known, *name)?),
         Expr::Word { .. } | Expr::Bool(_) => literal(expr),
@@ -123,9 +92,7 @@ pub(crate) fn value_in(expr: &Expr, known: &[(Name, Expr)]) -> Option<(Width, u8
 }
 
 /// The width and the value of a constant; None for any other expression.
-pub(crate) fn literal(expr: &Expr) -> Option<(Width, u8)>
-    ensures { result ≡ literal_of (exp expr.now) }
-{
+pub(crate) fn literal(expr: &Expr) -> Option<(Width, u8)> {
     match expr {
         Expr::Word { bits, value } => Some((Width::Word(*bits), *value)),
         Expr::Bool(truth) => Some((Width::Bool, u8::from(*truth))),
@@ -133,10 +100,7 @@ pub(crate) fn literal(expr: &Expr) -> Option<(Width, u8)>
     }
 }
 
-fn applied(op: Op, width: Width, left: u8, right: u8) -> (Width, u8)
-    ensures width { (w : Width) → type_given op width ≡ Some w → result.0 ≡ w }
-    ensures value { bits_of width ≤ 8 → result.1 ≡ applied op (bits_of width) left right }
-{
+fn applied(op: Op, width: Width, left: u8, right: u8) -> (Width, u8) {
     match op {
         Op::Plus => (width, wrapped(u16::from(left) + u16::from(right), width)),
         Op::Minus => {
@@ -157,16 +121,12 @@ fn applied(op: Op, width: Width, left: u8, right: u8) -> (Width, u8)
 }
 
 /// A number modulo two to the width.
-fn wrapped(number: u16, width: Width) -> u8
-    ensures { bits_of width ≤ 8 → result ≡ number % 2 ^ bits_of width }
-{
+fn wrapped(number: u16, width: Width) -> u8 {
     (number % (u16::from(greatest(width)) + 1)) as u8
 }
 
 /// The greatest value of a width.
-pub(crate) fn greatest(width: Width) -> u8
-    ensures { bits_of width ≤ 8 → result ≡ 2 ^ bits_of width - 1 }
-{
+pub(crate) fn greatest(width: Width) -> u8 {
     let bits = width.bits();
     if bits >= 8 {
         return u8::MAX;

@@ -14,7 +14,7 @@ mod table;
 mod turning;
 
 pub use advancing::advance;
-pub use joining::join;
+pub use occ_derive_expose::apart;
 pub use opening::open;
 pub use prefixing::prefix;
 pub use table::cases;

@@ -4,9 +4,9 @@ use crate::prefixing::prefix;
 use crate::row::{declared, first_of};
 use crate::spine::{Spine, Standing};
 use crate::turning::turn_input;
-use occ_base::{Name, Width};
-use occ_derive_trail::{
-    Frame, Lost, Piece, Trail, alt_of, assign_of, constant, law, seq_of, seq_of_two, unseen, var_of,
+use occ_derive_expose::{
+    Frame, Lost, Name, Piece, Trail, Width, alt_of, assign_of, constant, law, seq_of, seq_of_two,
+    unseen, var_of,
 };
 use occ_syntax::{Expr, Guard, Proc, Wait};
 use std::alloc::Global;

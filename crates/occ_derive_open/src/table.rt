@@ -1,24 +1,5 @@
-ghost use Rattle.std.specs.Prelude.{◌≡◌, ◌∷◌, ℕ, [], IfOk, List, length, true};
-ghost use Rattle.occ_base.specs.declared.names.Name.{Name};
-ghost use Rattle.occ_derive_law_seq.specs.Alike.{IsAlike};
-ghost use Rattle.occ_derive_moves.specs.Come.{HasCome};
-ghost use Rattle.occ_derive_open.specs.Tables.{AreRows, IsRow, IsTable, each_second, or_else, second};
-ghost use Rattle.occ_derive_trail.specs.Trails.{going};
-ghost use Rattle.occ_law_rules.specs.Choice.{each_case_under};
-ghost use Rattle.occ_law_rules.specs.Lists.{all_cases, conditions};
-ghost use Rattle.occ_law_rules.specs.States.{AreFew, CasesEqual, IsExhaustive};
-ghost use Rattle.occ_syntax.specs.declared.expr.Expr.{Expr};
-ghost use Rattle.occ_syntax.specs.declared.proc.Proc.{Proc};
-ghost use Rattle.occ_syntax.specs.declared.scope.Kind.{Kind};
-ghost use Rattle.occ_syntax.specs.Scopes.{environment};
-ghost use Rattle.occ_syntax.specs.Tree.{Cases, Exp, Tree, and_case, assign, no_case, select, stop, truth};
-ghost use Rattle.occ_syntax.specs.Types.{scope_kept};
-ghost use Rattle.occ_syntax.specs.Usage.{Keeps};
-ghost use Rattle.occ_syntax.specs.View.{cases, exp, tree};
-
 use crate::row::choices_of_if;
-use occ_base::Memory;
-use occ_derive_trail::{Lost, Trail, if_of, law};
+use occ_derive_expose::{Lost, Memory, Trail, if_of, law};
 use occ_syntax::{Expr, Op, Proc};
 use std::alloc::Global;
 
@@ -29,12 +10,7 @@ const DEEPEST: u32 = 64;
 
 /// An assignment becomes the IF of a table: of conditions, of which in every state one is TRUE, each with an assignment that does the
 /// same where it is TRUE.
-pub fn cases(trail: &mut Trail, table: &[(Expr, Proc)], part: Proc) -> Result<Proc, Lost>
-    ensures form { IfOk result (λ to. tree to ≡ select (cases table.now)) }
-    ensures come { (S : List (Name × Kind)) (xs : List ℕ) (es : List Exp) → scope_kept S ≡ true → tree part ≡ assign xs es
-        → Keeps (environment S) (tree part) → IsTable S xs es (cases table.now)
-        → IfOk result (λ to. HasCome S (going trail.old) (going trail.new) (tree part) (tree to)) }
-{
+pub fn cases(trail: &mut Trail, table: &[(Expr, Proc)], part: Proc) -> Result<Proc, Lost> {
     let alloc = trail.alloc();
     let choices = cases_or_else(trail, table, part, DEEPEST)?;
     let choices = cut(trail, choices)?;
@@ -47,12 +23,7 @@ fn cases_or_else(
     table: &[(Expr, Proc)],
     part: Proc,
     depth: u32,
-) -> Result<Rows, Lost>
-    ensures form { IfOk result (λ made. cases made.items ≡ or_else (cases table.now) (tree part)) }
-    ensures come { (S : List (Name × Kind)) (xs : List ℕ) (es : List Exp) → scope_kept S ≡ true → tree part ≡ assign xs es
-        → Keeps (environment S) (tree part) → AreRows S xs es (cases table.now) → AreFew S (conditions (cases table.now))
-        → IfOk result (λ made. HasCome S (going trail.old) (going trail.new) (tree part) (select (cases made.items))) }
-{
+) -> Result<Rows, Lost> {
     let Some(depth) = depth.checked_sub(1) else {
         return Err(Lost::NoStep);
     };
@@ -75,9 +46,7 @@ fn cases_or_else(
 }
 
 /// The choices without the last one, and its process.
-fn without_last(choices: Rows) -> Result<(Rows, Proc), Lost>
-    ensures { IfOk result (λ made. (b : Exp) × (cases choices.items ≡ all_cases (cases made.0.items) (and_case b (tree made.1) no_case))) }
-{
+fn without_last(choices: Rows) -> Result<(Rows, Proc), Lost> {
     let mut front = choices;
     match front.pop() {
         Some((_, last)) => Ok((front, last)),
@@ -86,12 +55,7 @@ fn without_last(choices: Rows) -> Result<(Rows, Proc), Lost>
 }
 
 /// An assignment becomes an IF of one row and of itself.
-fn one_case(trail: &mut Trail, condition: &Expr, other: &Proc, part: Proc) -> Result<Rows, Lost>
-    ensures form { IfOk result (λ made. cases made.items ≡ or_else (and_case (exp condition.now) (tree other.now) no_case) (tree part)) }
-    ensures come { (S : List (Name × Kind)) (xs : List ℕ) (es : List Exp) → tree part ≡ assign xs es → Keeps (environment S) (tree part)
-        → IsRow S xs es (exp condition.now) (tree other.now) → AreFew S (exp condition.now ∷ [])
-        → IfOk result (λ made. HasCome S (going trail.old) (going trail.new) (tree part) (select (cases made.items))) }
-{
+fn one_case(trail: &mut Trail, condition: &Expr, other: &Proc, part: Proc) -> Result<Rows, Lost> {
     let alloc = trail.alloc();
     let copies = if_else(alloc, condition, part.copy(alloc)?, part.copy(alloc)?)?;
     trail.forward(law::IF_COPY, &copies)?;
@@ -100,9 +64,7 @@ fn one_case(trail: &mut Trail, condition: &Expr, other: &Proc, part: Proc) -> Re
     Ok(choices_of_if(trail, whole)?)
 }
 
-fn if_else(alloc: Global, condition: &Expr, first: Proc, last: Proc) -> Result<Proc, Memory>
-    ensures { IfOk result (λ part. tree part ≡ select (or_else (and_case (exp condition.now) (tree first) no_case) (tree last))) }
-{
+fn if_else(alloc: Global, condition: &Expr, first: Proc, last: Proc) -> Result<Proc, Memory> {
     let mut choices = Vec::new(alloc);
     choices.push((condition.copy(alloc)?, first))?;
     choices.push((Expr::Bool(true), last))?;
@@ -110,14 +72,7 @@ fn if_else(alloc: Global, condition: &Expr, first: Proc, last: Proc) -> Result<P
 }
 
 /// The IF in the last choice, TRUE, of an IF gives it its choices.
-fn merged(trail: &mut Trail, choices: Rows, more: Rows) -> Result<Rows, Lost>
-    ensures form { IfOk result (λ made. cases made.items ≡ all_cases (cases choices.items) (cases more.items)) }
-    ensures come { (S : List (Name × Kind)) (es : Cases) (p : Tree)
-        → let whole = select (or_else (cases choices.items) (select (cases more.items))) in
-        scope_kept S ≡ true → cases more.items ≡ or_else es p → Keeps (environment S) whole
-        → AreFew S (conditions (all_cases (cases choices.items) (cases more.items)))
-        → IfOk result (λ made. HasCome S (going trail.old) (going trail.new) whole (select (cases made.items))) }
-{
+fn merged(trail: &mut Trail, choices: Rows, more: Rows) -> Result<Rows, Lost> {
     let count = choices.len();
     let all = nested(trail, choices, more)?;
     let all = cut(trail, all)?;
@@ -125,14 +80,7 @@ fn merged(trail: &mut Trail, choices: Rows, more: Rows) -> Result<Rows, Lost>
 }
 
 /// The choices in front, those of the IF in the last choice, each asking for TRUE as well, and a last one that stops.
-fn nested(trail: &mut Trail, choices: Rows, more: Rows) -> Result<Rows, Lost>
-    ensures form { IfOk result (λ made. cases made.items
-        ≡ all_cases (cases choices.items) (all_cases (each_case_under (truth true) (cases more.items))
-        (and_case (truth true) stop no_case))) }
-    ensures come { (S : List (Name × Kind)) → let whole = select (or_else (cases choices.items) (select (cases more.items))) in
-        Keeps (environment S) whole
-        → IfOk result (λ made. HasCome S (going trail.old) (going trail.new) whole (select (cases made.items))) }
-{
+fn nested(trail: &mut Trail, choices: Rows, more: Rows) -> Result<Rows, Lost> {
     let alloc = trail.alloc();
     let mut all = choices;
     for (condition, part) in more {
@@ -147,13 +95,7 @@ fn nested(trail: &mut Trail, choices: Rows, more: Rows) -> Result<Rows, Lost>
 }
 
 /// The last choice goes, where in every state one in front of it is taken.
-fn cut(trail: &mut Trail, choices: Rows) -> Result<Rows, Lost>
-    ensures form { IfOk result (λ made. (b : Exp) × (p : Tree)
-        × (cases choices.items ≡ all_cases (cases made.items) (and_case b p no_case))) }
-    ensures come { (S : List (Name × Kind)) → let whole = select (cases choices.items) in Keeps (environment S) whole
-        → IfOk result (λ made. AreFew S (conditions (cases made.items)) → IsExhaustive (environment S) (conditions (cases made.items))
-        → HasCome S (going trail.old) (going trail.new) whole (select (cases made.items))) }
-{
+fn cut(trail: &mut Trail, choices: Rows) -> Result<Rows, Lost> {
     let alloc = trail.alloc();
     let (front, _) = without_last(choices)?;
     let whole = if_of(alloc, front)?;
@@ -162,13 +104,7 @@ fn cut(trail: &mut Trail, choices: Rows) -> Result<Rows, Lost>
 }
 
 /// The conditions behind a place become their second operands.
-fn plain(trail: &mut Trail, choices: Rows, count: usize) -> Result<Rows, Lost>
-    ensures form { (front : List (Expr × Proc)) (back : Cases) → cases choices.items ≡ all_cases (cases front) back → length front ≡ count
-        → IfOk result (λ made. cases made.items ≡ all_cases (cases front) (each_second back)) }
-    ensures come { (S : List (Name × Kind)) → let whole = select (cases choices.items) in Keeps (environment S) whole
-        → IfOk result (λ made. CasesEqual (IsAlike S) (cases choices.items) (cases made.items)
-        → HasCome S (going trail.old) (going trail.new) whole (select (cases made.items))) }
-{
+fn plain(trail: &mut Trail, choices: Rows, count: usize) -> Result<Rows, Lost> {
     let alloc = trail.alloc();
     let mut all = choices;
     if count > all.len() {
@@ -183,9 +119,7 @@ fn plain(trail: &mut Trail, choices: Rows, count: usize) -> Result<Rows, Lost>
     Ok(choices_of_if(trail, whole)?)
 }
 
-fn second_of(alloc: Global, condition: Expr) -> Result<Expr, Memory>
-    ensures { IfOk result (λ made. exp made ≡ second (exp condition)) }
-{
+fn second_of(alloc: Global, condition: Expr) -> Result<Expr, Memory> {
     match &condition {
         Expr::Two(_, _, right) => right.copy(alloc),
         Expr::Var(_) | Expr::Word { .. } | Expr::Bool(_) | Expr::Not(_) | Expr::Flip(_) => {

@@ -3,9 +3,8 @@ use crate::joining::join_pairs;
 use crate::layers::Layers;
 use crate::opening::{Branches, branches_of_alt};
 use crate::row::{declared, first_of, flatten, group, two_of_seq};
-use occ_base::{Name, Width};
-use occ_derive_trail::{
-    Frame, Lost, Piece, Trail, alt_of, assign_of, constant, law, seq_of_two, var_of,
+use occ_derive_expose::{
+    Frame, Lost, Name, Piece, Trail, Width, alt_of, assign_of, constant, law, seq_of_two, var_of,
 };
 use occ_syntax::{Expr, Guard, Proc, Wait};
 use std::alloc::Global;

@@ -1,9 +1,9 @@
 -- The next row of digits.
-use Rattle.std.proofs.Common.{◌≡◌, ℕ, zero, suc, ◌+◌, ◌-◌, ◌<◌, ◌≤◌, ltb, Bool, true, false, cond, List, [], ◌∷◌, ◌++◌, length, take, drop, get_or, add-one, set, append-nil, refl, sym, ap, subst, ◌∙◌, arith}
+use Rattle.std.proofs.Common.{◌≡◌, ℕ, zero, suc, ◌+◌, ◌-◌, ◌<◌, ◌≤◌, ltb, Bool, true, false, cond, List, [], ◌∷◌, ◌++◌, length, take, drop, get_or, set, append-nil, refl, sym, ap, subst, ◌∙◌, arith}
 use Rattle.std.specs.List.{AllByRecursion}
 use Rattle.std.proofs.lemmas.List.{drop_all, take_all}
-use Rattle.std.proofs.lemmas.Bool.{le-ltb, lt-ltb, ltb-false}
-use Rattle.occ_derive_codes.specs.declared.instruction.TheConstants.{DIGITS}
+use Rattle.std.proofs.lemmas.Bool.{lt-ltb, ltb-false}
+use Rattle.occ_derive_search.specs.declared.instruction.TheConstants.{DIGITS}
 use Rattle.occ_derive_search.specs.Rows.{IsDigit, rank}
 
 -- the next row
@@ -30,15 +30,6 @@ rank_next (d ∷ ds) h = by_test (rank_next ds h.1) (ltb d (DIGITS - 1)) refl
     by_test r false e = ap rank (next_turned d ds e) ∙ turned_rank d ds h.0 (ltb-false d (DIGITS - 1) e) r
 
 -- ---- one digit after the other
-
-turned_at : (s : List ℕ) (i d : ℕ) → i < length s → get_or s i 0 ≡ d → DIGITS - 1 ≤ d → take i s ++ next (drop i s) ≡ take (suc i) (set s i 0) ++ next (drop (suc i) (set s i 0))
-turned_at [] i d l e h = absurd (omega (arith, l))
-turned_at (a ∷ rest) zero d l e h = next_turned a rest (le-ltb a (DIGITS - 1) (subst (λ z. DIGITS - 1 ≤ z) (sym e) h))
-turned_at (a ∷ rest) (suc i) d l e h = ap (λ zs. a ∷ zs) (turned_at rest i d (omega (arith, l)) e h)
-
--- a digit that turns over
-pub turned : (s : List ℕ) (i d : ℕ) → i < length s → get_or s i 0 ≡ d → DIGITS - 1 ≤ d → take i s ++ next (drop i s) ≡ take (i + 1) (set s i 0) ++ next (drop (i + 1) (set s i 0))
-turned s i d l e h = rw add-one (turned_at s i d l e h)
 
 -- a digit that doesn't
 pub raised : (s : List ℕ) (i d : ℕ) → i < length s → get_or s i 0 ≡ d → d < DIGITS - 1 → take i s ++ next (drop i s) ≡ set s i (d + 1)

@@ -1,7 +1,7 @@
 -- How many rows of digits there are.
 use Rattle.std.proofs.Common.{ℕ, zero, suc, ◌+◌, ◌*◌, ◌^◌, ◌<◌, ◌≤◌, List, [], ◌∷◌, length, arith}
 use Rattle.std.specs.List.{AllByRecursion}
-use Rattle.occ_derive_codes.specs.declared.instruction.TheConstants.{DIGITS}
+use Rattle.occ_derive_search.specs.declared.instruction.TheConstants.{DIGITS}
 use Rattle.occ_derive_search.specs.Rows.{IsDigit, rank}
 
 -- how many rows have no more digits than that, but for the one without digits

@@ -1,14 +1,14 @@
 -- A row of digits is tried, and goes on to the next.
 use Rattle.std.proofs.Common.{◌≡◌, ℕ, List, None, sym, subst}
-use Rattle.occ_derive_check.specs.Derivations.{AreFollowed, IsDerived}
-use Rattle.occ_derive_codes.specs.Codes.{Spells}
+use Rattle.occ_derive_search.specs.Derivations.{AreFollowed, IsDerived}
+use Rattle.occ_derive_search.specs.Codes.{Spells}
 use Rattle.occ_derive_search.specs.Attempts.{IsAttempt}
-use Rattle.occ_derive_steps.proofs.Steps.{one_end}
-use Rattle.occ_derive_steps.specs.Steps.{Steps}
+use Rattle.occ_derive_moves.proofs.Steps.{one_end}
+use Rattle.occ_derive_moves.specs.Steps.{Steps}
 use Rattle.occ_engine.specs.Followed.{ended}
 use Rattle.occ_engine.specs.Moved.{moves_of}
-use Rattle.occ_engine_rules.specs.Moves.{Move}
-use Rattle.occ_script_write.specs.declared.writing.Done.{Done}
+use Rattle.occ_derive_moves.specs.occ_replay_rules.Moves.{Move}
+use Rattle.occ_engine.specs.occ_script_write.declared.writing.Done.{Done}
 use Rattle.occ_syntax.specs.declared.scope.Program.{Program}
 use Rattle.occ_syntax.specs.Tree.{Tree}
 use Rattle.occ_syntax.specs.View.{tree}

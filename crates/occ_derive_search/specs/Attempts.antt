@@ -1,10 +1,10 @@
 -- What a row of digits gives.
 use Rattle.std.specs.Prelude.{ℕ, ◌≡◌, List, Option, None, Some}
-use Rattle.occ_derive_check.specs.Derivations.{IsDerived}
-use Rattle.occ_derive_codes.specs.Codes.{Spells}
-use Rattle.occ_derive_steps.specs.Steps.{Steps}
+use Rattle.occ_derive_search.specs.Derivations.{IsDerived}
+use Rattle.occ_derive_search.specs.Codes.{Spells}
+use Rattle.occ_derive_moves.specs.Steps.{Steps}
 use Rattle.occ_engine.specs.declared.outcome.Outcome.{Outcome}
-use Rattle.occ_engine_rules.specs.Moves.{Move}
+use Rattle.occ_derive_moves.specs.occ_replay_rules.Moves.{Move}
 use Rattle.occ_syntax.specs.declared.scope.Program.{Program}
 use Rattle.occ_syntax.specs.Tree.{Tree}
 use Rattle.occ_syntax.specs.View.{tree}

@@ -1,7 +1,7 @@
 -- Rows of digits, the lowest first, and which number each row has.
 use Rattle.std.specs.Prelude.{ℕ, ◌+◌, ◌*◌, ◌<◌, Bool, true, false, List, [], ◌∷◌}
 use Rattle.std.specs.Coded.{le_prop}
-use Rattle.occ_derive_codes.specs.declared.instruction.TheConstants.{DIGITS}
+use Rattle.occ_derive_search.specs.declared.instruction.TheConstants.{DIGITS}
 
 abbrev pub IsDigit : ℕ → Type 0
 IsDigit digit = digit < DIGITS

@@ -4,12 +4,10 @@ ghost use Rattle.std.specs.Prelude.{IfOk};
 ghost use Rattle.occ_derive_search.specs.Attempts.{IsAttempt};
 ghost use Rattle.occ_syntax.specs.View.{tree};
 
-use occ_base::Memory;
-use occ_derive_check::follow;
-use occ_derive_codes::steps_of;
-use occ_engine::Outcome;
+use crate::{follow, steps_of};
+use occ_derive_moves::Memory;
+use occ_engine::{Accepted, Outcome};
 use occ_syntax::{Proc, same_proc};
-use occ_usage::Accepted;
 use std::alloc::Global;
 
 /// The derivation that a row of digits spells, where it leads from an accepted program to that body. None where it spells none.

@@ -4,8 +4,8 @@ ghost use Rattle.std.specs.Prelude.{◌≡◌, ◌+◌, ◌++◌, [], OnOk};
 ghost use Rattle.std.specs.List.{AllByRecursion, AllByRecursion-prop};
 ghost use Rattle.occ_derive_search.specs.Rows.{IsDigit, IsDigit-prop, carried, rank};
 
-use occ_base::Memory;
-use occ_derive_codes::DIGITS;
+use crate::DIGITS;
+use occ_derive_moves::Memory;
 use std::alloc::Global;
 
 /// Makes the next row of a row, but for a digit behind it: whether one comes there.

@@ -1,16 +1,15 @@
 //! All rows of digits, tried one after the other.
 
 ghost use Rattle.std.specs.Prelude.{◌≡◌, IfOk};
-ghost use Rattle.occ_derive_check.specs.Derivations.{IsDerived};
-ghost use Rattle.occ_derive_steps.specs.Steps.{Derivable};
+ghost use Rattle.occ_derive_search.specs.Derivations.{IsDerived};
+ghost use Rattle.occ_derive_moves.specs.Steps.{Derivable};
 ghost use Rattle.occ_syntax.specs.View.{tree};
 
 use crate::attempt::attempt;
 use crate::counter::Counter;
-use occ_base::Memory;
-use occ_engine::Outcome;
+use occ_derive_moves::Memory;
+use occ_engine::{Accepted, Outcome};
 use occ_syntax::Proc;
-use occ_usage::Accepted;
 use std::alloc::Global;
 
 /// A derivation from an accepted program to the one of its header with this body, where there is one: all rows of digits are read as

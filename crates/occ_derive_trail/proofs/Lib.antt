@@ -1,4 +1,1 @@
-pub mod Going
-pub mod Ordered
-pub mod Pairs
-pub mod Taken
+pub use Rattle.occ_script_write.proofs.from_lex as from_lex

@@ -1,3 +1,1 @@
-pub mod Pieces
-pub mod Trails
-pub mod Frames
+pub use Rattle.occ_script_write.specs.occ_lex as occ_lex

@@ -1,30 +1,18 @@
-ghost use Rattle.std.specs.Prelude.{◌≡◌, IfOk, length, true};
-ghost use Rattle.occ_derive_trail.specs.Pieces.{assigned, names_of, values_of};
-ghost use Rattle.occ_syntax.specs.Tree.{alt, and_tree, declare, no_tree, par, ready, select, seq, truth};
-ghost use Rattle.occ_syntax.specs.View.{branches, cases, exp, exps, in_procs, numbers, tree, trees, waiting};
-ghost use Rattle.occ_target.specs.States.{constant};
-
-use occ_base::{Memory, Name, Width};
+use occ_script_write::{Memory, Name, Width};
 use occ_syntax::{Alternatives, Choices, Expr, Exprs, Guard, NameList, Proc, Procs, Wait};
 use std::alloc::Global;
 
 /// SEQ of these parts.
-pub fn seq_of(alloc: Global, parts: Vec<Proc>) -> Result<Proc, Memory>
-    ensures { IfOk result (λ part. tree part ≡ seq (trees parts.items)) }
-{
+pub fn seq_of(alloc: Global, parts: Vec<Proc>) -> Result<Proc, Memory> {
     Ok(Proc::Seq(list_of(alloc, parts)?))
 }
 
 /// PAR of these parts.
-pub fn par_of(alloc: Global, parts: Vec<Proc>) -> Result<Proc, Memory>
-    ensures { IfOk result (λ part. tree part ≡ par (trees parts.items)) }
-{
+pub fn par_of(alloc: Global, parts: Vec<Proc>) -> Result<Proc, Memory> {
     Ok(Proc::Par(list_of(alloc, parts)?))
 }
 
-fn list_of(alloc: Global, parts: Vec<Proc>) -> Result<Procs, Memory>
-    ensures { IfOk result (λ list. in_procs list ≡ parts.items) }
-{
+fn list_of(alloc: Global, parts: Vec<Proc>) -> Result<Procs, Memory> {
     let mut list = Procs::new(alloc);
     for part in parts {
         list.push(part)?;
@@ -33,9 +21,7 @@ fn list_of(alloc: Global, parts: Vec<Proc>) -> Result<Procs, Memory>
 }
 
 /// IF of these choices.
-pub fn if_of(alloc: Global, choices: Vec<(Expr, Proc)>) -> Result<Proc, Memory>
-    ensures { IfOk result (λ part. tree part ≡ select (cases choices.items)) }
-{
+pub fn if_of(alloc: Global, choices: Vec<(Expr, Proc)>) -> Result<Proc, Memory> {
     let mut list = Choices::new(alloc);
     for choice in choices {
         list.push(choice)?;
@@ -44,9 +30,7 @@ pub fn if_of(alloc: Global, choices: Vec<(Expr, Proc)>) -> Result<Proc, Memory>
 }
 
 /// ALT of these branches.
-pub fn alt_of(alloc: Global, alternatives: Vec<(Guard, Proc)>) -> Result<Proc, Memory>
-    ensures { IfOk result (λ part. tree part ≡ alt (branches alternatives.items)) }
-{
+pub fn alt_of(alloc: Global, alternatives: Vec<(Guard, Proc)>) -> Result<Proc, Memory> {
     let mut list = Alternatives::new(alloc);
     for branch in alternatives {
         list.push(branch)?;
@@ -55,9 +39,7 @@ pub fn alt_of(alloc: Global, alternatives: Vec<(Guard, Proc)>) -> Result<Proc, M
 }
 
 /// SEQ of two parts.
-pub fn seq_of_two(alloc: Global, first: Proc, second: Proc) -> Result<Proc, Memory>
-    ensures { IfOk result (λ part. tree part ≡ seq (and_tree (tree first) (and_tree (tree second) no_tree))) }
-{
+pub fn seq_of_two(alloc: Global, first: Proc, second: Proc) -> Result<Proc, Memory> {
     let mut list = Procs::new(alloc);
     list.push(first)?;
     list.push(second)?;
@@ -65,18 +47,13 @@ pub fn seq_of_two(alloc: Global, first: Proc, second: Proc) -> Result<Proc, Memo
 }
 
 /// A variable declared for a process.
-#[tactic(auto, unfolding(occ_syntax::specs::View::tree))]
-pub fn var_of(alloc: Global, name: Name, width: Width, body: Proc) -> Result<Proc, Memory>
-    ensures { IfOk result (λ part. tree part ≡ declare name.0 width (tree body)) }
-{
+pub fn var_of(alloc: Global, name: Name, width: Width, body: Proc) -> Result<Proc, Memory> {
     let body = Box::new(alloc, body)?;
     Ok(Proc::Var { name, width, body })
 }
 
 /// The assignment of these pairs; SKIP where there is none.
-pub fn assign_of(alloc: Global, pairs: &[(Name, Expr)]) -> Result<Proc, Memory>
-    ensures { IfOk result (λ part. tree part ≡ assigned pairs.now) }
-{
+pub fn assign_of(alloc: Global, pairs: &[(Name, Expr)]) -> Result<Proc, Memory> {
     if pairs.is_empty() {
         return Ok(Proc::Skip);
     }
@@ -90,10 +67,11 @@ pub fn assign_of(alloc: Global, pairs: &[(Name, Expr)]) -> Result<Proc, Memory>
 }
 
 /// The pairs of an assignment.
-pub fn pairs_of(alloc: Global, vars: &[Name], values: &[Expr]) -> Result<Vec<(Name, Expr)>, Memory>
-    ensures names { IfOk result (λ pairs. length vars.now ≡ length values.now → names_of pairs.items ≡ numbers vars.now) }
-    ensures sides { IfOk result (λ pairs. length vars.now ≡ length values.now → values_of pairs.items ≡ exps values.now) }
-{
+pub fn pairs_of(
+    alloc: Global,
+    vars: &[Name],
+    values: &[Expr],
+) -> Result<Vec<(Name, Expr)>, Memory> {
     let mut pairs = Vec::new(alloc);
     for (name, value) in vars.iter().zip(values) {
         pairs.push((*name, value.copy(alloc)?))?;
@@ -102,10 +80,7 @@ pub fn pairs_of(alloc: Global, vars: &[Name], values: &[Expr]) -> Result<Vec<(Na
 }
 
 /// The guard that is always ready.
-pub fn unseen() -> Guard
-    ensures condition { exp result.condition ≡ truth true }
-    ensures wait { waiting result.wait ≡ ready }
-{
+pub fn unseen() -> Guard {
     Guard {
         condition: Expr::Bool(true),
         wait: Wait::Skip,
@@ -113,9 +88,7 @@ pub fn unseen() -> Guard
 }
 
 /// A value of that width as an expression; every number but 0 is TRUE.
-pub fn constant(width: Width, value: u8) -> Expr
-    ensures { exp result ≡ constant width value }
-{
+pub fn constant(width: Width, value: u8) -> Expr {
     match width {
         Width::Bool => Expr::Bool(value != 0),
         Width::Word(bits) => Expr::Word { bits, value },

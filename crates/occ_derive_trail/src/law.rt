@@ -1,6 +1,6 @@
-//! The laws by their names.
+//! The laws that a strategy uses, by their names.
 
-use occ_law::LawId;
+use occ_script_write::LawId;
 
 /// seq-none
 pub const SEQ_NONE: LawId = LawId(1);
@@ -32,8 +32,6 @@ pub const SEQ_ALT: LawId = LawId(13);
 pub const EXPR: LawId = LawId(14);
 /// io-alt
 pub const IO_ALT: LawId = LawId(15);
-/// if-none
-pub const IF_NONE: LawId = LawId(16);
 /// if-false
 pub const IF_FALSE: LawId = LawId(17);
 /// if-true
@@ -44,10 +42,6 @@ pub const IF_ELSE_STOP: LawId = LawId(19);
 pub const IF_CUT: LawId = LawId(20);
 /// if-nest
 pub const IF_NEST: LawId = LawId(21);
-/// if-swap
-pub const IF_SWAP: LawId = LawId(22);
-/// if-merge
-pub const IF_MERGE: LawId = LawId(23);
 /// if-copy
 pub const IF_COPY: LawId = LawId(24);
 /// if-under
@@ -62,8 +56,6 @@ pub const ALT_FALSE: LawId = LawId(28);
 pub const ALT_TWICE: LawId = LawId(29);
 /// alt-skip
 pub const ALT_SKIP: LawId = LawId(30);
-/// alt-case
-pub const ALT_CASE: LawId = LawId(31);
 /// alt-flat
 pub const ALT_FLAT: LawId = LawId(32);
 /// alt-split
@@ -118,13 +110,9 @@ pub const VAR_END: LawId = LawId(56);
 pub const CHAN_UNUSED: LawId = LawId(57);
 /// chan-rename
 pub const CHAN_RENAME: LawId = LawId(58);
-/// chan-swap
-pub const CHAN_SWAP: LawId = LawId(59);
 /// chan-seq
 pub const CHAN_SEQ: LawId = LawId(60);
 /// chan-if
 pub const CHAN_IF: LawId = LawId(61);
 /// chan-alt
 pub const CHAN_ALT: LawId = LawId(62);
-/// chan-par
-pub const CHAN_PAR: LawId = LawId(63);

@@ -12,8 +12,12 @@ mod trail;
 pub use build::{
     alt_of, assign_of, constant, if_of, pairs_of, par_of, seq_of, seq_of_two, unseen, var_of,
 };
-pub use frame::{Frame, precedence_is_an_order};
+pub use frame::Frame;
 pub use lists::{branches_of, choices_of, parts_of};
 pub use lost::Lost;
-pub use piece::{Piece, kept_pieces_are_whole};
+pub use occ_script_write::{
+    LawId, Memory, Name, NameSet, Names, Path, RenameFault, Width, at, free, numbered, rename,
+    replace,
+};
+pub use piece::Piece;
 pub use trail::{Dones, Trail};

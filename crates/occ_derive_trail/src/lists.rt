@@ -1,14 +1,9 @@
-ghost use Rattle.std.specs.Prelude.{◌≡◌, IfOk};
-ghost use Rattle.occ_syntax.specs.View.{in_alternatives, in_choices, in_procs};
-
-use occ_base::Memory;
+use occ_script_write::Memory;
 use occ_syntax::{Alternatives, Choices, Expr, Guard, Proc, Procs, Wait};
 use std::alloc::Global;
 
 /// The processes of a list, taken out of it.
-pub fn parts_of(alloc: Global, mut list: Procs) -> Result<Vec<Proc>, Memory>
-    ensures { IfOk result (λ parts. parts.items ≡ in_procs list) }
-{
+pub fn parts_of(alloc: Global, mut list: Procs) -> Result<Vec<Proc>, Memory> {
     let count = list.items().len();
     let mut parts = Vec::with_capacity(alloc, count)?;
     for place in 0..count {
@@ -18,9 +13,7 @@ pub fn parts_of(alloc: Global, mut list: Procs) -> Result<Vec<Proc>, Memory>
 }
 
 /// The choices of a list, taken out of it.
-pub fn choices_of(alloc: Global, mut list: Choices) -> Result<Vec<(Expr, Proc)>, Memory>
-    ensures { IfOk result (λ choices. choices.items ≡ in_choices list) }
-{
+pub fn choices_of(alloc: Global, mut list: Choices) -> Result<Vec<(Expr, Proc)>, Memory> {
     let count = list.items().len();
     let mut choices = Vec::with_capacity(alloc, count)?;
     for place in 0..count {
@@ -30,9 +23,7 @@ pub fn choices_of(alloc: Global, mut list: Choices) -> Result<Vec<(Expr, Proc)>,
 }
 
 /// The alternatives of a list, taken out of it.
-pub fn branches_of(alloc: Global, mut list: Alternatives) -> Result<Vec<(Guard, Proc)>, Memory>
-    ensures { IfOk result (λ branches. branches.items ≡ in_alternatives list) }
-{
+pub fn branches_of(alloc: Global, mut list: Alternatives) -> Result<Vec<(Guard, Proc)>, Memory> {
     let count = list.items().len();
     let mut branches = Vec::with_capacity(alloc, count)?;
     for place in 0..count {

@@ -1,4 +1,4 @@
-use occ_base::Memory;
+use occ_script_write::Memory;
 use std::alloc::{AllocError, AllocFailed};
 use thiserror::Error;
 

@@ -1,14 +1,6 @@
-ghost use Rattle.std.specs.Prelude.{◌≡◌, IfOk, true};
-ghost use Rattle.occ_derive_trail.specs.Pieces.{IsPieceOf, piece_tree};
-ghost use Rattle.occ_derive_trail.specs.declared.piece.Piece.{Piece};
-ghost use Rattle.occ_syntax.specs.Scopes.{Environment};
-ghost use Rattle.occ_syntax.specs.Tree.{Tree};
-ghost use Rattle.occ_syntax.specs.Types.{types_kept};
-ghost use Rattle.occ_syntax.specs.View.{tree};
-
 use crate::build::{alt_of, assign_of, if_of, pairs_of, par_of, seq_of, var_of};
 use crate::lists::{branches_of, choices_of, parts_of};
-use occ_base::{Memory, Name, Width};
+use occ_script_write::{Memory, Name, Width};
 use occ_syntax::{Alternatives, Choices, Expr, Exprs, Guard, NameList, Proc, Procs};
 use std::alloc::Global;
 use std::mem::replace;
@@ -41,11 +33,8 @@ pub enum Piece {
 }
 
 impl Piece {
-    /// A process taken apart. Where an assignment has more variables than right sides, or fewer, it says nothing of the pairs.
-    #[tactic(auto, unfolding(occ_syntax::specs::View::tree))]
-    pub fn of(alloc: Global, mut part: Proc) -> Result<Piece, Memory>
-        ensures { IfOk result (λ piece. IsPieceOf piece (tree part)) }
-    {
+    /// A process taken apart. Of an assignment with more variables than right sides, or fewer, what has no partner is lost.
+    pub fn of(alloc: Global, mut part: Proc) -> Result<Piece, Memory> {
         match &mut part {
             Proc::Skip => Ok(Piece::Skip),
             Proc::Stop => Ok(Piece::Stop),
@@ -82,10 +71,7 @@ impl Piece {
     }
 
     /// The process put together again.
-    #[tactic(auto, unfolding(occ_syntax::specs::View::tree))]
-    pub fn into_proc(self, alloc: Global) -> Result<Proc, Memory>
-        ensures { IfOk result (λ part. tree part ≡ piece_tree self) }
-    {
+    pub fn into_proc(self, alloc: Global) -> Result<Proc, Memory> {
         match self {
             Piece::Skip => Ok(Proc::Skip),
             Piece::Stop => Ok(Proc::Stop),
@@ -104,8 +90,3 @@ impl Piece {
         }
     }
 }
-
-/// What is taken apart from a process that keeps types makes that process.
-pub fn kept_pieces_are_whole()
-    ensures { (Γ : Environment) (piece : Piece) (p : Tree) → types_kept p Γ ≡ true → IsPieceOf piece p → p ≡ piece_tree piece }
-{}

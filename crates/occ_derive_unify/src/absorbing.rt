@@ -82,7 +82,7 @@ fn parted(
         Some(branches) => ranks(alloc, params, branches)?,
         None => return Err(Lost::NoStep),
     };
-    let alt = led_inside(trail, params, alt, more, common.as_slice())?;
+    let alt = alt.led_inside(trail, params, more, common.as_slice())?;
     let alt = put_last(trail, alt, less, more)?;
     let (alt, beyond) = least(trail, params, alt, common.len())?;
     let mut alt = alt;
@@ -91,22 +91,6 @@ fn parted(
     }
     let alt = each_ordered(trail, params, alt)?;
     merged(trail, params, alt)
-}
-
-fn led_inside(
-    trail: &mut Trail,
-    params: &Scope,
-    mut alt: Alt,
-    place: usize,
-    chosen: &[u64],
-) -> Result<Alt, Lost> {
-    let alloc = trail.alloc();
-    let inner = Alt::of(alloc, alt.take(place)?)?;
-    enter(trail, place)?;
-    let inner = inner.led_by(trail, params, chosen)?;
-    trail.leave();
-    alt.put(place, inner.into_part(alloc)?)?;
-    Ok(alt)
 }
 
 fn put_last(trail: &mut Trail, alt: Alt, less: usize, more: usize) -> Result<Alt, Lost> {

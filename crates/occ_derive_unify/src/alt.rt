@@ -1,23 +1,5 @@
-ghost use Rattle.std.specs.Prelude.{◌≡◌, ◌≤◌, ◌++◌, ◌∷◌, [], IfOk, List, false, length};
-ghost use Rattle.occ_base.specs.declared.names.Name.{Name};
-ghost use Rattle.occ_derive_moves.specs.Come.{HasCome, HasEntered, HasMoved};
-ghost use Rattle.occ_derive_trail.specs.Trails.{going};
-ghost use Rattle.occ_derive_unify.specs.Places.{HasMore, HasOther};
-ghost use Rattle.occ_derive_unify.specs.Rising.{AreInOrder};
-ghost use Rattle.occ_derive_unify.specs.Rows.{AreNumbered, IsArranged, alternatives_of, row_order};
-ghost use Rattle.occ_derive_unify.specs.declared.alt.Keyed.{Keyed};
-ghost use Rattle.occ_law_rules.specs.Lists.{BranchesReordered};
-ghost use Rattle.occ_script_path.specs.declared.direction.Direction.TheVariants as direction;
-ghost use Rattle.occ_syntax.specs.declared.scope.Kind.{Kind};
-ghost use Rattle.occ_syntax.specs.Scopes.{environment};
-ghost use Rattle.occ_syntax.specs.Tree.{alt};
-ghost use Rattle.occ_syntax.specs.Usage.{Keeps};
-ghost use Rattle.occ_syntax.specs.View.{branches, tree};
-
 use crate::orders::{Key, accepted, key_of, rank};
-use occ_base::Memory;
-use occ_derive_trail::{Lost, Piece, Trail, alt_of, law};
-use occ_law::LawId;
+use occ_derive_trail::{LawId, Lost, Memory, Piece, Trail, alt_of, law};
 use occ_syntax::{Guard, Proc, Scope};
 use std::alloc::Global;
 use std::cmp::Ordering;
@@ -38,24 +20,18 @@ struct Keyed {
 }
 
 impl Keyed {
-    fn order(&self, other: &Keyed) -> Ordering
-        ensures { result ≡ row_order self.now other.now }
-    {
+    fn order(&self, other: &Keyed) -> Ordering {
         let keys = self.key.order(&other.key);
         keys.then(self.place.cmp(&other.place))
     }
 
-    fn into_branch(self) -> (Guard, Proc)
-        ensures { result ≡ self.branch }
-    {
+    fn into_branch(self) -> (Guard, Proc) {
         self.branch
     }
 }
 
 /// Goes on with the part of that number in the present one.
-pub(crate) fn enter(trail: &mut Trail, number: usize) -> Result<(), Lost>
-    ensures { IfOk result (λ done. HasEntered (going trail.old) (going trail.new) number) }
-{
+pub(crate) fn enter(trail: &mut Trail, number: usize) -> Result<(), Lost> {
     let Ok(small) = u32::try_from(number) else {
         return Err(Lost::NoStep);
     };
@@ -65,9 +41,7 @@ pub(crate) fn enter(trail: &mut Trail, number: usize) -> Result<(), Lost>
 
 impl Alt {
     /// The branches of an ALT.
-    pub(crate) fn of(alloc: Global, part: Proc) -> Result<Alt, Lost>
-        ensures { IfOk result (λ made. tree part ≡ alt (branches made.list.items)) }
-    {
+    pub(crate) fn of(alloc: Global, part: Proc) -> Result<Alt, Lost> {
         match Piece::of(alloc, part)? {
             Piece::Alt(list) => Ok(Alt { list }),
             _ => Err(Lost::NoStep),
@@ -75,17 +49,12 @@ impl Alt {
     }
 
     /// The ALT of the branches.
-    pub(crate) fn into_part(self, alloc: Global) -> Result<Proc, Memory>
-        ensures { IfOk result (λ part. tree part ≡ alt (branches self.list.items)) }
-    {
+    pub(crate) fn into_part(self, alloc: Global) -> Result<Proc, Memory> {
         alt_of(alloc, self.list)
     }
 
     /// The same branches, and a copy of the ALT.
-    pub(crate) fn copied(self, alloc: Global) -> Result<(Alt, Proc), Lost>
-        ensures list { IfOk result (λ made. branches made.0.list.items ≡ branches self.list.items) }
-        ensures part { IfOk result (λ made. tree made.1 ≡ alt (branches self.list.items)) }
-    {
+    pub(crate) fn copied(self, alloc: Global) -> Result<(Alt, Proc), Lost> {
         let part = self.into_part(alloc)?;
         let copy = part.copy(alloc)?;
         let same = Alt::of(alloc, part)?;
@@ -93,11 +62,7 @@ impl Alt {
     }
 
     /// A law used forward makes the present part this ALT.
-    pub(crate) fn forward(self, trail: &mut Trail, law: LawId) -> Result<Alt, Lost>
-        ensures list { IfOk result (λ made. branches made.list.items ≡ branches self.list.items) }
-        ensures moved { let part = alt (branches self.list.items) in
-            IfOk result (λ made. HasMoved (going trail.old) (going trail.new) law.0 direction.Forward part) }
-    {
+    pub(crate) fn forward(self, trail: &mut Trail, law: LawId) -> Result<Alt, Lost> {
         let alloc = trail.alloc();
         let part = self.into_part(alloc)?;
         trail.forward(law, &part)?;
@@ -105,11 +70,7 @@ impl Alt {
     }
 
     /// A law used backward makes the present part this ALT.
-    pub(crate) fn backward(self, trail: &mut Trail, law: LawId) -> Result<Alt, Lost>
-        ensures list { IfOk result (λ made. branches made.list.items ≡ branches self.list.items) }
-        ensures moved { let part = alt (branches self.list.items) in
-            IfOk result (λ made. HasMoved (going trail.old) (going trail.new) law.0 direction.Backward part) }
-    {
+    pub(crate) fn backward(self, trail: &mut Trail, law: LawId) -> Result<Alt, Lost> {
         let alloc = trail.alloc();
         let part = self.into_part(alloc)?;
         trail.backward(law, &part)?;
@@ -117,23 +78,17 @@ impl Alt {
     }
 
     /// The process of a branch, taken out; SKIP stands for it meanwhile.
-    pub(crate) fn take(&mut self, place: usize) -> Result<Proc, Lost>
-        ensures { IfOk result (λ part. HasOther self.old.list.items self.new.list.items place part Proc.Skip) }
-    {
+    pub(crate) fn take(&mut self, place: usize) -> Result<Proc, Lost> {
         self.exchange(place, Proc::Skip)
     }
 
     /// Puts in the process of a branch.
-    pub(crate) fn put(&mut self, place: usize, part: Proc) -> Result<(), Lost>
-        ensures { IfOk result (λ done. (was : Proc) × HasOther self.old.list.items self.new.list.items place was part) }
-    {
+    pub(crate) fn put(&mut self, place: usize, part: Proc) -> Result<(), Lost> {
         let _ = self.exchange(place, part)?;
         Ok(())
     }
 
-    fn exchange(&mut self, place: usize, part: Proc) -> Result<Proc, Lost>
-        ensures { IfOk result (λ was. HasOther self.old.list.items self.new.list.items place was part) }
-    {
+    fn exchange(&mut self, place: usize, part: Proc) -> Result<Proc, Lost> {
         if place >= self.list.len() {
             return Err(Lost::NoStep);
         }
@@ -141,9 +96,7 @@ impl Alt {
     }
 
     /// Puts in a branch in front of that place.
-    pub(crate) fn insert(&mut self, place: usize, branch: (Guard, Proc)) -> Result<(), Lost>
-        ensures { IfOk result (λ done. HasMore self.old.list.items self.new.list.items place branch) }
-    {
+    pub(crate) fn insert(&mut self, place: usize, branch: (Guard, Proc)) -> Result<(), Lost> {
         if place > self.list.len() {
             return Err(Lost::NoStep);
         }
@@ -152,9 +105,7 @@ impl Alt {
     }
 
     /// Takes a branch out.
-    pub(crate) fn remove(&mut self, place: usize) -> Result<(Guard, Proc), Lost>
-        ensures { IfOk result (λ branch. HasMore self.new.list.items self.old.list.items place branch) }
-    {
+    pub(crate) fn remove(&mut self, place: usize) -> Result<(Guard, Proc), Lost> {
         if place >= self.list.len() {
             return Err(Lost::NoStep);
         }
@@ -162,12 +113,7 @@ impl Alt {
     }
 
     /// Puts the branches into the order of a normal program.
-    pub(crate) fn ordered(self, trail: &mut Trail, params: &Scope) -> Result<Alt, Lost>
-        ensures reordered { IfOk result (λ made. BranchesReordered (branches self.list.items) (branches made.list.items)) }
-        ensures order { IfOk result (λ made. length params.now ≤ 16 → AreInOrder params.now (branches made.list.items)) }
-        ensures come { IfOk result (λ made. (S : List (Name × Kind)) → let part = alt (branches self.list.items) in
-            Keeps (environment S) part → HasCome S (going trail.old) (going trail.new) part (alt (branches made.list.items))) }
-    {
+    pub(crate) fn ordered(self, trail: &mut Trail, params: &Scope) -> Result<Alt, Lost> {
         let alloc = trail.alloc();
         let mut rows = Rows::new(alloc);
         for branch in self.list {
@@ -183,10 +129,7 @@ impl Alt {
         trail: &mut Trail,
         params: &Scope,
         chosen: &[u64],
-    ) -> Result<Alt, Lost>
-        ensures { IfOk result (λ made. (S : List (Name × Kind)) → let part = alt (branches self.list.items) in Keeps (environment S) part
-            → HasCome S (going trail.old) (going trail.new) part (alt (branches made.list.items))) }
-    {
+    ) -> Result<Alt, Lost> {
         let alloc = trail.alloc();
         let mut rows = Rows::new(alloc);
         for branch in self.list {
@@ -194,6 +137,23 @@ impl Alt {
             rows.push(key, branch)?;
         }
         rows.arranged(trail)
+    }
+
+    /// Puts the branches of the acceptance at a place first that wait for an event of these ranks.
+    pub(crate) fn led_inside(
+        mut self,
+        trail: &mut Trail,
+        params: &Scope,
+        place: usize,
+        chosen: &[u64],
+    ) -> Result<Alt, Lost> {
+        let alloc = trail.alloc();
+        let inner = Alt::of(alloc, self.take(place)?)?;
+        enter(trail, place)?;
+        let inner = inner.led_by(trail, params, chosen)?;
+        trail.leave();
+        self.put(place, inner.into_part(alloc)?)?;
+        Ok(self)
     }
 
     /// The branches of the acceptance at a place; None where none stands there.
@@ -217,43 +177,30 @@ fn lead(params: &Scope, chosen: &[u64], guard: &Guard) -> u64 {
 #[derive(Drop)]
 pub(crate) struct Rows {
     list: Vec<Keyed>,
-    ghost numbered: { AreNumbered list.items },
 }
 
 impl Rows {
     /// No branches.
-    pub(crate) fn new(alloc: Global) -> Rows
-        ensures { result.list.items ≡ [] }
-    {
+    pub(crate) fn new(alloc: Global) -> Rows {
         Rows {
             list: Vec::new(alloc),
         }
     }
 
     /// How many there are.
-    pub(crate) fn count(&self) -> usize
-        ensures { result ≡ length self.now.list.items }
-    {
+    pub(crate) fn count(&self) -> usize {
         self.list.len()
     }
 
     /// Adds the next branch with its key.
-    pub(crate) fn push(&mut self, key: Key, branch: (Guard, Proc)) -> Result<(), Lost>
-        ensures { IfOk result (λ done. let place = length self.old.list.items in
-            self.new.list.items ≡ self.old.list.items ++ record { key = key; place = place; branch = branch } ∷ []) }
-    {
+    pub(crate) fn push(&mut self, key: Key, branch: (Guard, Proc)) -> Result<(), Lost> {
         let place = self.list.len();
         self.list.push(Keyed { key, place, branch })?;
         Ok(())
     }
 
     /// The ALT of the branches in the order of their keys, those of equal keys as they stood. No step where they stand so.
-    pub(crate) fn arranged(self, trail: &mut Trail) -> Result<Alt, Lost>
-        ensures sorted { IfOk result (λ made. (rows : List Keyed) × IsArranged self.list.items rows
-            × (branches made.list.items ≡ branches (alternatives_of rows))) }
-        ensures come { IfOk result (λ made. (S : List (Name × Kind)) → let part = alt (branches (alternatives_of self.list.items)) in
-            Keeps (environment S) part → HasCome S (going trail.old) (going trail.new) part (alt (branches made.list.items))) }
-    {
+    pub(crate) fn arranged(self, trail: &mut Trail) -> Result<Alt, Lost> {
         let rows = in_order(self.list);
         let moved = is_moved(rows.as_slice());
         let list = without_keys(trail.alloc(), rows)?;
@@ -266,16 +213,12 @@ impl Rows {
 }
 
 // The rows in the order of their keys, and then of their places.
-fn in_order(mut rows: Vec<Keyed>) -> Vec<Keyed>
-    ensures { IsArranged rows.items result.items }
-{
+fn in_order(mut rows: Vec<Keyed>) -> Vec<Keyed> {
     rows.sort_unstable_by(|a, b| a.order(b));
     rows
 }
 
-fn without_keys(alloc: Global, rows: Vec<Keyed>) -> Result<Vec<(Guard, Proc)>, Lost>
-    ensures { IfOk result (λ list. list.items ≡ alternatives_of rows.items) }
-{
+fn without_keys(alloc: Global, rows: Vec<Keyed>) -> Result<Vec<(Guard, Proc)>, Lost> {
     let mut list = Vec::with_capacity(alloc, rows.len())?;
     for row in rows {
         list.push(row.into_branch())?;
@@ -283,9 +226,7 @@ fn without_keys(alloc: Global, rows: Vec<Keyed>) -> Result<Vec<(Guard, Proc)>, L
     Ok(list)
 }
 
-fn is_moved(rows: &[Keyed]) -> bool
-    ensures { result ≡ false → AreNumbered rows.now }
-{
+fn is_moved(rows: &[Keyed]) -> bool {
     for (place, row) in rows.iter().enumerate() {
         if row.place != place {
             return true;

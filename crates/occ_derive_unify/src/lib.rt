@@ -10,6 +10,9 @@ mod restoring;
 mod unifying;
 
 pub use merging::merge;
-pub use orders::ranks_tell_guards_apart;
+pub use occ_derive_trail::{
+    Dones, Frame, Lost, Piece, Trail, alt_of, assign_of, constant, if_of, law, seq_of, seq_of_two,
+    unseen, var_of,
+};
 pub use restoring::restore;
 pub use unifying::unify;

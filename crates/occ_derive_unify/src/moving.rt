@@ -137,7 +137,7 @@ fn moved_in(
     let (before, own) = counted(params, alt.list.as_slice(), event);
     let alt = put_in_front(trail, params, alt, event)?;
     let home = before.saturating_add(own);
-    let mut alt = led_inside(trail, params, alt, event.at(home))?;
+    let mut alt = alt.led_inside(trail, params, home, &[event.rank])?;
     for place in (before..home).rev() {
         alt = split(trail, alt, place)?;
     }
@@ -172,17 +172,6 @@ fn put_in_front(trail: &mut Trail, params: &Scope, alt: Alt, event: Event) -> Re
         rows.push(key, branch)?;
     }
     rows.arranged(trail)
-}
-
-// The event's branch stands first in the acceptance.
-fn led_inside(trail: &mut Trail, params: &Scope, mut alt: Alt, event: Event) -> Result<Alt, Lost> {
-    let alloc = trail.alloc();
-    let inner = Alt::of(alloc, alt.take(event.home)?)?;
-    enter(trail, event.home)?;
-    let inner = inner.led_by(trail, params, &[event.rank])?;
-    trail.leave();
-    alt.put(event.home, inner.into_part(alloc)?)?;
-    Ok(alt)
 }
 
 // The branch at a place goes into the acceptance behind it, as its first.

@@ -1,1 +1,2 @@
 pub mod Written
+pub use Rattle.occ_base.proofs as from_base

@@ -6,7 +6,7 @@ use Rattle.occ_desk.specs.declared.desk.ReadError.TheVariants.{Failed, TooLong, 
 abbrev pub with_more : {T : Type 0} → Option (List T) → List T → Option (List T)
 with_more told more = option_map (λ xs. xs ++ more) told
 
--- the names asked after a read: want of memory alone leaves them as they were
+-- the names asked after a read: `Memory` alone leaves them as they were
 abbrev pub asked_after : {T : Type 0} → Option (List (List ℕ)) → List ℕ → Result T ReadError → Option (List (List ℕ))
 asked_after asked name (Ok _) = with_more asked (name ∷ [])
 asked_after asked name (Err Failed) = with_more asked (name ∷ [])
@@ -14,7 +14,7 @@ asked_after asked name (Err TooLong) = with_more asked (name ∷ [])
 asked_after asked name (Err Memory) = asked
 
 -- What a read says of the file: all its bytes, or that it is there with more of them than were asked for.
--- A failed read and want of memory say nothing of it.
+-- A failed read and `Memory` say nothing of it.
 abbrev pub IsFileAnswer : {T : Type 0} → Option (List ℕ) → ℕ → List ℕ → Result T ReadError → Type 0
 IsFileAnswer file most into (Ok _) = file ≡ Some into
 IsFileAnswer file most into (Err TooLong) = IsSomeAnd file (λ bytes. most < length bytes)

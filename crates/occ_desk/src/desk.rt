@@ -57,7 +57,7 @@ pub trait Desk {
     /// at most `most` bytes.
     ///
     /// `Failed` is a fault, and comes too where the file isn't there; `TooLong` comes where the file was read and
-    /// has more than `most` bytes; `Memory` is want of memory. After each of them `into` is empty. All but `Memory`
+    /// has more than `most` bytes; `Memory` comes where memory runs out. After each of them `into` is empty. All but `Memory`
     /// count as having asked for the name.
     fn read(&mut self, name: &str, most: u64, into: &mut Vec<u8>) -> Result<(), ReadError>
         requires reads_countable { read_faults self.old < u64.MAX }

@@ -82,7 +82,7 @@ impl MemoryDesk {
         })
     }
 
-    /// Adds a file. After want of memory the desk is as before.
+    /// Adds a file. Where memory runs out, the desk is as before.
     pub fn add(&mut self, name: &str, bytes: &[u8]) -> Result<(), Memory>
         requires { file_of self.old.files name.now ≡ None }
         ensures ok { OnOk result (self.new ≡ record self.old { files = self.old.files ++ (name.now, bytes.now) ∷ [] }) }
@@ -113,7 +113,7 @@ impl MemoryDesk {
         self.failing.contains(&call)
     }
 
-    /// Notes that a name was asked for. After want of memory the desk is as before.
+    /// Notes that a name was asked for. Where memory runs out, the desk is as before.
     fn note(&mut self, name: &str) -> Result<(), AllocError>
         ensures ok { OnOk result (self.new ≡ record self.old { asked = self.old.asked ++ name.now ∷ [] }) }
         ensures err { OnErr result (self.new ≡ self.old) }
@@ -182,7 +182,7 @@ impl Desk for MemoryDesk {
 
     ghost write_faults = { λ desk. desk.write_faults };
 
-    /// It fails exactly where the number of the call is in `failing` or no file has the name, want of memory aside.
+    /// It fails exactly where the number of the call is in `failing` or no file has the name; besides, memory may run out.
     fn read(&mut self, name: &str, most: u64, into: &mut Vec<u8>) -> Result<(), ReadError>
         requires reads_countable { self.old.read_faults < u64.MAX }
         requires writes_countable { self.old.write_faults < u64.MAX }

@@ -1,8 +1,7 @@
 //! The program: `draw` over the files of the system and its standard output.
 #![tactic(auto)]
 
-use occ_desk::RealDesk;
-use occ_draw_run::draw;
+use occ_draw_run::{RealDesk, draw};
 use std::env;
 use std::io::ErrorKind;
 use std::process::ExitCode;

@@ -4,26 +4,26 @@ use Rattle.std.specs.Prelude.{◌⊎◌, ◌≢◌}
 use Rattle.std.specs.List.{All, AllByRecursion}
 use Rattle.std.proofs.lemmas.Bool.{le-ltb, lt-ltb}
 use Rattle.std.proofs.lemmas.List.Elements.{All-from_recursion}
-use Rattle.occ_base.specs.declared.memory.Memory.{Memory as NoMemory}
-use Rattle.occ_base.specs.declared.names.Name.{Name}
-use Rattle.occ_behaviour.specs.declared.behaviour.Side.TheVariants.{First}
-use Rattle.occ_draw_steps.specs.Steps.{list_of}
-use Rattle.occ_draw_steps.specs.declared.fault.Lack.{Lack}
+use Rattle.occ_tool_run.specs.occ_base.declared.memory.Memory.{Memory as NoMemory}
+use Rattle.occ_tool_run.specs.occ_base.declared.names.Name.{Name}
+use Rattle.occ_tool_run.specs.occ_behaviour.declared.behaviour.Side.TheVariants.{First}
+use Rattle.occ_draw_run.specs.Steps.{list_of}
+use Rattle.occ_draw_run.specs.declared.fault.Lack.{Lack}
 use Rattle.occ_syntax.specs.declared.scope.Kind.{Kind}
-use Rattle.occ_nform_table.specs.declared.table.TableRow.{TableRow}
-use Rattle.occ_nform_table.specs.declared.table.TableFault.{TableFault}
-use Rattle.occ_nform_table.specs.declared.table.TableFault.TheVariants.{Memory}
-use Rattle.occ_nform_table.specs.Normal.{Parts, text_read}
-use Rattle.occ_nform_table.specs.Rows.{RowIsNamed}
-use Rattle.occ_nform_table.specs.Tables.{AreRowsOf, IsInterface, IsNormal}
-use Rattle.occ_nform_table.specs.Texts.{table_text}
-use Rattle.occ_nform_table.proofs.Named.{row_named}
-use Rattle.occ_script.specs.declared.fault.ScriptFault.{ScriptFault}
-use Rattle.occ_script.specs.declared.fault.ScriptFault.TheVariants as script
-use Rattle.occ_script.specs.declared.script.Script.{Script}
-use Rattle.occ_script.specs.Refusals.{IsScriptFault}
-use Rattle.occ_script.specs.Scripts.{IsScript}
-use Rattle.occ_script.specs.Shown.{shown}
+use Rattle.occ_tool_run.specs.occ_nform_table.declared.table.TableRow.{TableRow}
+use Rattle.occ_tool_run.specs.occ_nform_table.declared.table.TableFault.{TableFault}
+use Rattle.occ_tool_run.specs.occ_nform_table.declared.table.TableFault.TheVariants.{Memory}
+use Rattle.occ_tool_run.specs.occ_nform_table.Normal.{Parts, text_read}
+use Rattle.occ_tool_run.specs.occ_nform_table.Rows.{RowIsNamed}
+use Rattle.occ_tool_run.specs.occ_nform_table.Tables.{AreRowsOf, IsInterface, IsNormal}
+use Rattle.occ_tool_run.specs.occ_nform_table.Texts.{table_text}
+use Rattle.occ_tool_run.proofs.from_nform_table.Named.{row_named}
+use Rattle.occ_tool_run.specs.occ_script.declared.fault.ScriptFault.{ScriptFault}
+use Rattle.occ_tool_run.specs.occ_script.declared.fault.ScriptFault.TheVariants as script
+use Rattle.occ_tool_run.specs.occ_script.declared.script.Script.{Script}
+use Rattle.occ_tool_run.specs.occ_script.Refusals.{IsScriptFault}
+use Rattle.occ_tool_run.specs.occ_script.Scripts.{IsScript}
+use Rattle.occ_tool_run.specs.occ_script.Shown.{shown}
 use Rattle.occ_tool_run.specs.Texts.{refusal_text, script_refusal_text, table_refusal_text}
 use Rattle.occ_draw_run.specs.declared.top.Reply.{Reply}
 use Rattle.occ_draw_run.specs.Answers.{Draws, Files, Tells, TellsScript, Told, faulty, is_script, is_too_long, listed, of_length, of_script, of_table, refused, told, told_list}

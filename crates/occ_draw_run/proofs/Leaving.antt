@@ -1,6 +1,6 @@
 -- What is left behind.
 use Rattle.std.proofs.Common.{◌≡◌, ℕ, List, Option, Some, None, IfSome, refl, ap, ◌∙◌, subst}
-use Rattle.occ_desk.specs.Desk.{with_more, IsCutShort}
+use Rattle.occ_tool_run.specs.occ_desk.Desk.{with_more, IsCutShort}
 use Rattle.occ_draw_run.specs.Answers.{Answers, Files, Told}
 use Rattle.occ_draw_run.specs.Ran.{Ran, answered, cut_short}
 

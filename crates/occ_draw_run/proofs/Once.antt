@@ -2,13 +2,13 @@
 use Rattle.std.proofs.Common.{◌≡◌, ℕ, List, [], Option, None, Some, sym, ap, subst, ◌∙◌}
 use Rattle.std.proofs.lemmas.Bool.{both_ways}
 use Rattle.std.proofs.lemmas.Option.{same_Some}
-use Rattle.occ_behaviour.specs.declared.behaviour.Side.TheVariants.{First}
-use Rattle.occ_draw_steps.specs.Steps.{list_of}
-use Rattle.occ_script.specs.declared.fault.ScriptFault.{ScriptFault}
-use Rattle.occ_script.specs.declared.script.Script.{Script}
-use Rattle.occ_script.specs.Refusals.{IsScriptFault}
-use Rattle.occ_script.specs.Scripts.{IsScript}
-use Rattle.occ_script.specs.Shown.{shown}
+use Rattle.occ_tool_run.specs.occ_behaviour.declared.behaviour.Side.TheVariants.{First}
+use Rattle.occ_draw_run.specs.Steps.{list_of}
+use Rattle.occ_tool_run.specs.occ_script.declared.fault.ScriptFault.{ScriptFault}
+use Rattle.occ_tool_run.specs.occ_script.declared.script.Script.{Script}
+use Rattle.occ_tool_run.specs.occ_script.Refusals.{IsScriptFault}
+use Rattle.occ_tool_run.specs.occ_script.Scripts.{IsScript}
+use Rattle.occ_tool_run.specs.occ_script.Shown.{shown}
 use Rattle.occ_tool_run.specs.Texts.{script_refusal_text}
 use Rattle.occ_draw_run.specs.Answers.{Answers, AnswersWord, Draws, Files, Tells, TellsScript, Told, faulty, file_word, is_script, is_too_long, listed, of_length, of_script, of_table, refused, told_list}
 

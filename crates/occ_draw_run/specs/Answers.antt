@@ -1,17 +1,17 @@
 -- What a command line is answered with.
 use Rattle.std.specs.Prelude.{ℕ, ◌≡◌, ◌==◌, Bool, true, false, not, nat_eq, nat_lt, if◌then◌else◌, List, [], ◌∷◌, length, Option, None, Some, Result, Ok, Err, codes}
 use Rattle.std.specs.List.{starts_with}
-use Rattle.occ_behaviour.specs.declared.behaviour.Side.TheVariants.{First}
-use Rattle.occ_draw_steps.specs.declared.fault.Lack.{Lack}
-use Rattle.occ_draw_steps.specs.Steps.{list_of}
-use Rattle.occ_draw_text.specs.Pictures.{dot_text}
-use Rattle.occ_nform_table.specs.declared.table.TableFault.{TableFault}
-use Rattle.occ_nform_table.specs.Normal.{Parts, text_read}
-use Rattle.occ_script.specs.declared.fault.ScriptFault.{ScriptFault}
-use Rattle.occ_script.specs.declared.script.Script.{Script}
-use Rattle.occ_script.specs.Refusals.{IsScriptFault}
-use Rattle.occ_script.specs.Scripts.{IsScript}
-use Rattle.occ_script.specs.Shown.{shown}
+use Rattle.occ_tool_run.specs.occ_behaviour.declared.behaviour.Side.TheVariants.{First}
+use Rattle.occ_draw_run.specs.declared.fault.Lack.{Lack}
+use Rattle.occ_draw_run.specs.Steps.{list_of}
+use Rattle.occ_draw_run.specs.Pictures.{dot_text}
+use Rattle.occ_tool_run.specs.occ_nform_table.declared.table.TableFault.{TableFault}
+use Rattle.occ_tool_run.specs.occ_nform_table.Normal.{Parts, text_read}
+use Rattle.occ_tool_run.specs.occ_script.declared.fault.ScriptFault.{ScriptFault}
+use Rattle.occ_tool_run.specs.occ_script.declared.script.Script.{Script}
+use Rattle.occ_tool_run.specs.occ_script.Refusals.{IsScriptFault}
+use Rattle.occ_tool_run.specs.occ_script.Scripts.{IsScript}
+use Rattle.occ_tool_run.specs.occ_script.Shown.{shown}
 use Rattle.occ_tool_run.specs.Texts.{refusal_text, script_refusal_text, table_refusal_text}
 use Rattle.occ_draw_run.specs.Refusals.{step_refusal_text, usage_text}
 

@@ -1,7 +1,7 @@
 -- The lines that refuse words, and steps of a script.
 use Rattle.std.specs.Prelude.{ℕ, List, ◌++◌, codes, decimal}
-use Rattle.occ_draw_steps.specs.declared.fault.Lack.{Lack}
-use Rattle.occ_draw_steps.specs.declared.fault.Lack.TheVariants.{NoLaw, NoPath, NotAccepted}
+use Rattle.occ_draw_run.specs.declared.fault.Lack.{Lack}
+use Rattle.occ_draw_run.specs.declared.fault.Lack.TheVariants.{NoLaw, NoPath, NotAccepted}
 
 abbrev pub usage_text : List ℕ
 usage_text = codes "USAGE draw T\n"

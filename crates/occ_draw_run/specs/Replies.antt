@@ -1,6 +1,6 @@
 -- What a reply tells, and how a stop shows in the count of failed reads.
 use Rattle.std.specs.Prelude.{ℕ, ◌≡◌, ◌<◌, ◌⊎◌, ◌∷◌, [], List, Option, None, Some, Result, Ok, Err}
-use Rattle.occ_desk.specs.Desk.{with_more}
+use Rattle.occ_tool_run.specs.occ_desk.Desk.{with_more}
 use Rattle.occ_draw_run.specs.declared.top.Reply.{Reply}
 use Rattle.occ_draw_run.specs.declared.top.Stop.{Stop}
 use Rattle.occ_draw_run.specs.declared.top.Stop.TheVariants.{Read, Memory}
@@ -15,7 +15,7 @@ CountsStop before after (Ok _) = after ≡ before
 CountsStop before after (Err Read) = before < after
 CountsStop before after (Err Memory) = after ≡ before
 
--- what was asked for: the file of this name, or, for want of memory, perhaps none; none where there is no name
+-- what was asked for: the file of this name, or, where memory runs out, perhaps none; none where there is no name
 abbrev pub AsksFor : {T : Type 0} → Option (List ℕ) → Option (List (List ℕ)) → Option (List (List ℕ)) → Result T Stop → Type 0
 AsksFor None old new result = new ≡ old
 AsksFor (Some name) old new (Ok _) = new ≡ with_more old (name ∷ [])

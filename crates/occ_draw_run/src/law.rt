@@ -1,13 +1,16 @@
-//! That there is one answer.
+ghost use Rattle.std.specs.Prelude.{ℕ, List, ◌≡◌, ◌++◌, ◌∷◌, Some, false};
+ghost use Rattle.std.specs.List.{flat_map};
+ghost use Rattle.occ_tool_run.specs.occ_base.declared.event.Event.{Event};
+ghost use Rattle.occ_draw_run.specs.Edges.{is_drawn, is_offered};
+ghost use Rattle.occ_draw_run.specs.Strings.{escaped, quoted, shown};
 
-ghost use Rattle.std.specs.Prelude.{◌≡◌, ℕ, List};
-ghost use Rattle.occ_draw_run.specs.Answers.{Answers, Files, Told};
+/// The edges of a row are exactly its offers: one of them leads to a row with an event in the ranges at it exactly where the row
+/// offers that event to that row.
+pub fn edges_are_offers()
+    ensures { (offers : List (Event × ℕ)) (e : Event) (n : ℕ) → is_drawn offers e n ≡ is_offered offers e n }
+{}
 
-use occ_script::one_script;
-
-/// A command line over the same files has one answer.
-pub fn one_answer()
-    ensures { (files : Files) (words : List (List ℕ)) (a b : Told) → Answers files words a → Answers files words b → a ≡ b }
-{
-    one_script();
-}
+/// A label is shown as it was given: behind its opening quote it is read whole, up to its closing quote, whatever stands behind.
+pub fn a_label_is_shown()
+    ensures { (label rest : List ℕ) → shown false (flat_map escaped label ++ 34 ∷ rest) ≡ Some (label, rest) }
+{}

@@ -4,15 +4,14 @@ ghost use Rattle.std.specs.List.{All};
 ghost use Rattle.std.specs.Prelude.{◌≡◌, ◌<◌, length, IfOk};
 ghost use Rattle.occ_draw_run.specs.Answers.{told_list, TellsScript};
 ghost use Rattle.occ_draw_run.specs.Replies.{told_by};
-ghost use Rattle.occ_draw_steps.specs.Steps.{list_of};
-ghost use Rattle.occ_draw_steps.specs.Stopping.{HasLaw};
-ghost use Rattle.occ_script.specs.Shown.{shown};
+ghost use Rattle.occ_draw_run.specs.Steps.{list_of};
+ghost use Rattle.occ_draw_run.specs.Stopping.{HasLaw};
+ghost use Rattle.occ_tool_run.specs.occ_script.Shown.{shown};
 
 use crate::refusal::{refuse_script, refuse_step};
 use crate::top::Reply;
-use occ_base::{Memory, Names};
-use occ_draw_steps::{Untold, list};
-use occ_script::{Script, read};
+use crate::{Untold, list};
+use occ_tool_run::{Memory, Names, Script, script_read as read};
 use std::alloc::Global;
 
 /// The list of a script's steps, or the line that refuses the text.

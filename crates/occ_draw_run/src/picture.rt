@@ -1,30 +1,49 @@
-//! Normal texts as pictures.
+ghost use Rattle.std.specs.Prelude.{◌≡◌, ◌++◌, OnOk, IfOk};
+ghost use Rattle.std.specs.List.{All};
+ghost use Rattle.occ_tool_run.specs.occ_nform_table.Rows.{RowIsNamed};
+ghost use Rattle.occ_tool_run.specs.occ_nform_table.Tables.{IsInterface};
+ghost use Rattle.occ_draw_run.specs.Pictures.{dot_text, rows_text};
 
-ghost use Rattle.std.specs.Prelude.{◌≡◌, ◌≤◌, [], length, IfOk};
-ghost use Rattle.occ_nform_table.specs.Normal.{text_read};
-ghost use Rattle.occ_draw_run.specs.Answers.{told};
-ghost use Rattle.occ_draw_run.specs.Replies.{told_by};
-
-use crate::refusal::refuse_table;
-use crate::top::Reply;
-use occ_base::{Memory, Names};
-use occ_draw_text::dot_text;
-use occ_nform_read::read;
-use occ_nform_text::a_normal_text_is_its_tables;
+use crate::entries::push_entries;
+use crate::rows::push_row;
+use occ_tool_run::{Memory, Names, Table, TableRow};
 use std::alloc::Global;
 
-/// The picture of a normal text, or the line that refuses it.
-pub(crate) fn picture(alloc: Global, text: &[u8]) -> Result<Reply, Memory>
-    requires { length text.now ≤ 67108864 }
-    ensures { IfOk result (λ reply. told_by reply ≡ told (text_read [] text.now)) }
+/// The picture of a table as a text of the DOT language: a directed graph whose nodes are the rows. A row's label has its
+/// number, its final states and its acceptances; an edge has the events of all offers to one row on one channel, with values
+/// that follow one another as a range; an entry has the initial states that lead to one row. All that is named in the table has
+/// a name in the table of names. The time grows as the table and its picture are long.
+pub fn dot_text(alloc: Global, names: &Names, table: &Table) -> Result<Vec<u8>, Memory>
+    requires interface { IsInterface names.now table.now.params }
+    requires rows { All (RowIsNamed names.now) table.now.rows }
+    ensures { IfOk result (λ text. text.items ≡ dot_text names.now table.now.params table.now.rows table.now.states) }
 {
-    a_normal_text_is_its_tables();
-    let mut names = Names::new(alloc);
-    match read(alloc, &mut names, text) {
-        Ok(table) => Ok(Reply {
-            status: 0,
-            text: dot_text(alloc, &names, &table)?,
-        }),
-        Err(fault) => refuse_table(alloc, fault),
+    let rows = table.rows.items();
+    let mut text = Vec::new(alloc);
+    text.extend_from_slice(b"digraph rows {\n  node [shape=box];\n")?;
+    push_entries(
+        alloc,
+        &mut text,
+        table.params.items(),
+        table.states.items(),
+        rows.len() as u64,
+    )?;
+    push_rows(alloc, &mut text, names, rows)?;
+    text.extend_from_slice(b"}\n")?;
+    Ok(text)
+}
+
+fn push_rows(
+    alloc: Global,
+    text: &mut Vec<u8>,
+    names: &Names,
+    rows: &[TableRow],
+) -> Result<(), Memory>
+    requires { All (RowIsNamed names.now) rows.now }
+    ensures { OnOk result (text.new.items ≡ text.old.items ++ rows_text names.now 0 rows.now) }
+{
+    for (number, row) in rows.iter().enumerate() {
+        push_row(alloc, text, names, number as u64, row)?;
     }
+    Ok(())
 }

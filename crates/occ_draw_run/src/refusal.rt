@@ -1,22 +1,19 @@
 //! What refuses a text, or a step of a script.
 
 ghost use Rattle.std.specs.Prelude.{◌≡◌, ◌≢◌, codes, IfOk};
-ghost use Rattle.occ_behaviour.specs.declared.behaviour.Side.TheVariants as side;
+ghost use Rattle.occ_tool_run.specs.occ_behaviour.declared.behaviour.Side.TheVariants as side;
 ghost use Rattle.occ_draw_run.specs.Answers.{refused};
 ghost use Rattle.occ_draw_run.specs.Refusals.{lack_text, step_refusal_text};
 ghost use Rattle.occ_draw_run.specs.Replies.{told_by};
-ghost use Rattle.occ_nform_table.specs.declared.table.TableFault.TheVariants as table;
-ghost use Rattle.occ_script.specs.declared.fault.ScriptFault.TheVariants as script;
+ghost use Rattle.occ_tool_run.specs.occ_nform_table.declared.table.TableFault.TheVariants as table;
+ghost use Rattle.occ_tool_run.specs.occ_script.declared.fault.ScriptFault.TheVariants as script;
 ghost use Rattle.occ_tool_run.specs.Texts.{refusal_text, script_refusal_text, table_refusal_text, ScriptFaultIsTold};
 
+use crate::Lack;
 use crate::top::Reply;
 use itoa::Buffer;
-use occ_base::Memory;
-use occ_behaviour::Side;
-use occ_draw_steps::Lack;
-use occ_nform_table::TableFault;
-use occ_script::ScriptFault;
 use occ_tool_run::refusal::{script_refusal, table_refusal, too_long};
+use occ_tool_run::{Memory, ScriptFault, Side, TableFault};
 use std::alloc::Global;
 
 /// Refuses a text of too many bytes.

@@ -6,10 +6,9 @@ ghost use Rattle.occ_draw_run.specs.declared.top.Stop.TheVariants.{Memory as NoM
 ghost use Rattle.occ_draw_run.specs.Replies.{AsksFor, CountsStop, told_by};
 
 use crate::refusal::refuse_length;
-use crate::telling::tell;
+use crate::run_telling::tell;
 use crate::word::file_word;
-use occ_base::Memory;
-use occ_desk::{Desk, ReadError, send};
+use occ_tool_run::{Desk, Memory, ReadError, send};
 use std::alloc::Global;
 use thiserror::Error;
 

@@ -1,21 +1,21 @@
 -- An expansion asks for nothing that a law doesn't make: what its wishes ask for is always there.
 use Rattle.std.proofs.Common.{◌≡◌, ◌∙◌, ℕ, true, false, ◌&&◌, List, [], ◌∷◌, ◌++◌, append-nil, Some, refl, sym, ap, subst}
 use Rattle.std.proofs.lemmas.Bool.{and_parts}
-use Rattle.occ_base.specs.declared.names.Name.{Name}
+use Rattle.occ_script_write.specs.occ_base.declared.names.Name.{Name}
 use Rattle.occ_engine.proofs.Keeping.{expansion_kept, input_alt_kept, output_alt_kept, seq_alt_kept, skip_alt_kept}
 use Rattle.occ_engine.proofs.Reaching.{Goes, IsReached, and_goes, at_end, goes_on, reached}
-use Rattle.occ_engine_rules.specs.Expansion.{Grants, alt_skip as alt_skip_number, expanding, forward, io_alt, par_expand as par_expand_number, preparing, seq_alt as seq_alt_number, sequencing, wrapping}
-use Rattle.occ_engine_rules.specs.Moves.{IsApplied, Move, Wish}
-use Rattle.occ_law_rules.specs.Choice.{alt_skip, and_skip}
-use Rattle.occ_law_rules.specs.Parallel.{expanded, par_expand}
-use Rattle.occ_law_rules.specs.Sequence.{IoAlt, SeqAlt, each_branch_before, input_alt, output_alt, seq_alt}
-use Rattle.occ_law_rules.specs.Table.{DIRECT_SIDES, IsDirect, is_before}
-use Rattle.occ_meaning.proofs.Places.{part_keeps}
-use Rattle.occ_meaning.specs.Context.{part_at, put}
-use Rattle.occ_meaning.specs.Parallel.{two}
-use Rattle.occ_script_path.proofs.Scoping.{scopes}
-use Rattle.occ_script_path.specs.declared.direction.Direction.TheVariants as direction
-use Rattle.occ_script_path.specs.Places.{scope_list}
+use Rattle.occ_replay_rules.specs.Expansion.{Grants, alt_skip as alt_skip_number, expanding, forward, io_alt, par_expand as par_expand_number, preparing, seq_alt as seq_alt_number, sequencing, wrapping}
+use Rattle.occ_replay_rules.specs.Moves.{IsApplied, Move, Wish}
+use Rattle.occ_script_write.specs.occ_law.Choice.{alt_skip, and_skip}
+use Rattle.occ_script_write.specs.occ_law.Parallel.{expanded, par_expand}
+use Rattle.occ_script_write.specs.occ_law.Sequence.{IoAlt, SeqAlt, each_branch_before, input_alt, output_alt, seq_alt}
+use Rattle.occ_script_write.specs.occ_law.RuleTable.{DIRECT_SIDES, IsDirect, is_before}
+use Rattle.occ_script_write.proofs.from_meaning.Places.{part_keeps}
+use Rattle.occ_script_write.specs.occ_meaning.Context.{part_at, put}
+use Rattle.occ_script_write.specs.occ_meaning.Parallel.{two}
+use Rattle.occ_script_write.proofs.from_script_lines.Scoping.{scopes}
+use Rattle.occ_script_write.specs.occ_script_lines.declared.direction.Direction.TheVariants as direction
+use Rattle.occ_script_write.specs.occ_script_lines.Places.{scope_list}
 use Rattle.occ_syntax.specs.declared.scope.Kind.{Kind}
 use Rattle.occ_syntax.specs.Scopes.{environment}
 use Rattle.occ_syntax.specs.Tree.{Exp, truth, input, output, Tree, skip, stop, assign, receive, send, seq, par, select, alt, declare, connect, Trees, no_tree, and_tree, Branches, no_branch, and_branch}

@@ -2,7 +2,7 @@
 use Rattle.std.proofs.Common.{◌≡◌, ℕ, ◌+◌, ◌<◌, suc, add-one, List, [], ◌∷◌, ◌++◌, length, map, take, drop, get_or, None, Some, sym, ap, subst, ◌∙◌}
 use Rattle.std.proofs.lemmas.List.{map-append}
 use Rattle.std.proofs.lemmas.Option.{same_Some}
-use Rattle.occ_base.specs.declared.names.Name.{Name}
+use Rattle.occ_script_write.specs.occ_base.declared.names.Name.{Name}
 use Rattle.occ_engine.proofs.Expanding.{expansion_reached}
 use Rattle.occ_engine.proofs.Leading.{divided, taken_next}
 use Rattle.occ_engine.proofs.Putting.{admitted_rules}
@@ -17,21 +17,21 @@ use Rattle.occ_engine.specs.Granted.{AreCutOff, IsBrought, IsCutOff, IsNotGrante
 use Rattle.occ_engine.specs.Moved.{IsMoved, IsNotDirect, move_of, moves_of, wish_for}
 use Rattle.occ_engine.specs.Outcomes.{IsOutcome}
 use Rattle.occ_engine.specs.Wishes.{pair_of, wish_of}
-use Rattle.occ_engine_rules.proofs.Moving.{grants_moves}
-use Rattle.occ_engine_rules.specs.Expansion.{Grants, IsBlocked, IsNoPar, and_wish, expanding, no_wish}
-use Rattle.occ_engine_rules.specs.Moves.{IsApplied, IsGranted, Move, Wish}
-use Rattle.occ_law.specs.declared.table.LawId.{LawId}
-use Rattle.occ_meaning.proofs.Facts.{none_not_some, some_is}
-use Rattle.occ_meaning.specs.Context.{part_at, put}
-use Rattle.occ_meaning.specs.Parallel.{two}
-use Rattle.occ_script_path.specs.declared.direction.Direction.{Direction}
-use Rattle.occ_script_path.specs.Places.{scope_list}
+use Rattle.occ_replay_rules.proofs.Moving.{grants_moves}
+use Rattle.occ_replay_rules.specs.Expansion.{Grants, IsBlocked, IsNoPar, and_wish, expanding, no_wish}
+use Rattle.occ_replay_rules.specs.Moves.{IsApplied, IsGranted, Move, Wish}
+use Rattle.occ_script_write.specs.occ_law.declared.table.LawId.{LawId}
+use Rattle.occ_script_write.proofs.from_meaning.Facts.{none_not_some, some_is}
+use Rattle.occ_script_write.specs.occ_meaning.Context.{part_at, put}
+use Rattle.occ_script_write.specs.occ_meaning.Parallel.{two}
+use Rattle.occ_script_write.specs.occ_script_lines.declared.direction.Direction.{Direction}
+use Rattle.occ_script_write.specs.occ_script_lines.Places.{scope_list}
 use Rattle.occ_script_write.specs.declared.writing.Done.{Done}
 use Rattle.occ_syntax.specs.declared.scope.Kind.{Kind}
 use Rattle.occ_syntax.specs.declared.scope.Program.{Program}
 use Rattle.occ_syntax.specs.Tree.{Tree, skip, stop, assign, receive, send, seq, par, select, alt, declare, connect, no_tree, and_tree}
 use Rattle.occ_syntax.specs.View.{tree}
-use Rattle.occ_usage.specs.Accepted.{IsAccepted, KeepsRules}
+use Rattle.occ_law_any.specs.occ_usage.Accepted.{IsAccepted, KeepsRules}
 
 -- ---- why a wish isn't granted
 

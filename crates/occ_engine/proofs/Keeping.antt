@@ -1,22 +1,22 @@
 -- The right sides of the laws that expand a PAR keep names, types, directions and usage where the left sides do.
 use Rattle.std.proofs.Common.{◌≡◌, ℕ, ◌==◌, Bool, true, false, true≢false, ◌&&◌, ◌||◌, List, Option, Some, if◌then◌else◌, refl, ap, sym, ◌∙◌, subst}
 use Rattle.std.proofs.lemmas.Bool.{and_from, and_parts, eqb-true, or_left, or_right}
-use Rattle.occ_base.specs.declared.event.Dir.TheVariants.{Input, Output}
-use Rattle.occ_base.specs.declared.width.Width.{Width}
-use Rattle.occ_base.specs.declared.width.Width.TheVariants.{Bool as TruthValue}
+use Rattle.occ_script_write.specs.occ_base.declared.event.Dir.TheVariants.{Input, Output}
+use Rattle.occ_script_write.specs.occ_base.declared.width.Width.{Width}
+use Rattle.occ_script_write.specs.occ_base.declared.width.Width.TheVariants.{Bool as TruthValue}
 use Rattle.occ_syntax.specs.declared.expr.Op.TheVariants.{And}
-use Rattle.occ_meaning.proofs.Facts.{agreed, and_four}
-use Rattle.occ_meaning.specs.Parallel.{one, two}
+use Rattle.occ_script_write.proofs.from_meaning.Facts.{agreed, and_four}
+use Rattle.occ_script_write.specs.occ_meaning.Parallel.{one, two}
 use Rattle.occ_syntax.specs.Names.{end_in_branches, end_in_waiting, free, free_in_branches, free_in_waiting, names, uses_end, written, written_in_branches, written_in_waiting}
 use Rattle.occ_syntax.specs.Scopes.{Environment, allows, channel_width, variable_width}
 use Rattle.occ_syntax.specs.Tree.{Exp, operation, truth, Waiting, ready, input, output, Tree, skip, receive, send, seq, par, alt, Trees, no_tree, and_tree, Branches, no_branch, and_branch}
 use Rattle.occ_syntax.specs.Types.{agree, all_types_kept, branches_kept, input_kept, is_condition, output_kept, type_of, type_of_two, types_kept, waiting_kept}
 use Rattle.occ_syntax.specs.Usage.{AllKeepUsage, BranchesKeepUsage, IsSeparate, Keeps, KeepsUsage}
-use Rattle.occ_usage_local.specs.Local.{UsesNoMore}
-use Rattle.occ_law_rules.specs.Lists.{all_branches}
-use Rattle.occ_law_rules.specs.Choice.{and_skip}
-use Rattle.occ_law_rules.specs.Sequence.{each_branch_before}
-use Rattle.occ_law_rules.specs.Parallel.{ParExpand, both_go, first_goes, meeting, meetings, meetings_of, par_expand, second_goes}
+use Rattle.occ_law_any.specs.occ_usage.Local.{UsesNoMore}
+use Rattle.occ_script_write.specs.occ_law.Lists.{all_branches}
+use Rattle.occ_script_write.specs.occ_law.Choice.{and_skip}
+use Rattle.occ_script_write.specs.occ_law.Sequence.{each_branch_before}
+use Rattle.occ_script_write.specs.occ_law.Parallel.{ParExpand, both_go, first_goes, meeting, meetings, meetings_of, par_expand, second_goes}
 
 itself : (p : Tree) → UsesNoMore p p
 itself p = record { frees = λ x h. h; writes = λ x h. h; ends = λ c d h. h }

@@ -1,15 +1,15 @@
 -- Orders that are followed one after the other.
 use Rattle.std.proofs.Common.{◌≡◌, ℕ, ◌+◌, ◌<◌, zero, suc, add-one, arith, List, [], ◌∷◌, ◌++◌, length, map, take, drop, get_or, sym, ap, subst, ◌∙◌}
-use Rattle.occ_base.specs.declared.names.Name.{Name}
+use Rattle.occ_script_write.specs.occ_base.declared.names.Name.{Name}
 use Rattle.occ_engine.specs.declared.fault.Stopped.{Stopped}
 use Rattle.occ_engine.specs.declared.fault.Stopped.TheVariants as stopped
 use Rattle.occ_engine.specs.declared.moving.Moved.{Moved}
 use Rattle.occ_engine.specs.Moved.{IsNotTaken, IsTaken, move_of, moves_of, order_of}
 use Rattle.occ_engine.specs.Outcomes.{AreStopped, IsLed, fault_of}
-use Rattle.occ_engine_rules.specs.Moves.{Move}
-use Rattle.occ_engine_rules.specs.Orders.{Fails, Follows, IsFollowed, Lack, Order, Stops, and_order, no_law, no_order, no_path, not_accepted, not_applicable}
+use Rattle.occ_replay_rules.specs.Moves.{Move}
+use Rattle.occ_replay_rules.specs.Orders.{Fails, Follows, IsFollowed, Lack, Order, Stops, and_order, no_law, no_order, no_path, not_accepted, not_applicable}
 use Rattle.occ_engine.proofs.Putting.{admitted_rules}
-use Rattle.occ_meaning.specs.Context.{put}
+use Rattle.occ_script_write.specs.occ_meaning.Context.{put}
 use Rattle.std.proofs.lemmas.List.{length-map, length-take-le, map-append}
 use Rattle.std.proofs.Math.Seq.{take-suc}
 use Rattle.occ_script.specs.declared.script.Order.{Order as Read}
@@ -18,7 +18,7 @@ use Rattle.occ_syntax.specs.declared.scope.Kind.{Kind}
 use Rattle.occ_syntax.specs.declared.scope.Program.{Program}
 use Rattle.occ_syntax.specs.Tree.{Tree}
 use Rattle.occ_syntax.specs.View.{tree}
-use Rattle.occ_usage.specs.Accepted.{KeepsRules}
+use Rattle.occ_law_any.specs.occ_usage.Accepted.{KeepsRules}
 
 -- ---- lists as they are gone through
 

@@ -1,11 +1,11 @@
 -- A part put in: when it may be, and what move that is.
 use Rattle.std.proofs.Common.{◌≡◌, ℕ, true, List, Some, sym, ap, subst, ◌∙◌}
-use Rattle.occ_base.specs.declared.names.Name.{Name}
-use Rattle.occ_engine_rules.specs.Moves.{IsAdmitted}
-use Rattle.occ_meaning.proofs.Places.{part_keeps, put_scope, put_there}
-use Rattle.occ_meaning.specs.Context.{environment_at, part_at, put}
-use Rattle.occ_script_path.proofs.Scoping.{scopes}
-use Rattle.occ_script_path.specs.Places.{IsPutIn, scope_list}
+use Rattle.occ_script_write.specs.occ_base.declared.names.Name.{Name}
+use Rattle.occ_replay_rules.specs.Moves.{IsAdmitted}
+use Rattle.occ_script_write.proofs.from_meaning.Places.{part_keeps, put_scope, put_there}
+use Rattle.occ_script_write.specs.occ_meaning.Context.{environment_at, part_at, put}
+use Rattle.occ_script_write.proofs.from_script_lines.Scoping.{scopes}
+use Rattle.occ_script_write.specs.occ_script_lines.Places.{IsPutIn, scope_list}
 use Rattle.occ_syntax.specs.declared.scope.Kind.{Kind}
 use Rattle.occ_syntax.specs.declared.scope.Program.{Program}
 use Rattle.occ_syntax.specs.Scopes.{environment}
@@ -13,8 +13,8 @@ use Rattle.occ_syntax.specs.Tree.{Tree}
 use Rattle.occ_syntax.specs.Types.{scope_kept}
 use Rattle.occ_syntax.specs.Usage.{Keeps}
 use Rattle.occ_syntax.specs.View.{tree}
-use Rattle.occ_usage.specs.Accepted.{KeepsRules}
-use Rattle.occ_usage_local.specs.Local.{IsExchanged}
+use Rattle.occ_law_any.specs.occ_usage.Accepted.{KeepsRules}
+use Rattle.occ_law_any.specs.occ_usage.Local.{IsExchanged}
 
 -- ---- when a part may be put in
 

@@ -2,19 +2,19 @@
 use Rattle.std.proofs.Common.{◌≡◌, ℕ, zero, suc, ◌==◌, ◌≤◌, nat_le, arith, Bool, true, false, MatchBool, List, [], ◌∷◌, refl, sym, subst}
 use Rattle.std.specs.List.{AllByRecursion}
 use Rattle.std.proofs.lemmas.Bool.{eqb-true, leb-true}
-use Rattle.occ_base.specs.declared.names.Name.{Name}
+use Rattle.occ_script_write.specs.occ_base.declared.names.Name.{Name}
 use Rattle.occ_engine.specs.Moved.{moves_of}
 use Rattle.occ_engine.specs.Outcomes.{IsLed, IsOutcome, IsTabled}
 use Rattle.occ_engine.specs.declared.outcome.Outcome.{Outcome}
-use Rattle.occ_engine_rules.proofs.Moving.{follows_moves}
-use Rattle.occ_engine_rules.specs.Moves.{IsMove, Move, Moves, and_move}
-use Rattle.occ_engine_rules.specs.Orders.{Order}
-use Rattle.occ_law_rules.specs.Scope.{ScopeSides}
-use Rattle.occ_law_rules.specs.Table.{SIDES}
-use Rattle.occ_meaning.specs.Context.{put}
+use Rattle.occ_replay_rules.proofs.Moving.{follows_moves}
+use Rattle.occ_replay_rules.specs.Moves.{IsMove, Move, Moves, and_move}
+use Rattle.occ_replay_rules.specs.Orders.{Order}
+use Rattle.occ_script_write.specs.occ_law.Scope.{ScopeSides}
+use Rattle.occ_script_write.specs.occ_law.RuleTable.{SIDES}
+use Rattle.occ_script_write.specs.occ_meaning.Context.{put}
 use Rattle.occ_replay_rules.specs.Steps.{Joins}
-use Rattle.occ_script_path.specs.declared.direction.Direction.{Direction}
-use Rattle.occ_script_path.specs.declared.direction.Direction.TheVariants as direction
+use Rattle.occ_script_write.specs.occ_script_lines.declared.direction.Direction.{Direction}
+use Rattle.occ_script_write.specs.occ_script_lines.declared.direction.Direction.TheVariants as direction
 use Rattle.occ_script_write.specs.declared.writing.Done.{Done}
 use Rattle.occ_syntax.specs.declared.scope.Kind.{Kind}
 use Rattle.occ_syntax.specs.declared.scope.Program.{Program}

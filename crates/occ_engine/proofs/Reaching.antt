@@ -2,14 +2,14 @@
 use Rattle.std.proofs.Common.{◌≡◌, ◌∙◌, ℕ, true, List, [], ◌∷◌, ◌++◌, Option, Some, None, refl, sym, ap, subst}
 use Rattle.std.proofs.lemmas.Option.{same_Some}
 use Rattle.std.specs.Option.{option_and_then, option_map, unwrap_or}
-use Rattle.occ_base.specs.declared.names.Name.{Name}
-use Rattle.occ_engine_rules.specs.Expansion.{Grants, and_wish, no_wish}
-use Rattle.occ_engine_rules.specs.Moves.{IsApplied, IsGranted, Move, Wish}
-use Rattle.occ_meaning.proofs.Facts.{none_not_some, some_is}
-use Rattle.occ_meaning.proofs.Places.{part_keeps, put_scope, put_there}
-use Rattle.occ_meaning.specs.Context.{child, part_at, put, with_child}
-use Rattle.occ_script_path.proofs.Scoping.{scopes}
-use Rattle.occ_script_path.specs.Places.{declared_by, scope_list}
+use Rattle.occ_script_write.specs.occ_base.declared.names.Name.{Name}
+use Rattle.occ_replay_rules.specs.Expansion.{Grants, and_wish, no_wish}
+use Rattle.occ_replay_rules.specs.Moves.{IsApplied, IsGranted, Move, Wish}
+use Rattle.occ_script_write.proofs.from_meaning.Facts.{none_not_some, some_is}
+use Rattle.occ_script_write.proofs.from_meaning.Places.{part_keeps, put_scope, put_there}
+use Rattle.occ_script_write.specs.occ_meaning.Context.{child, part_at, put, with_child}
+use Rattle.occ_script_write.proofs.from_script_lines.Scoping.{scopes}
+use Rattle.occ_script_write.specs.occ_script_lines.Places.{declared_by, scope_list}
 use Rattle.occ_syntax.specs.declared.scope.Kind.{Kind}
 use Rattle.occ_syntax.specs.Scopes.{environment}
 use Rattle.occ_syntax.specs.Tree.{Tree, skip, stop, assign, receive, send, seq, par, select, alt, declare, connect}

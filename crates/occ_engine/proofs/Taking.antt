@@ -1,19 +1,19 @@
 -- An order that is followed by a move, or can't be.
 use Rattle.std.proofs.Common.{◌≡◌, List, Option, None, Some, sym, ap, subst, ◌∙◌}
-use Rattle.occ_base.specs.declared.names.Name.{Name}
+use Rattle.occ_script_write.specs.occ_base.declared.names.Name.{Name}
 use Rattle.occ_engine.specs.declared.fault.Stopped.{Stopped}
 use Rattle.occ_engine.specs.declared.fault.Stopped.TheVariants as stopped
 use Rattle.occ_engine.specs.declared.moving.Moved.{Moved}
 use Rattle.occ_engine.specs.Moved.{IsMoved, IsNotDirect, IsNotGiven, IsNotTaken, IsTaken, move_of, wish_for}
 use Rattle.occ_engine.specs.Resolved.{IsResolved, IsUnresolved}
-use Rattle.occ_engine_rules.specs.Moves.{IsAdmitted, IsGranted}
-use Rattle.occ_engine_rules.specs.Orders.{IsGiven, Order, direct_refused, given_refused, given_unjoined, no_direct, none_given, part_given}
-use Rattle.occ_law.specs.declared.table.LawId.{LawId}
-use Rattle.occ_meaning.specs.Context.{part_at}
-use Rattle.occ_parse_part.specs.Parts.{Part}
-use Rattle.occ_parse_part.specs.Resolving.{part_fault, part_process}
+use Rattle.occ_replay_rules.specs.Moves.{IsAdmitted, IsGranted}
+use Rattle.occ_replay_rules.specs.Orders.{IsGiven, Order, direct_refused, given_refused, given_unjoined, no_direct, none_given, part_given}
+use Rattle.occ_script_write.specs.occ_law.declared.table.LawId.{LawId}
+use Rattle.occ_script_write.specs.occ_meaning.Context.{part_at}
+use Rattle.occ_script.specs.occ_parse_part.Parts.{Part}
+use Rattle.occ_script.specs.occ_parse_part.Resolving.{part_fault, part_process}
 use Rattle.occ_replay_rules.specs.Steps.{Joins}
-use Rattle.occ_script_path.specs.Places.{scope_list}
+use Rattle.occ_script_write.specs.occ_script_lines.Places.{scope_list}
 use Rattle.occ_syntax.specs.declared.scope.Kind.{Kind}
 use Rattle.occ_syntax.specs.declared.scope.Program.{Program}
 use Rattle.occ_syntax.specs.Tree.{Tree}

@@ -1,11 +1,11 @@
 -- What a law makes of a part, as the code answers.
 use Rattle.std.specs.Prelude.{ℕ, List, Option, None, Some}
 use Rattle.std.specs.Borrow.{Bor}
-use Rattle.occ_base.specs.declared.names.Name.{Name}
+use Rattle.occ_script_write.specs.occ_base.declared.names.Name.{Name}
 use Rattle.occ_engine.specs.declared.fault.ApplyFault.{ApplyFault}
 use Rattle.occ_engine.specs.declared.fault.ApplyFault.TheVariants as fault
-use Rattle.occ_engine_rules.specs.Moves.{IsApplied}
-use Rattle.occ_script_path.specs.declared.direction.Direction.{Direction}
+use Rattle.occ_replay_rules.specs.Moves.{IsApplied}
+use Rattle.occ_script_write.specs.occ_script_lines.declared.direction.Direction.{Direction}
 use Rattle.occ_syntax.specs.declared.proc.Proc.{Proc}
 use Rattle.occ_syntax.specs.declared.scope.Kind.{Kind}
 use Rattle.occ_syntax.specs.Tree.{Tree}

@@ -1,9 +1,9 @@
 -- A part put into a program, where it may be.
 use Rattle.std.specs.Prelude.{ℕ, ◌≡◌, List, Option, None, Some}
 use Rattle.occ_engine.specs.declared.exchange.Exchange.{Exchange}
-use Rattle.occ_engine_rules.specs.Moves.{IsAdmitted}
-use Rattle.occ_meaning.specs.Context.{part_at}
-use Rattle.occ_script_path.specs.Places.{IsPutIn}
+use Rattle.occ_replay_rules.specs.Moves.{IsAdmitted}
+use Rattle.occ_script_write.specs.occ_meaning.Context.{part_at}
+use Rattle.occ_script_write.specs.occ_script_lines.Places.{IsPutIn}
 use Rattle.occ_syntax.specs.declared.scope.Program.{Program}
 use Rattle.occ_syntax.specs.Tree.{Tree}
 use Rattle.occ_syntax.specs.View.{tree}

@@ -1,16 +1,16 @@
 -- Wishes granted one after the other, and what an expansion comes to.
 use Rattle.std.specs.Prelude.{ℕ, ◌≡◌, List, ◌∷◌, ◌++◌, None, Some}
-use Rattle.occ_base.specs.declared.names.Name.{Name}
+use Rattle.occ_script_write.specs.occ_base.declared.names.Name.{Name}
 use Rattle.occ_engine.specs.declared.fault.EngineFault.{EngineFault}
 use Rattle.occ_engine.specs.declared.fault.EngineFault.TheVariants as fault
 use Rattle.occ_engine.specs.declared.fault.Stopped.{Stopped}
 use Rattle.occ_engine.specs.declared.fault.Stopped.TheVariants as stopped
 use Rattle.occ_engine.specs.declared.outcome.Outcome.{Outcome}
 use Rattle.occ_engine.specs.Moved.{moves_of}
-use Rattle.occ_engine_rules.specs.Expansion.{Grants, IsBlocked, IsExpanded, IsNoPar}
-use Rattle.occ_engine_rules.specs.Moves.{IsAdmitted, IsApplied, Move, Wish}
-use Rattle.occ_meaning.specs.Context.{part_at}
-use Rattle.occ_script_path.specs.Places.{scope_list}
+use Rattle.occ_replay_rules.specs.Expansion.{Grants, IsBlocked, IsExpanded, IsNoPar}
+use Rattle.occ_replay_rules.specs.Moves.{IsAdmitted, IsApplied, Move, Wish}
+use Rattle.occ_script_write.specs.occ_meaning.Context.{part_at}
+use Rattle.occ_script_write.specs.occ_script_lines.Places.{scope_list}
 use Rattle.occ_script_write.specs.declared.writing.Done.{Done}
 use Rattle.occ_syntax.specs.declared.scope.Kind.{Kind}
 use Rattle.occ_syntax.specs.declared.scope.Program.{Program}

@@ -3,15 +3,15 @@ use Rattle.std.specs.Prelude.{ℕ, ◌≡◌, List, map, Option, None, Some, opt
 use Rattle.occ_engine.specs.declared.fault.Stopped.{Stopped}
 use Rattle.occ_engine.specs.declared.fault.Stopped.TheVariants as stopped
 use Rattle.occ_engine.specs.declared.moving.Moved.{Moved}
-use Rattle.occ_engine_rules.specs.Moves.{IsAdmitted, IsApplied, IsGranted, Move, Wish}
-use Rattle.occ_engine_rules.specs.Orders.{Fails, IsFollowed, Order, no_law, no_path, not_accepted, not_applicable}
-use Rattle.occ_law.specs.declared.table.LawId.{LawId}
-use Rattle.occ_meaning.specs.Context.{part_at}
-use Rattle.occ_parse_part.specs.Shown.{part_of}
+use Rattle.occ_replay_rules.specs.Moves.{IsAdmitted, IsApplied, IsGranted, Move, Wish}
+use Rattle.occ_replay_rules.specs.Orders.{Fails, IsFollowed, Order, no_law, no_path, not_accepted, not_applicable}
+use Rattle.occ_script_write.specs.occ_law.declared.table.LawId.{LawId}
+use Rattle.occ_script_write.specs.occ_meaning.Context.{part_at}
+use Rattle.occ_script.specs.occ_parse_part.Shown.{part_of}
 use Rattle.occ_replay_rules.specs.Steps.{Joins}
 use Rattle.occ_script.specs.declared.script.Order.{Order as Read}
-use Rattle.occ_script_path.specs.declared.direction.Direction.{Direction}
-use Rattle.occ_script_path.specs.Places.{IsPutIn, scope_list}
+use Rattle.occ_script_write.specs.occ_script_lines.declared.direction.Direction.{Direction}
+use Rattle.occ_script_write.specs.occ_script_lines.Places.{IsPutIn, scope_list}
 use Rattle.occ_script_write.specs.declared.writing.Done.{Done}
 use Rattle.occ_syntax.specs.declared.scope.Program.{Program}
 use Rattle.occ_syntax.specs.Tree.{Tree}

@@ -7,8 +7,8 @@ use Rattle.occ_engine.specs.declared.fault.Stopped.{Stopped}
 use Rattle.occ_engine.specs.declared.fault.Stopped.TheVariants as stopped
 use Rattle.occ_engine.specs.declared.outcome.Outcome.{Outcome}
 use Rattle.occ_engine.specs.Moved.{moves_of}
-use Rattle.occ_engine_rules.specs.Moves.{Moves}
-use Rattle.occ_engine_rules.specs.Orders.{Follows, Order, Stops, no_law, no_path, not_accepted, not_applicable}
+use Rattle.occ_replay_rules.specs.Moves.{Moves}
+use Rattle.occ_replay_rules.specs.Orders.{Follows, Order, Stops, no_law, no_path, not_accepted, not_applicable}
 use Rattle.occ_script_write.specs.declared.writing.Done.{Done}
 use Rattle.occ_syntax.specs.declared.scope.Program.{Program}
 use Rattle.occ_syntax.specs.View.{tree}

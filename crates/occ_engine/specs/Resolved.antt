@@ -1,10 +1,10 @@
 -- The part of an order in the scope at its path.
 use Rattle.std.specs.Prelude.{◌≡◌, List, None}
-use Rattle.occ_base.specs.declared.names.Name.{Name}
+use Rattle.occ_script_write.specs.occ_base.declared.names.Name.{Name}
 use Rattle.occ_engine.specs.declared.fault.Stopped.{Stopped}
 use Rattle.occ_engine.specs.declared.fault.Stopped.TheVariants as stopped
-use Rattle.occ_parse_part.specs.Parts.{Part}
-use Rattle.occ_parse_part.specs.Resolving.{part_fault, part_process}
+use Rattle.occ_script.specs.occ_parse_part.Parts.{Part}
+use Rattle.occ_script.specs.occ_parse_part.Resolving.{part_fault, part_process}
 use Rattle.occ_syntax.specs.declared.scope.Kind.{Kind}
 use Rattle.occ_syntax.specs.Tree.{Tree}
 

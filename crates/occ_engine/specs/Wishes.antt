@@ -2,8 +2,8 @@
 use Rattle.std.specs.Prelude.{◌≡◌, List, map, Option, None, Some, option_map}
 use Rattle.std.specs.Borrow.{Bor}
 use Rattle.occ_engine.specs.declared.wishes.Wish.{Wish as Asked}
-use Rattle.occ_engine_rules.specs.Moves.{Wish}
-use Rattle.occ_law_rules.specs.Choice.{and_skip}
+use Rattle.occ_replay_rules.specs.Moves.{Wish}
+use Rattle.occ_script_write.specs.occ_law.Choice.{and_skip}
 use Rattle.occ_syntax.specs.declared.proc.Proc.{Proc}
 use Rattle.occ_syntax.specs.Tree.{Tree, skip, stop, assign, receive, send, seq, par, select, alt, declare, connect, Trees, no_tree, and_tree, no_branch}
 use Rattle.occ_syntax.specs.View.{tree}

@@ -9,12 +9,8 @@ ghost use Rattle.occ_syntax.specs.Usage.{Keeps};
 ghost use Rattle.occ_syntax.specs.View.{tree};
 
 use crate::ApplyFault;
-use occ_base::Memory;
-use occ_dd::Store;
-use occ_law::LawId;
-use occ_law_direct::direct;
-use occ_law_holds::holds;
-use occ_script_path::Direction;
+use occ_law_any::{direct, holds};
+use occ_script_write::{Direction, LawId, Memory, Store};
 use occ_syntax::{Proc, Scope};
 use std::alloc::Global;
 

@@ -2,16 +2,14 @@
 
 ghost use Rattle.std.specs.Prelude.{◌≡◌, IfOk, IsSome};
 ghost use Rattle.occ_engine.specs.Exchanged.{IsExchange};
-ghost use Rattle.occ_meaning.specs.Context.{part_at};
-ghost use Rattle.occ_script_path.specs.Places.{scope_list};
+ghost use Rattle.occ_script_write.specs.occ_meaning.Context.{part_at};
+ghost use Rattle.occ_script_write.specs.occ_script_lines.Places.{scope_list};
 ghost use Rattle.occ_syntax.specs.View.{tree};
-ghost use Rattle.occ_usage.specs.Accepted.{KeepsRules};
+ghost use Rattle.occ_law_any.specs.occ_usage.Accepted.{KeepsRules};
 
-use occ_base::Memory;
-use occ_print::line_tokens;
-use occ_script_path::{Path, replace};
+use occ_law_any::keeps_exchanged;
+use occ_script_write::{Memory, Path, line_tokens, replace};
 use occ_syntax::{Proc, Program, Scope};
-use occ_usage_local::keeps_exchanged;
 use std::alloc::Global;
 
 /// The most tokens that a line of a text may have.

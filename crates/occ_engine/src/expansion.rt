@@ -6,16 +6,15 @@ ghost use Rattle.occ_engine.specs.Moved.{IsMoved};
 ghost use Rattle.occ_engine.specs.Outcomes.{IsOutcome};
 ghost use Rattle.occ_engine.specs.Wishes.{wish_of, wishes_of};
 ghost use Rattle.occ_syntax.specs.View.{tree};
-ghost use Rattle.occ_usage.specs.Accepted.{KeepsRules};
+ghost use Rattle.occ_law_any.specs.occ_usage.Accepted.{KeepsRules};
 
 use crate::fault::Stopped;
 use crate::moving::{Moved, Use, direct, given};
 use crate::wishes::{Wish, expanding, pair};
 use crate::{Dones, EngineFault, Outcome};
-use occ_dd::Store;
-use occ_script_path::{Path, at, scope_at};
+use occ_law_any::Accepted;
+use occ_script_write::{Path, Store, at, scope_at};
 use occ_syntax::Program;
-use occ_usage::Accepted;
 use std::alloc::Global;
 
 /// The program to which a wish leads, and the step that grants it.

@@ -4,20 +4,17 @@ ghost use Rattle.std.specs.Prelude.{◌≡◌, ◌<◌, IfErr, IfOk, length};
 ghost use Rattle.occ_engine.specs.Moved.{IsNotTaken, IsTaken, order_of, orders_of};
 ghost use Rattle.occ_engine.specs.Outcomes.{AreStopped, IsLedOut, IsOutcome, fault_of};
 ghost use Rattle.occ_engine.specs.Resolved.{IsResolved, IsUnresolved};
-ghost use Rattle.occ_parse_part.specs.Shown.{part_of};
+ghost use Rattle.occ_script.specs.occ_parse_part.Shown.{part_of};
 ghost use Rattle.occ_syntax.specs.View.{tree};
-ghost use Rattle.occ_usage.specs.Accepted.{KeepsRules};
+ghost use Rattle.occ_law_any.specs.occ_usage.Accepted.{KeepsRules};
 
 use crate::fault::Stopped;
 use crate::moving::{Moved, Use, direct, given};
 use crate::{Dones, EngineFault, Outcome};
-use occ_dd::Store;
-use occ_parse::ParseFault;
-use occ_parse_part::{Raw, resolve};
-use occ_script::Order;
-use occ_script_path::{at, scope_at};
+use occ_law_any::Accepted;
+use occ_script::{Order, ParseFault, Raw, resolve};
+use occ_script_write::{Store, at, scope_at};
 use occ_syntax::{Proc, Program, Scope};
-use occ_usage::Accepted;
 use std::alloc::Global;
 
 /// The part of an order as a process of the scope at its path.

@@ -8,12 +8,13 @@ mod fault;
 mod following;
 mod moving;
 mod outcome;
-mod steps;
 mod wishes;
 
 pub use applying::apply;
 pub use expansion::expand;
 pub use fault::{ApplyFault, EngineFault};
 pub use following::transform;
+pub use occ_law_any::{Accepted, holds, keeps_exchanged};
+pub use occ_replay_rules::laws_are_sound;
+pub use occ_script_write::{Done, LawId, Store};
 pub use outcome::{Dones, Outcome};
-pub use steps::follow_steps;

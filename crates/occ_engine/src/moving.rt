@@ -3,20 +3,16 @@
 ghost use Rattle.std.specs.Prelude.{◌≡◌, IfErr, IfOk, IsSome, None, Some};
 ghost use Rattle.occ_engine.specs.Exchanged.{IsIn};
 ghost use Rattle.occ_engine.specs.Moved.{IsMoved, IsNotDirect, IsNotGiven, move_of, wish_for};
-ghost use Rattle.occ_meaning.specs.Context.{part_at};
-ghost use Rattle.occ_script_path.specs.Places.{scope_list};
+ghost use Rattle.occ_script_write.specs.occ_meaning.Context.{part_at};
+ghost use Rattle.occ_script_write.specs.occ_script_lines.Places.{scope_list};
 ghost use Rattle.occ_syntax.specs.View.{tree};
-ghost use Rattle.occ_usage.specs.Accepted.{KeepsRules};
+ghost use Rattle.occ_law_any.specs.occ_usage.Accepted.{KeepsRules};
 
 use crate::ApplyFault;
 use crate::applying::{apply, joins};
 use crate::exchange::{Exchange, exchanged};
 use crate::fault::Stopped;
-use occ_base::Memory;
-use occ_dd::Store;
-use occ_law::LawId;
-use occ_script_path::{Direction, Path, at};
-use occ_script_write::Done;
+use occ_script_write::{Direction, Done, LawId, Memory, Path, Store, at};
 use occ_syntax::{Proc, Program, Scope};
 use std::alloc::Global;
 

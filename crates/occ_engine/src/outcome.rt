@@ -1,5 +1,4 @@
-use occ_base::List;
-use occ_script_write::Done;
+use occ_script_write::{Done, List};
 use occ_syntax::Program;
 
 /// Steps that were taken, in order.

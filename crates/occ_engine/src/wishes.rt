@@ -2,14 +2,12 @@
 
 ghost use Rattle.std.specs.Prelude.{◌≡◌, ◌∷◌, ◌++◌, [], IfOk, OnOk};
 ghost use Rattle.occ_engine.specs.Wishes.{IsPair, pair_of, two_in, wishes_of, wrapped_tree};
-ghost use Rattle.occ_engine_rules.specs.Expansion.{expanding, forward, preparing, sequencing, wrapping};
+ghost use Rattle.occ_replay_rules.specs.Expansion.{expanding, forward, preparing, sequencing, wrapping};
 ghost use Rattle.occ_syntax.specs.Tree.{alt, seq};
 ghost use Rattle.occ_syntax.specs.View.{branches, in_alternatives, tree, trees};
 
-use occ_base::{List, Memory};
-use occ_law::LawId;
-use occ_law_shape::{Form, opened};
-use occ_script_path::{Direction, Path};
+use occ_law_any::{Form, opened};
+use occ_script_write::{Direction, LawId, List, Memory, Path};
 use occ_syntax::{Alternatives, Expr, Guard, Proc, Wait};
 use std::alloc::Global;
 
@@ -85,7 +83,7 @@ fn push_forward(wishes: &mut List<Wish>, law: LawId, path: Path) -> Result<(), M
 }
 
 /// The ALT of alternatives.
-#[tactic(auto, unfolding(occ_syntax::specs::View::tree))]
+#[tactic(auto, unfolding(crate::specs::tree))]
 fn alt_of(alternatives: Alternatives) -> Proc
     ensures { tree result ≡ alt (branches (in_alternatives alternatives)) }
 {
@@ -140,7 +138,7 @@ fn push_begun(alloc: Global, wishes: &mut List<Wish>, path: &Path) -> Result<(),
 }
 
 /// Asks for a SEQ to be made an ALT.
-#[tactic(auto, unfolding(occ_syntax::specs::View::tree))]
+#[tactic(auto, unfolding(crate::specs::tree))]
 fn push_sequencing(
     alloc: Global,
     wishes: &mut List<Wish>,

@@ -1,19 +1,19 @@
 -- A law's direct result declares no name that its left side doesn't declare.
 use Rattle.std.proofs.Common.{◌≡◌, ℕ, ◌==◌, nat_le, Bool, true, false, true≢false, cond, ◌&&◌, List, [], ◌∷◌, MatchBool, refl, sym, ap, ◌∙◌}
 use Rattle.std.proofs.lemmas.Bool.{and_parts, and_from, eqb-true}
-use Rattle.occ_base.specs.declared.names.Name.{Name}
-use Rattle.occ_base.specs.declared.width.Width.{Width}
-use Rattle.occ_law_rules.specs.Choice.{AltCase, AltFalse, AltFlat, AltLeast, AltNone, AltSame, AltSkip, AltSlide, AltSplit, AltTwice, ChoiceSides, IfCut, IfElseStop, IfFalse, IfMerge, IfNest, IfNone, IfSwap, IfTrue, alt_case, alt_false, alt_flat, alt_least, alt_none, alt_same, alt_skip, alt_slide, alt_split, alt_twice, and_skip, each_case_under, if_cut, if_else_stop, if_false, if_merge, if_nest, if_none, if_swap, if_true}
-use Rattle.occ_law_rules.specs.Lists.{all_branches, all_cases, assigned_without, assignment, names_without, values_without}
-use Rattle.occ_law_rules.specs.Parallel.{ParAssign, ParExpand, ParFlat, ParIf, ParNone, ParOne, ParSkip, ParStop, ParallelSides, both_go, each_case_beside, first_goes, meeting, meetings, meetings_of, par_assign, par_expand, par_flat, par_if, par_none, par_one, par_skip, par_stop, second_goes}
-use Rattle.occ_law_rules.specs.Scope.{ChanAlt, ChanIf, ChanPar, ChanSeq, ChanSwap, ChanUnused, ScopeSides, VarAlt, VarAny, VarAssign, VarEnd, VarFirst, VarIf, VarLast, VarPar, VarSwap, VarUnused, chan_alt, chan_if, chan_par, chan_seq, chan_swap, chan_unused, each_branch_declaring, each_case_connecting, each_case_declaring, each_value, is_on, swap_variables, swap_with_channel, values_of, var_alt, var_any, var_assign, var_end, var_first, var_if, var_last, var_par, var_unused, without_channel}
-use Rattle.occ_law_rules.specs.Sequence.{AssignAlt, AssignId, AssignIf, AssignJoin, IoAlt, SeqAlt, SeqFlat, SeqIf, SeqNone, SeqOne, SeqSkip, SeqStop, SequenceSides, assign_alt, assign_id, assign_if, assign_join, assigned_behind, each_assigned, each_branch_before, each_case_before, each_guard_assigned, input_alt, output_alt, seq_alt, seq_flat, seq_if, seq_none, seq_one, seq_skip, seq_stop}
-use Rattle.occ_law_rules.specs.Table.{IsDirect, SIDES, has_direct}
-use Rattle.occ_meaning.proofs.Facts.{either}
-use Rattle.occ_meaning.specs.Parallel.{all_of, one, two}
-use Rattle.occ_parse.specs.Known.{all_declare, branches_declare, cases_declare, declares}
-use Rattle.occ_syntax.specs.declared.scope.Kind.{Kind}
-use Rattle.occ_syntax.specs.Tree.{Exp, Waiting, ready, input, output, Tree, skip, stop, assign, seq, par, select, alt, declare, connect, Trees, no_tree, and_tree, Cases, no_case, and_case, Branches, no_branch, and_branch}
+use Rattle.occ_engine.specs.occ_base.declared.names.Name.{Name}
+use Rattle.occ_engine.specs.occ_base.declared.width.Width.{Width}
+use Rattle.occ_engine.specs.occ_law.Choice.{AltCase, AltFalse, AltFlat, AltLeast, AltNone, AltSame, AltSkip, AltSlide, AltSplit, AltTwice, ChoiceSides, IfCut, IfElseStop, IfFalse, IfMerge, IfNest, IfNone, IfSwap, IfTrue, alt_case, alt_false, alt_flat, alt_least, alt_none, alt_same, alt_skip, alt_slide, alt_split, alt_twice, and_skip, each_case_under, if_cut, if_else_stop, if_false, if_merge, if_nest, if_none, if_swap, if_true}
+use Rattle.occ_engine.specs.occ_law.Lists.{all_branches, all_cases, assigned_without, assignment, names_without, values_without}
+use Rattle.occ_engine.specs.occ_law.Parallel.{ParAssign, ParExpand, ParFlat, ParIf, ParNone, ParOne, ParSkip, ParStop, ParallelSides, both_go, each_case_beside, first_goes, meeting, meetings, meetings_of, par_assign, par_expand, par_flat, par_if, par_none, par_one, par_skip, par_stop, second_goes}
+use Rattle.occ_engine.specs.occ_law.Scope.{ChanAlt, ChanIf, ChanPar, ChanSeq, ChanSwap, ChanUnused, ScopeSides, VarAlt, VarAny, VarAssign, VarEnd, VarFirst, VarIf, VarLast, VarPar, VarSwap, VarUnused, chan_alt, chan_if, chan_par, chan_seq, chan_swap, chan_unused, each_branch_declaring, each_case_connecting, each_case_declaring, each_value, is_on, swap_variables, swap_with_channel, values_of, var_alt, var_any, var_assign, var_end, var_first, var_if, var_last, var_par, var_unused, without_channel}
+use Rattle.occ_engine.specs.occ_law.Sequence.{AssignAlt, AssignId, AssignIf, AssignJoin, IoAlt, SeqAlt, SeqFlat, SeqIf, SeqNone, SeqOne, SeqSkip, SeqStop, SequenceSides, assign_alt, assign_id, assign_if, assign_join, assigned_behind, each_assigned, each_branch_before, each_case_before, each_guard_assigned, input_alt, output_alt, seq_alt, seq_flat, seq_if, seq_none, seq_one, seq_skip, seq_stop}
+use Rattle.occ_engine.specs.occ_law.RuleTable.{IsDirect, SIDES, has_direct}
+use Rattle.occ_engine.proofs.from_meaning.Facts.{either}
+use Rattle.occ_engine.specs.occ_meaning.Parallel.{all_of, one, two}
+use Rattle.occ_engine.specs.occ_parse.Known.{all_declare, branches_declare, cases_declare, declares}
+use Rattle.occ_engine.specs.occ_syntax.declared.scope.Kind.{Kind}
+use Rattle.occ_engine.specs.occ_syntax.Tree.{Exp, Waiting, ready, input, output, Tree, skip, stop, assign, seq, par, select, alt, declare, connect, Trees, no_tree, and_tree, Cases, no_case, and_case, Branches, no_branch, and_branch}
 
 -- a law that has no direct result is passed over
 passed : (P : Type 0) (b : Bool) {Q R : Type 0} → (b ≡ true → ⊥) → (Q → R) → MatchBool b P Q → R

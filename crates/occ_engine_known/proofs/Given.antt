@@ -3,48 +3,48 @@ use Rattle.std.proofs.Common.{◌≡◌, ℕ, zero, suc, ◌+◌, ◌<◌, ◌�
 use Rattle.std.specs.List.{AllByRecursion, concat}
 use Rattle.std.specs.Option.{option_map}
 use Rattle.std.proofs.lemmas.Bool.{cases_lt, lt-ltb, ltb-true}
-use Rattle.occ_base.specs.declared.names.Name.{Name}
+use Rattle.occ_engine.specs.occ_base.declared.names.Name.{Name}
 use Rattle.occ_engine.specs.Moved.{orders_of}
 use Rattle.occ_engine_known.specs.Given.{AllGiveBelow}
 use Rattle.occ_engine_known.proofs.Standing.{good, slot_stands}
-use Rattle.occ_engine_rules.specs.Orders.{IsGiven, none_given, part_given}
-use Rattle.occ_lex.specs.declared.token.Line.{Line}
-use Rattle.occ_lex.specs.Placed.{IsLineOf as IsTextLine}
-use Rattle.occ_lex.specs.Rows.{rows}
-use Rattle.occ_lex.proofs.Placing.{concat-rows}
-use Rattle.occ_lex_symbols.specs.Symbols.{Extends, with_names_of_all}
-use Rattle.occ_lex_symbols.proofs.Interned.{extends_all, extends_eq, extends_same, extends_trans, longer}
-use Rattle.occ_parse.specs.Known.{declares, is_below}
-use Rattle.occ_parse.proofs.Knowing.{EachLine, IsLineOf, each_map, each_of_lines, line_passes, line_small, name_known}
-use Rattle.occ_parse.proofs.Places.{HasElement, HasPlace, all_brought_in, are_known, forest_all, lines_places, places_extend}
-use Rattle.occ_parse.proofs.Small.{shape_small}
-use Rattle.occ_parse.proofs.Texts.{in_table}
-use Rattle.occ_parse_part.specs.Arrays.{array_names, arrays_of}
-use Rattle.occ_parse_part.specs.Elements.{Elements, element_count, elements_in, no_elements, numbers, row_in, row_number, with_arrays, with_arrays_in, with_row}
-use Rattle.occ_parse_part.specs.Parts.{IsPart}
-use Rattle.occ_parse_part.specs.Resolving.{scope_of}
-use Rattle.occ_parse_part.specs.Shown.{elements_of, lines_of, part_of}
-use Rattle.occ_parse_part.specs.declared.raw.Raw.{Raw}
-use Rattle.occ_parse_part.proofs.Counted.{count_is}
-use Rattle.occ_parse_part.proofs.Known.{arrays_known, lines_are_of}
-use Rattle.occ_parse_reading.specs.declared.bound.Bound.{Bound}
-use Rattle.occ_parse_reading.specs.Reading.{IsRead, names_in}
-use Rattle.occ_parse_rules.specs.Forest.{Forest, Laid, lines_at}
-use Rattle.occ_parse_rules.specs.Places.{Place, Sorts, elements_from}
-use Rattle.occ_parse_rules.specs.Unrolled.{slot_process}
-use Rattle.occ_parse_reading.specs.Drafts.{header_below, header_params}
-use Rattle.occ_parse_sound.specs.Agreement.{Has}
-use Rattle.occ_parse_sound.specs.Passing.{shape_passes}
-use Rattle.occ_parse_unroll.specs.Elements.{program_places, with_places}
-use Rattle.occ_parse_unroll.specs.Numbers.{number_in}
-use Rattle.occ_script.specs.declared.script.Order.{Order}
-use Rattle.occ_script.specs.Lines.{named_in}
-use Rattle.occ_script.specs.Orders.{AreOrders, IsOrders, IsPartThere, and_order, no_order}
-use Rattle.occ_script_lines.specs.Sections.{Section, reading_in, upto}
-use Rattle.occ_script_lines.proofs.Placing.{lines_placed}
-use Rattle.occ_syntax.specs.declared.scope.Kind.{Kind}
-use Rattle.occ_syntax.specs.Tree.{Tree}
-use Rattle.occ_syntax.specs.View.{numbers as numbers_of}
+use Rattle.occ_engine.specs.occ_replay_rules.Orders.{IsGiven, none_given, part_given}
+use Rattle.occ_engine.specs.occ_lex.declared.token.Line.{Line}
+use Rattle.occ_engine.specs.occ_lex.Placed.{IsLineOf as IsTextLine}
+use Rattle.occ_engine.specs.occ_lex.Rows.{rows}
+use Rattle.occ_engine.proofs.from_lex.Placing.{concat-rows}
+use Rattle.occ_engine.specs.occ_lex.Symbols.{Extends, with_names_of_all}
+use Rattle.occ_engine.proofs.from_lex.Interned.{extends_all, extends_eq, extends_same, extends_trans, longer}
+use Rattle.occ_engine.specs.occ_parse.Known.{declares, is_below}
+use Rattle.occ_engine.proofs.from_parse.Knowing.{EachLine, IsLineOf, each_map, each_of_lines, line_passes, line_small, name_known}
+use Rattle.occ_engine.proofs.from_parse.Places.{HasElement, HasPlace, all_brought_in, are_known, forest_all, lines_places, places_extend}
+use Rattle.occ_engine.proofs.from_parse.Small.{shape_small}
+use Rattle.occ_engine.proofs.from_parse.Texts.{in_table}
+use Rattle.occ_engine.specs.occ_parse_part.Arrays.{array_names, arrays_of}
+use Rattle.occ_engine.specs.occ_parse_part.Elements.{Elements, element_count, elements_in, no_elements, numbers, row_in, row_number, with_arrays, with_arrays_in, with_row}
+use Rattle.occ_engine.specs.occ_parse_part.Parts.{IsPart}
+use Rattle.occ_engine.specs.occ_parse_part.Resolving.{scope_of}
+use Rattle.occ_engine.specs.occ_parse_part.Shown.{elements_of, lines_of, part_of}
+use Rattle.occ_engine.specs.occ_parse_part.declared.raw.Raw.{Raw}
+use Rattle.occ_engine.proofs.from_parse_part.Counted.{count_is}
+use Rattle.occ_engine.proofs.from_parse_part.Known.{arrays_known, lines_are_of}
+use Rattle.occ_engine.specs.occ_parse.declared.bound.Bound.{Bound}
+use Rattle.occ_engine.specs.occ_parse.Reading.{IsRead, names_in}
+use Rattle.occ_engine.specs.occ_parse_rules.Forest.{Forest, Laid, lines_at}
+use Rattle.occ_engine.specs.occ_parse_rules.Places.{Place, Sorts, elements_from}
+use Rattle.occ_engine.specs.occ_parse_rules.Unrolled.{slot_process}
+use Rattle.occ_engine.specs.occ_parse.Drafts.{header_below, header_params}
+use Rattle.occ_engine.specs.occ_parse_rules.Agreement.{Has}
+use Rattle.occ_engine.specs.occ_parse_rules.Passing.{shape_passes}
+use Rattle.occ_engine.specs.occ_parse_unroll.Elements.{program_places, with_places}
+use Rattle.occ_engine.specs.occ_parse_unroll.Numbers.{number_in}
+use Rattle.occ_engine.specs.occ_script.declared.script.Order.{Order}
+use Rattle.occ_engine.specs.occ_script.Lines.{named_in}
+use Rattle.occ_engine.specs.occ_script.Orders.{AreOrders, IsOrders, IsPartThere, and_order, no_order}
+use Rattle.occ_engine.specs.occ_script_lines.Sections.{Section, reading_in, upto}
+use Rattle.occ_engine.proofs.from_script_lines.Placing.{lines_placed}
+use Rattle.occ_engine.specs.occ_syntax.declared.scope.Kind.{Kind}
+use Rattle.occ_engine.specs.occ_syntax.Tree.{Tree}
+use Rattle.occ_engine.specs.occ_syntax.View.{numbers as numbers_of}
 
 -- ---- the elements of arrays are in the table
 

@@ -2,20 +2,20 @@
 use Rattle.std.proofs.Common.{◌≡◌, ℕ, ◌<◌, ◌≤◌, ◌==◌, Bool, true, false, true≢false, cond, nat_lt, not, List, [], ◌∷◌, Option, Some, None, is_some, refl, sym, subst, arith}
 use Rattle.std.specs.List.{AllByRecursion, list_any}
 use Rattle.std.proofs.lemmas.Bool.{and_parts, and_from, eqb-true, ltb-true, lt-ltb}
-use Rattle.occ_base.specs.declared.event.Dir.TheVariants.{Input, Output}
-use Rattle.occ_base.specs.declared.names.Name.{Name}
-use Rattle.occ_base.specs.declared.width.Width.{Width}
-use Rattle.occ_base.specs.declared.width.Width.TheVariants.{Bool as TruthValue}
+use Rattle.occ_engine.specs.occ_base.declared.event.Dir.TheVariants.{Input, Output}
+use Rattle.occ_engine.specs.occ_base.declared.names.Name.{Name}
+use Rattle.occ_engine.specs.occ_base.declared.width.Width.{Width}
+use Rattle.occ_engine.specs.occ_base.declared.width.Width.TheVariants.{Bool as TruthValue}
 use Rattle.occ_engine_known.specs.Known.{IsKnownPart, NamesAreBelow}
-use Rattle.occ_meaning.proofs.Facts.{and_four, and_three}
-use Rattle.occ_parse.specs.Known.{all_declare, branches_declare, cases_declare, declares, is_below, params_declare}
-use Rattle.occ_print.specs.Known.{BranchesAreKnown, CasesAreKnown, ExpIsKnown, PartIsKnown, PartsAreKnown, WaitingIsKnown}
-use Rattle.occ_syntax.specs.declared.expr.Op.{Op}
-use Rattle.occ_syntax.specs.declared.scope.Kind.{Kind}
-use Rattle.occ_syntax.specs.declared.scope.Kind.TheVariants.{Chan, Var}
-use Rattle.occ_syntax.specs.Scopes.{Environment, allows, channel_kind, channel_width, environment, variable_kind, variable_width, with_name}
-use Rattle.occ_syntax.specs.Tree.{Exp, variable, numeral, truth, negation, complement, operation, Waiting, ready, input, output, Tree, skip, stop, assign, receive, send, seq, par, select, alt, declare, connect, Trees, no_tree, and_tree, Cases, no_case, and_case, Branches, no_branch, and_branch}
-use Rattle.occ_syntax.specs.Types.{agree, all_types_kept, branches_kept, can_declare, cases_kept, if_truth_value, if_word, input_kept, is_condition, is_pair, output_kept, pairs_kept, scope_kept, type_of, type_of_two, types_kept, waiting_kept}
+use Rattle.occ_engine.proofs.from_meaning.Facts.{and_four, and_three}
+use Rattle.occ_engine.specs.occ_parse.Known.{all_declare, branches_declare, cases_declare, declares, is_below, params_declare}
+use Rattle.occ_engine.specs.occ_print.Known.{BranchesAreKnown, CasesAreKnown, ExpIsKnown, PartIsKnown, PartsAreKnown, WaitingIsKnown}
+use Rattle.occ_engine.specs.occ_syntax.declared.expr.Op.{Op}
+use Rattle.occ_engine.specs.occ_syntax.declared.scope.Kind.{Kind}
+use Rattle.occ_engine.specs.occ_syntax.declared.scope.Kind.TheVariants.{Chan, Var}
+use Rattle.occ_engine.specs.occ_syntax.Scopes.{Environment, allows, channel_kind, channel_width, environment, variable_kind, variable_width, with_name}
+use Rattle.occ_engine.specs.occ_syntax.Tree.{Exp, variable, numeral, truth, negation, complement, operation, Waiting, ready, input, output, Tree, skip, stop, assign, receive, send, seq, par, select, alt, declare, connect, Trees, no_tree, and_tree, Cases, no_case, and_case, Branches, no_branch, and_branch}
+use Rattle.occ_engine.specs.occ_syntax.Types.{agree, all_types_kept, branches_kept, can_declare, cases_kept, if_truth_value, if_word, input_kept, is_condition, is_pair, output_kept, pairs_kept, scope_kept, type_of, type_of_two, types_kept, waiting_kept}
 
 -- ---- what is there
 

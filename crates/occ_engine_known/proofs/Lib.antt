@@ -1,3 +1,7 @@
+mod Applying
+mod Chains
+mod Expanding
+mod Following
 mod Direct
 pub mod Keeping
 pub mod Putting

@@ -2,29 +2,29 @@
 use Rattle.std.proofs.Common.{◌≡◌, ℕ, true, ◌&&◌, List, [], ◌∷◌, ◌++◌, Option, Some, None, refl, ap, ◌∙◌}
 use Rattle.std.specs.List.{AllByRecursion}
 use Rattle.std.proofs.lemmas.Bool.{and_parts, and_from}
-use Rattle.occ_base.specs.declared.names.Name.{Name}
+use Rattle.occ_engine.specs.occ_base.declared.names.Name.{Name}
 use Rattle.occ_engine_known.specs.Given.{AllGiveBelow, GivesBelow}
 use Rattle.occ_engine_known.specs.Known.{IsKnownPart, LeadToKnown, NamesAreBelow}
 use Rattle.occ_engine_known.proofs.Direct.{direct_pass}
 use Rattle.occ_engine_known.proofs.Keeping.{kept_known}
 use Rattle.occ_engine_known.proofs.Putting.{part_pass, put_pass, scope_pass}
-use Rattle.occ_engine_rules.proofs.Moving.{granted_moves}
-use Rattle.occ_engine_rules.specs.Expansion.{Grants, IsExpanded, and_wish, expanding, forward, no_wish, par_expand, preparing, sequencing, wrapping}
-use Rattle.occ_engine_rules.specs.Moves.{IsApplied, IsGranted, IsMove, Move, Wish}
-use Rattle.occ_engine_rules.specs.Orders.{Follows, IsGiven, Order, and_order, no_order}
-use Rattle.occ_meaning.specs.Context.{put}
-use Rattle.occ_meaning.specs.Parallel.{two}
-use Rattle.occ_parse.specs.Known.{declares, is_below}
-use Rattle.occ_replay_rules.specs.Steps.{Joins}
-use Rattle.occ_script_path.proofs.Scoping.{scopes}
-use Rattle.occ_script_path.specs.declared.direction.Direction.{Direction}
-use Rattle.occ_script_path.specs.declared.direction.Direction.TheVariants as direction
-use Rattle.occ_script_path.specs.Places.{scope_list}
-use Rattle.occ_syntax.specs.declared.scope.Kind.{Kind}
-use Rattle.occ_syntax.specs.Scopes.{environment}
-use Rattle.occ_syntax.specs.Tree.{Tree, skip, stop, assign, receive, send, seq, par, select, alt, declare, connect, Trees, no_tree, and_tree}
-use Rattle.occ_syntax.specs.Types.{scope_kept, types_kept}
-use Rattle.occ_syntax.specs.Usage.{Keeps}
+use Rattle.occ_engine.proofs.from_replay_rules.Moving.{granted_moves}
+use Rattle.occ_engine.specs.occ_replay_rules.Expansion.{Grants, IsExpanded, and_wish, expanding, forward, no_wish, par_expand, preparing, sequencing, wrapping}
+use Rattle.occ_engine.specs.occ_replay_rules.Moves.{IsApplied, IsGranted, IsMove, Move, Wish}
+use Rattle.occ_engine.specs.occ_replay_rules.Orders.{Follows, IsGiven, Order, and_order, no_order}
+use Rattle.occ_engine.specs.occ_meaning.Context.{put}
+use Rattle.occ_engine.specs.occ_meaning.Parallel.{two}
+use Rattle.occ_engine.specs.occ_parse.Known.{declares, is_below}
+use Rattle.occ_engine.specs.occ_replay_rules.Steps.{Joins}
+use Rattle.occ_engine.proofs.from_script_lines.Scoping.{scopes}
+use Rattle.occ_engine.specs.occ_script_lines.declared.direction.Direction.{Direction}
+use Rattle.occ_engine.specs.occ_script_lines.declared.direction.Direction.TheVariants as direction
+use Rattle.occ_engine.specs.occ_script_lines.Places.{scope_list}
+use Rattle.occ_engine.specs.occ_syntax.declared.scope.Kind.{Kind}
+use Rattle.occ_engine.specs.occ_syntax.Scopes.{environment}
+use Rattle.occ_engine.specs.occ_syntax.Tree.{Tree, skip, stop, assign, receive, send, seq, par, select, alt, declare, connect, Trees, no_tree, and_tree}
+use Rattle.occ_engine.specs.occ_syntax.Types.{scope_kept, types_kept}
+use Rattle.occ_engine.specs.occ_syntax.Usage.{Keeps}
 
 joined_keeps : (dir : Direction) (n : ℕ) (S : List (Name × Kind)) (old new : Tree) → Joins dir n S old new → Keeps (environment S) new
 joined_keeps direction.Forward n S old new j = j.right

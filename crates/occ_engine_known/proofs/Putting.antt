@@ -2,12 +2,12 @@
 use Rattle.std.proofs.Common.{◌≡◌, ℕ, zero, suc, Bool, true, ◌&&◌, List, [], ◌∷◌, ◌++◌, Option, Some, None, refl, sym, ap, ◌∙◌}
 use Rattle.std.specs.Option.{option_and_then, option_map, unwrap_or}
 use Rattle.std.proofs.lemmas.Bool.{and_parts, and_from}
-use Rattle.occ_base.specs.declared.names.Name.{Name}
-use Rattle.occ_meaning.specs.Context.{branch_at, case_at, child, only_at, part_at, put, tree_at, with_branch, with_case, with_child, with_only, with_tree}
-use Rattle.occ_parse.specs.Known.{all_declare, branches_declare, cases_declare, declares, params_declare}
-use Rattle.occ_script_path.specs.Places.{declared_by, scope_list}
-use Rattle.occ_syntax.specs.declared.scope.Kind.{Kind}
-use Rattle.occ_syntax.specs.Tree.{Tree, skip, stop, assign, receive, send, seq, par, select, alt, declare, connect, Trees, no_tree, and_tree, Cases, no_case, and_case, Branches, no_branch, and_branch}
+use Rattle.occ_engine.specs.occ_base.declared.names.Name.{Name}
+use Rattle.occ_engine.specs.occ_meaning.Context.{branch_at, case_at, child, only_at, part_at, put, tree_at, with_branch, with_case, with_child, with_only, with_tree}
+use Rattle.occ_engine.specs.occ_parse.Known.{all_declare, branches_declare, cases_declare, declares, params_declare}
+use Rattle.occ_engine.specs.occ_script_lines.Places.{declared_by, scope_list}
+use Rattle.occ_engine.specs.occ_syntax.declared.scope.Kind.{Kind}
+use Rattle.occ_engine.specs.occ_syntax.Tree.{Tree, skip, stop, assign, receive, send, seq, par, select, alt, declare, connect, Trees, no_tree, and_tree, Cases, no_case, and_case, Branches, no_branch, and_branch}
 
 -- the one that is there
 abbrev pub Found : (Tree → Type 0) → Option Tree → Type 0

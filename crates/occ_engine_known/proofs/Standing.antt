@@ -2,22 +2,22 @@
 use Rattle.std.proofs.Common.{◌≡◌, ℕ, Bool, true, List, [], ◌∷◌, ◌++◌, map, Option, Some, None, refl}
 use Rattle.std.specs.List.{flat_map}
 use Rattle.std.proofs.lemmas.Bool.{and_parts, and_from}
-use Rattle.occ_base.specs.declared.names.Name.{Name}
-use Rattle.occ_parse.specs.Known.{all_declare, branches_declare, cases_declare, declares, params_declare}
-use Rattle.occ_parse_forms.specs.declared.form.Declared.{Declared}
-use Rattle.occ_parse_forms.specs.declared.form.Group.{Group}
-use Rattle.occ_parse_forms.specs.declared.form.Group.TheVariants as word
-use Rattle.occ_parse_forms.specs.declared.form.Times.{Times}
-use Rattle.occ_parse_forms.specs.Shape.{Shape}
-use Rattle.occ_parse_forms.specs.Shape as line
-use Rattle.occ_parse_rules.specs.Forest.{Forest, no_line, and_line}
-use Rattle.occ_parse_rules.specs.Places.{Indices, Place, Sorts, counter_of, declared_in, entries_of, numbers_from, places, with_index}
-use Rattle.occ_parse_rules.specs.Unrolled.{Lines, Numbers, all_named, branch_line, branches_then, case_line, cases_then, construct, copied, copies, first_tree, nested_branches, nested_cases, part_line, process, slot, slot_process, trees_then, unrolled}
-use Rattle.occ_parse_sound.specs.Agreement.{AreIn, AreKnown, Known, declared_places}
-use Rattle.occ_syntax.specs.declared.scope.Kind.{Kind}
-use Rattle.occ_syntax.specs.declared.scope.Kind.TheVariants.{Chan, Var}
-use Rattle.occ_syntax.specs.Declarations.{declaring, declaring_all}
-use Rattle.occ_syntax.specs.Tree.{Tree, Trees, no_tree, and_tree, Cases, no_case, and_case, Branches, no_branch, and_branch}
+use Rattle.occ_engine.specs.occ_base.declared.names.Name.{Name}
+use Rattle.occ_engine.specs.occ_parse.Known.{all_declare, branches_declare, cases_declare, declares, params_declare}
+use Rattle.occ_engine.specs.occ_parse_forms.declared.form.Declared.{Declared}
+use Rattle.occ_engine.specs.occ_parse_forms.declared.form.Group.{Group}
+use Rattle.occ_engine.specs.occ_parse_forms.declared.form.Group.TheVariants as word
+use Rattle.occ_engine.specs.occ_parse_forms.declared.form.Times.{Times}
+use Rattle.occ_engine.specs.occ_parse_forms.Shape.{Shape}
+use Rattle.occ_engine.specs.occ_parse_forms.Shape as line
+use Rattle.occ_engine.specs.occ_parse_rules.Forest.{Forest, no_line, and_line}
+use Rattle.occ_engine.specs.occ_parse_rules.Places.{Indices, Place, Sorts, counter_of, declared_in, entries_of, numbers_from, places, with_index}
+use Rattle.occ_engine.specs.occ_parse_rules.Unrolled.{Lines, Numbers, all_named, branch_line, branches_then, case_line, cases_then, construct, copied, copies, first_tree, nested_branches, nested_cases, part_line, process, slot, slot_process, trees_then, unrolled}
+use Rattle.occ_engine.specs.occ_parse_rules.Agreement.{AreIn, AreKnown, Known, declared_places}
+use Rattle.occ_engine.specs.occ_syntax.declared.scope.Kind.{Kind}
+use Rattle.occ_engine.specs.occ_syntax.declared.scope.Kind.TheVariants.{Chan, Var}
+use Rattle.occ_engine.specs.occ_syntax.Declarations.{declaring, declaring_all}
+use Rattle.occ_engine.specs.occ_syntax.Tree.{Tree, Trees, no_tree, and_tree, Cases, no_case, and_case, Branches, no_branch, and_branch}
 
 module _ (N : Numbers) (test : ℕ → Bool) where
   -- the number of the place passes the test

@@ -1,16 +1,16 @@
 -- Names below a number: those of processes, and of what moves make of them.
 use Rattle.std.specs.Prelude.{ℕ, ◌<◌, ◌≡◌, true, List, [], ◌∷◌}
 use Rattle.std.specs.List.{AllByRecursion}
-use Rattle.occ_base.specs.declared.names.Name.{Name}
-use Rattle.occ_engine_rules.specs.Moves.{Move}
-use Rattle.occ_meaning.specs.Context.{put}
-use Rattle.occ_parse.specs.Known.{declares, is_below, params_declare}
-use Rattle.occ_print.specs.Known.{PartIsKnown}
-use Rattle.occ_script_path.specs.Places.{scope_list}
-use Rattle.occ_syntax.specs.declared.scope.Kind.{Kind}
-use Rattle.occ_syntax.specs.Scopes.{environment}
-use Rattle.occ_syntax.specs.Tree.{Tree}
-use Rattle.occ_syntax.specs.Types.{scope_kept, types_kept}
+use Rattle.occ_engine.specs.occ_base.declared.names.Name.{Name}
+use Rattle.occ_engine.specs.occ_replay_rules.Moves.{Move}
+use Rattle.occ_engine.specs.occ_meaning.Context.{put}
+use Rattle.occ_engine.specs.occ_parse.Known.{declares, is_below, params_declare}
+use Rattle.occ_engine.specs.occ_print.Known.{PartIsKnown}
+use Rattle.occ_engine.specs.occ_script_lines.Places.{scope_list}
+use Rattle.occ_engine.specs.occ_syntax.declared.scope.Kind.{Kind}
+use Rattle.occ_engine.specs.occ_syntax.Scopes.{environment}
+use Rattle.occ_engine.specs.occ_syntax.Tree.{Tree}
+use Rattle.occ_engine.specs.occ_syntax.Types.{scope_kept, types_kept}
 
 -- the names of a scope are below n, and those that a process declares
 pub record NamesAreBelow (n : ℕ) (scope : List (Name × Kind)) (p : Tree) : Type 0 where

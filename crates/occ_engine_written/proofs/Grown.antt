@@ -2,24 +2,24 @@
 use Rattle.std.proofs.Common.{◌≡◌, ℕ, ◌≤◌, true, nat_le, List, [], ◌∷◌, length, refl, sym, subst}
 use Rattle.std.specs.List.{AllByRecursion}
 use Rattle.std.proofs.lemmas.Bool.{le-leb}
-use Rattle.occ_base.specs.Names.{with_text}
-use Rattle.occ_engine.specs.Moved.{moves_of}
-use Rattle.occ_engine_rules.specs.Moves.{Moves}
+use Rattle.occ_renamed.specs.occ_base.Names.{with_text}
+use Rattle.occ_engine_known.specs.occ_engine.Moved.{moves_of}
+use Rattle.occ_renamed.specs.occ_replay_rules.Moves.{Moves}
 use Rattle.occ_engine_written.specs.First.{AreWritten, IsFirstProgram}
 use Rattle.occ_engine_written.proofs.Made.{EmptyLaw, LevelsLaw, ProgramsLaw, StayLaw, below_names, first_printable, places_of, written}
 use Rattle.occ_engine_written.proofs.Printed.{KeptLaw, NameLaw, Table}
 use Rattle.occ_engine_written.proofs.Said.{AreSaid}
-use Rattle.occ_fresh.specs.Growth.{GrowsByNames, IsNameText, with_texts}
-use Rattle.occ_lex_symbols.proofs.Interned.{longer}
-use Rattle.occ_parse_rules.specs.Places.{Place}
-use Rattle.occ_print_back.specs.Placed.{IsTable}
-use Rattle.occ_print_part_back.specs.Tables.{Grows}
-use Rattle.occ_script_joined.specs.Joined.{AreNamedSteps}
+use Rattle.occ_renamed.specs.occ_lex.Growth.{GrowsByNames, IsNameText, with_texts}
+use Rattle.occ_renamed.proofs.from_lex.Interned.{longer}
+use Rattle.occ_renamed.specs.occ_parse_rules.Places.{Place}
+use Rattle.occ_script_table.specs.occ_print_back.Placed.{IsTable}
+use Rattle.occ_script_table.specs.occ_script_back.Tables.{Grows}
+use Rattle.occ_script_table.specs.occ_script_back.Joined.{AreNamedSteps}
 use Rattle.occ_script_table.proofs.Named.{as_it_is, name_grown, one_behind}
-use Rattle.occ_script_write.specs.declared.writing.Done.{Done}
-use Rattle.occ_script_write.specs.Text.{IsWritable}
-use Rattle.occ_syntax.specs.declared.scope.Program.{Program}
-use Rattle.occ_syntax.specs.View.{tree}
+use Rattle.occ_script_table.specs.occ_script_write.declared.writing.Done.{Done}
+use Rattle.occ_script_table.specs.occ_script_write.Text.{IsWritable}
+use Rattle.occ_renamed.specs.occ_syntax.declared.scope.Program.{Program}
+use Rattle.occ_renamed.specs.occ_syntax.View.{tree}
 
 -- a table of places with names of the language behind it is one
 grown_by : (names : Table) (P : ℕ → Place) → IsTable names P → (texts : List (List ℕ)) → AllByRecursion IsNameText texts → Grows names P (with_texts names texts)

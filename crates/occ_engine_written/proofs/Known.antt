@@ -1,33 +1,33 @@
 -- The names of a program that was read are those of the table that reading left, and it keeps types.
 use Rattle.std.proofs.Common.{◌≡◌, ℕ, true, List, [], refl, sym, subst, ◌∙◌}
 use Rattle.std.proofs.lemmas.List.{append-nil}
-use Rattle.occ_base.specs.Names.{IsDistinct}
-use Rattle.occ_base.specs.declared.names.Name.{Name}
+use Rattle.occ_renamed.specs.occ_base.Names.{IsDistinct}
+use Rattle.occ_renamed.specs.occ_base.declared.names.Name.{Name}
 use Rattle.occ_engine_written.proofs.Typed.{AreKept, kept_from}
-use Rattle.occ_lex_symbols.specs.Symbols.{Extends}
-use Rattle.occ_lex_symbols.proofs.Interned.{extends_trans}
-use Rattle.occ_parse.specs.Known.{NamesAreKnown}
-use Rattle.occ_parse.proofs.Checked.{typed}
-use Rattle.occ_parse.proofs.Declared.{known_from}
-use Rattle.occ_parse.proofs.Knowing.{lines_known, params_known}
-use Rattle.occ_parse_reading.specs.declared.bound.Bound.{Bound}
-use Rattle.occ_parse_reading.specs.Drafts.{header_below, header_params}
-use Rattle.occ_parse_reading.specs.Limits.{is_limited}
-use Rattle.occ_parse_reading.specs.Reading.{IsRead, names_in}
-use Rattle.occ_parse_rules.specs.Places.{Place}
-use Rattle.occ_parse_rules.specs.Unrolled.{params_named, slot_process}
-use Rattle.occ_parse_sound.specs.Programs.{param_scope}
-use Rattle.occ_parse_unroll.specs.Elements.{elements, params_places, program_places, with_elements}
-use Rattle.occ_parse_unroll.specs.Numbers.{number_in}
-use Rattle.occ_parse_unroll.proofs.Elements.{places_extend}
-use Rattle.occ_script_again.proofs.Below.{program_low}
-use Rattle.occ_script_again.proofs.Numbers.{AreSame, IsSame, back_of, front_of, params_same, process_of_lines}
-use Rattle.occ_script_again.proofs.Settled.{places_same}
-use Rattle.occ_syntax.specs.declared.scope.Kind.{Kind}
-use Rattle.occ_syntax.specs.declared.scope.Program.{Program}
-use Rattle.occ_syntax.specs.Tree.{Tree}
-use Rattle.occ_syntax.specs.View.{tree}
-use Rattle.occ_usage.specs.Accepted.{IsTyped}
+use Rattle.occ_renamed.specs.occ_lex.Symbols.{Extends}
+use Rattle.occ_renamed.proofs.from_lex.Interned.{extends_trans}
+use Rattle.occ_renamed.specs.occ_parse.Known.{NamesAreKnown}
+use Rattle.occ_renamed.proofs.from_parse.Checked.{typed}
+use Rattle.occ_renamed.proofs.from_parse.Declared.{known_from}
+use Rattle.occ_renamed.proofs.from_parse.Knowing.{lines_known, params_known}
+use Rattle.occ_renamed.specs.occ_parse.declared.bound.Bound.{Bound}
+use Rattle.occ_renamed.specs.occ_parse.Drafts.{header_below, header_params}
+use Rattle.occ_renamed.specs.occ_parse.Limits.{is_limited}
+use Rattle.occ_renamed.specs.occ_parse.Reading.{IsRead, names_in}
+use Rattle.occ_renamed.specs.occ_parse_rules.Places.{Place}
+use Rattle.occ_renamed.specs.occ_parse_rules.Unrolled.{params_named, slot_process}
+use Rattle.occ_renamed.specs.occ_parse_rules.Programs.{param_scope}
+use Rattle.occ_renamed.specs.occ_parse_unroll.Elements.{elements, params_places, program_places, with_elements}
+use Rattle.occ_renamed.specs.occ_parse_unroll.Numbers.{number_in}
+use Rattle.occ_renamed.proofs.from_parse_unroll.Elements.{places_extend}
+use Rattle.occ_script_table.proofs.Below.{program_low}
+use Rattle.occ_script_table.proofs.Numbers.{AreSame, IsSame, back_of, front_of, params_same, process_of_lines}
+use Rattle.occ_script_table.proofs.Settled.{places_same}
+use Rattle.occ_renamed.specs.occ_syntax.declared.scope.Kind.{Kind}
+use Rattle.occ_renamed.specs.occ_syntax.declared.scope.Program.{Program}
+use Rattle.occ_renamed.specs.occ_syntax.Tree.{Tree}
+use Rattle.occ_renamed.specs.occ_syntax.View.{tree}
+use Rattle.occ_renamed.specs.occ_usage.Accepted.{IsTyped}
 
 -- what a text reads as, wherever its parts lie in memory
 module _ (b : Bound) (text : List ℕ) (old new : List (List ℕ)) (name : Name) (params : List (Name × Kind)) (body : Tree) (lines : List ℕ)

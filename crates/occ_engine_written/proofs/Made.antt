@@ -1,39 +1,39 @@
 -- What orders and expansions make is written moves.
 use Rattle.std.proofs.Common.{◌≡◌, ℕ, ◌≤◌, true, List, [], ◌∷◌, length, None, refl}
-use Rattle.occ_base.specs.declared.names.Name.{Name}
-use Rattle.occ_engine.specs.Moved.{moves_of, orders_of}
+use Rattle.occ_renamed.specs.occ_base.declared.names.Name.{Name}
+use Rattle.occ_engine_known.specs.occ_engine.Moved.{moves_of, orders_of}
 use Rattle.occ_engine_known.specs.Known.{LeadToKnown, MovesAreKnown, NamesAreBelow}
-use Rattle.occ_engine_rules.specs.Expansion.{IsExpanded}
-use Rattle.occ_engine_rules.specs.Moves.{Move, Moves}
-use Rattle.occ_engine_rules.specs.Orders.{Follows, Order}
+use Rattle.occ_renamed.specs.occ_replay_rules.Expansion.{IsExpanded}
+use Rattle.occ_renamed.specs.occ_replay_rules.Moves.{Move, Moves}
+use Rattle.occ_renamed.specs.occ_replay_rules.Orders.{Follows, Order}
 use Rattle.occ_engine_written.specs.First.{AreWritten, IsFirstProgram}
 use Rattle.occ_engine_written.proofs.Printed.{KeptLaw, NameLaw, Table, names_below, printable}
 use Rattle.occ_engine_written.proofs.Said.{AreSaid, expansion_said, orders_said}
-use Rattle.occ_lex_symbols.specs.Symbols.{Extends}
-use Rattle.occ_lex_symbols.proofs.Interned.{extends_same, longer}
-use Rattle.occ_meaning.specs.Context.{put}
-use Rattle.occ_parse_reading.specs.declared.bound.Bound.{Bound}
-use Rattle.occ_parse_reading.specs.declared.bound.Bound.TheVariants as bound
-use Rattle.occ_parse_reading.specs.Limits.{is_limited}
-use Rattle.occ_parse_reading.specs.Reading.{IsRead}
-use Rattle.occ_parse_rules.specs.Places.{Place}
-use Rattle.occ_print.specs.Lines.{part_lines}
-use Rattle.occ_print_back.specs.Back.{deepest}
-use Rattle.occ_print_back.specs.Placed.{IsTable}
-use Rattle.occ_print_back.specs.Program.{IsPrintable}
-use Rattle.occ_print_part_back.specs.Tables.{Grows}
-use Rattle.occ_script.specs.declared.script.Order.{Order as Read}
-use Rattle.occ_script.specs.Orders.{IsOrders}
-use Rattle.occ_script_joined.specs.Joined.{AreNamedSteps}
-use Rattle.occ_script_write.specs.declared.writing.Done.{Done}
-use Rattle.occ_syntax.specs.declared.scope.Kind.{Kind}
-use Rattle.occ_syntax.specs.declared.scope.Program.{Program}
-use Rattle.occ_syntax.specs.Scopes.{environment}
-use Rattle.occ_syntax.specs.Tree.{Tree}
-use Rattle.occ_syntax.specs.Types.{scope_kept}
-use Rattle.occ_syntax.specs.Usage.{Keeps}
-use Rattle.occ_syntax.specs.View.{tree}
-use Rattle.occ_script_write_back.specs.Said.{IsShortPath}
+use Rattle.occ_renamed.specs.occ_lex.Symbols.{Extends}
+use Rattle.occ_renamed.proofs.from_lex.Interned.{extends_same, longer}
+use Rattle.occ_renamed.specs.occ_meaning.Context.{put}
+use Rattle.occ_renamed.specs.occ_parse.declared.bound.Bound.{Bound}
+use Rattle.occ_renamed.specs.occ_parse.declared.bound.Bound.TheVariants as bound
+use Rattle.occ_renamed.specs.occ_parse.Limits.{is_limited}
+use Rattle.occ_renamed.specs.occ_parse.Reading.{IsRead}
+use Rattle.occ_renamed.specs.occ_parse_rules.Places.{Place}
+use Rattle.occ_renamed.specs.occ_print.Lines.{part_lines}
+use Rattle.occ_script_table.specs.occ_print_back.Back.{deepest}
+use Rattle.occ_script_table.specs.occ_print_back.Placed.{IsTable}
+use Rattle.occ_script_table.specs.occ_print_back.Program.{IsPrintable}
+use Rattle.occ_script_table.specs.occ_script_back.Tables.{Grows}
+use Rattle.occ_script_table.specs.occ_script.declared.script.Order.{Order as Read}
+use Rattle.occ_script_table.specs.occ_script.Orders.{IsOrders}
+use Rattle.occ_script_table.specs.occ_script_back.Joined.{AreNamedSteps}
+use Rattle.occ_script_table.specs.occ_script_write.declared.writing.Done.{Done}
+use Rattle.occ_renamed.specs.occ_syntax.declared.scope.Kind.{Kind}
+use Rattle.occ_renamed.specs.occ_syntax.declared.scope.Program.{Program}
+use Rattle.occ_renamed.specs.occ_syntax.Scopes.{environment}
+use Rattle.occ_renamed.specs.occ_syntax.Tree.{Tree}
+use Rattle.occ_renamed.specs.occ_syntax.Types.{scope_kept}
+use Rattle.occ_renamed.specs.occ_syntax.Usage.{Keeps}
+use Rattle.occ_renamed.specs.occ_syntax.View.{tree}
+use Rattle.occ_script_table.specs.occ_script_back.Said.{IsShortPath}
 
 -- ---- the laws that this stands on
 

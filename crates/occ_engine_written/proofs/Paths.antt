@@ -2,12 +2,12 @@
 use Rattle.std.proofs.Common.{◌≡◌, ℕ, ◌≤◌, Bool, true, false, cond, nat_le, ◌&&◌, List, [], ◌∷◌, Option, Some, None, refl, subst, arith}
 use Rattle.std.specs.List.{slice_split}
 use Rattle.std.proofs.lemmas.Bool.{and_parts, leb-true}
-use Rattle.occ_lex.specs.Rows.{code_of}
-use Rattle.occ_lex.specs.Spelling.{is_numeral, value_of}
-use Rattle.occ_script_lines.specs.Lines.{Head, direction_of, head_from, head_of, head_of_words}
-use Rattle.occ_script_path.specs.declared.direction.Direction.{Direction}
-use Rattle.occ_script_path.specs.Texts.{and_place, has_zero_in_front, is_byte, is_slash, numeral_of, path_behind, path_of, place_of, places_of}
-use Rattle.occ_script_write_back.specs.Said.{IsShortPath}
+use Rattle.occ_renamed.specs.occ_lex.Rows.{code_of}
+use Rattle.occ_renamed.specs.occ_lex.Spelling.{is_numeral, value_of}
+use Rattle.occ_renamed.specs.occ_script_lines.Lines.{Head, direction_of, head_from, head_of, head_of_words}
+use Rattle.occ_renamed.specs.occ_script_lines.declared.direction.Direction.{Direction}
+use Rattle.occ_renamed.specs.occ_script_lines.Texts.{and_place, has_zero_in_front, is_byte, is_slash, numeral_of, path_behind, path_of, place_of, places_of}
+use Rattle.occ_script_table.specs.occ_script_back.Said.{IsShortPath}
 
 -- ---- a path
 

@@ -2,38 +2,38 @@
 use Rattle.std.proofs.Common.{◌≡◌, ℕ, ◌<◌, true, false, nat_lt, List, [], ◌∷◌, length, get_or, map, Option, Some, None, refl, sym, ap, subst, ◌∙◌, arith}
 use Rattle.std.specs.List.{AllByRecursion, list_all}
 use Rattle.std.proofs.lemmas.Bool.{and_from, and_parts, lt-ltb, ltb-true}
-use Rattle.occ_base.specs.declared.names.Name.{Name}
-use Rattle.occ_lex.specs.Spelling.{is_name}
-use Rattle.occ_lex.specs.declared.token.TokenKind.TheVariants as token
-use Rattle.occ_lex.proofs.Printing.{spelled}
-use Rattle.occ_lex_symbols.specs.declared.symbol.Symbol.{Symbol}
-use Rattle.occ_lex_symbols.specs.Symbols.{Extends}
-use Rattle.occ_parse.proofs.Knowing.{EachLine, IsLineOf, line_passes, lines_are_of}
-use Rattle.occ_parse.proofs.Places.{known_step, knows, one_to_one}
-use Rattle.occ_parse.proofs.Texts.{is_plain, plain_table}
-use Rattle.occ_parse_forms.specs.declared.form.Param.{Param}
-use Rattle.occ_parse_forms.specs.Lines.{AreParams, IsMarked, param_front}
-use Rattle.occ_parse_forms.specs.Shape.{header}
-use Rattle.occ_parse_layout.specs.declared.placed.Frame.TheVariants as frame
-use Rattle.occ_parse_layout.specs.Layout.{least_bad}
-use Rattle.occ_parse_layout.specs.Whole.{IsProgram}
-use Rattle.occ_parse_layout.proofs.Framed.{whole_of}
-use Rattle.occ_parse_reading.specs.declared.bound.Bound.{Bound}
-use Rattle.occ_parse_reading.specs.declared.bound.Bound.TheVariants as bound
-use Rattle.occ_parse_reading.specs.Drafts.{header_name, header_params}
-use Rattle.occ_parse_reading.specs.Limits.{frame_of}
-use Rattle.occ_parse_reading.specs.Reading.{IsLaidOut, names_in}
-use Rattle.occ_parse_rules.specs.Forest.{Forest, lines_at}
-use Rattle.occ_parse_rules.specs.Places.{Place, places}
-use Rattle.occ_parse_rules.specs.Unrolled.{Numbers, named, params_named}
-use Rattle.occ_parse_sound.specs.Agreement.{Has}
-use Rattle.occ_parse_sound.specs.Passing.{param_passes}
-use Rattle.occ_parse_unroll.specs.Numbers.{number_in}
-use Rattle.occ_print.proofs.Lists.{all-append}
-use Rattle.occ_print.specs.Spelled.{name_text}
-use Rattle.occ_print_back.specs.Placed.{IsPlace, IsTable}
-use Rattle.occ_print_back.proofs.Stable.{index_is, numbered}
-use Rattle.occ_syntax.specs.declared.scope.Kind.{Kind}
+use Rattle.occ_renamed.specs.occ_base.declared.names.Name.{Name}
+use Rattle.occ_renamed.specs.occ_lex.Spelling.{is_name}
+use Rattle.occ_renamed.specs.occ_lex.declared.token.TokenKind.TheVariants as token
+use Rattle.occ_renamed.proofs.from_lex.Printing.{spelled}
+use Rattle.occ_renamed.specs.occ_lex.declared.symbol.Symbol.{Symbol}
+use Rattle.occ_renamed.specs.occ_lex.Symbols.{Extends}
+use Rattle.occ_renamed.proofs.from_parse.Knowing.{EachLine, IsLineOf, line_passes, lines_are_of}
+use Rattle.occ_renamed.proofs.from_parse.Places.{known_step, knows, one_to_one}
+use Rattle.occ_renamed.proofs.from_parse.Texts.{is_plain, plain_table}
+use Rattle.occ_renamed.specs.occ_parse_forms.declared.form.Param.{Param}
+use Rattle.occ_renamed.specs.occ_parse_forms.Lines.{AreParams, IsMarked, param_front}
+use Rattle.occ_renamed.specs.occ_parse_forms.Shape.{header}
+use Rattle.occ_renamed.specs.occ_parse_layout.declared.placed.Frame.TheVariants as frame
+use Rattle.occ_renamed.specs.occ_parse_layout.Layout.{least_bad}
+use Rattle.occ_renamed.specs.occ_parse_layout.Whole.{IsProgram}
+use Rattle.occ_renamed.proofs.from_parse_layout.Framed.{whole_of}
+use Rattle.occ_renamed.specs.occ_parse.declared.bound.Bound.{Bound}
+use Rattle.occ_renamed.specs.occ_parse.declared.bound.Bound.TheVariants as bound
+use Rattle.occ_renamed.specs.occ_parse.Drafts.{header_name, header_params}
+use Rattle.occ_renamed.specs.occ_parse.Limits.{frame_of}
+use Rattle.occ_renamed.specs.occ_parse.Reading.{IsLaidOut, names_in}
+use Rattle.occ_renamed.specs.occ_parse_rules.Forest.{Forest, lines_at}
+use Rattle.occ_renamed.specs.occ_parse_rules.Places.{Place, places}
+use Rattle.occ_renamed.specs.occ_parse_rules.Unrolled.{Numbers, named, params_named}
+use Rattle.occ_renamed.specs.occ_parse_rules.Agreement.{Has}
+use Rattle.occ_renamed.specs.occ_parse_rules.Passing.{param_passes}
+use Rattle.occ_renamed.specs.occ_parse_unroll.Numbers.{number_in}
+use Rattle.occ_renamed.proofs.from_print.Lists.{all-append}
+use Rattle.occ_renamed.specs.occ_print.Spelled.{name_text}
+use Rattle.occ_script_table.specs.occ_print_back.Placed.{IsPlace, IsTable}
+use Rattle.occ_script_table.proofs.from_print_back.Stable.{index_is, numbered}
+use Rattle.occ_renamed.specs.occ_syntax.declared.scope.Kind.{Kind}
 
 -- ---- a plain name of a table of places
 

@@ -1,26 +1,26 @@
 -- A program that was read can be printed, from each table of places that begins with the one that reading left.
 use Rattle.std.proofs.Common.{◌≡◌, ℕ, ◌<◌, true, List, length, None, sym, subst, arith}
 use Rattle.std.specs.List.{AllByRecursion}
-use Rattle.occ_base.specs.declared.names.Name.{Name}
+use Rattle.occ_renamed.specs.occ_base.declared.names.Name.{Name}
 use Rattle.occ_engine_known.specs.Known.{IsKnownPart, NamesAreBelow}
 use Rattle.occ_engine_written.proofs.Known.{grown, names_known}
 use Rattle.occ_engine_written.proofs.Plain.{by_itself, header_marked, name_plain}
-use Rattle.occ_lex_symbols.specs.Symbols.{Extends}
-use Rattle.occ_lex_symbols.proofs.Interned.{extends_trans, longer}
-use Rattle.occ_parse_forms.specs.Lines.{IsMarked}
-use Rattle.occ_parse_reading.specs.declared.bound.Bound.{Bound}
-use Rattle.occ_parse_reading.specs.Reading.{IsRead, names_in}
-use Rattle.occ_parse_rules.specs.Places.{Place}
-use Rattle.occ_parse_unroll.specs.Numbers.{number_in}
-use Rattle.occ_print_back.specs.Placed.{IsTable}
-use Rattle.occ_print_back.specs.Program.{IsPrintable}
-use Rattle.occ_syntax.specs.declared.scope.Kind.{Kind}
-use Rattle.occ_syntax.specs.declared.scope.Program.{Program}
-use Rattle.occ_syntax.specs.Scopes.{environment}
-use Rattle.occ_syntax.specs.Tree.{Tree}
-use Rattle.occ_syntax.specs.Types.{scope_kept, types_kept}
-use Rattle.occ_syntax.specs.View.{tree}
-use Rattle.occ_usage.specs.Accepted.{IsTyped}
+use Rattle.occ_renamed.specs.occ_lex.Symbols.{Extends}
+use Rattle.occ_renamed.proofs.from_lex.Interned.{extends_trans, longer}
+use Rattle.occ_renamed.specs.occ_parse_forms.Lines.{IsMarked}
+use Rattle.occ_renamed.specs.occ_parse.declared.bound.Bound.{Bound}
+use Rattle.occ_renamed.specs.occ_parse.Reading.{IsRead, names_in}
+use Rattle.occ_renamed.specs.occ_parse_rules.Places.{Place}
+use Rattle.occ_renamed.specs.occ_parse_unroll.Numbers.{number_in}
+use Rattle.occ_script_table.specs.occ_print_back.Placed.{IsTable}
+use Rattle.occ_script_table.specs.occ_print_back.Program.{IsPrintable}
+use Rattle.occ_renamed.specs.occ_syntax.declared.scope.Kind.{Kind}
+use Rattle.occ_renamed.specs.occ_syntax.declared.scope.Program.{Program}
+use Rattle.occ_renamed.specs.occ_syntax.Scopes.{environment}
+use Rattle.occ_renamed.specs.occ_syntax.Tree.{Tree}
+use Rattle.occ_renamed.specs.occ_syntax.Types.{scope_kept, types_kept}
+use Rattle.occ_renamed.specs.occ_syntax.View.{tree}
+use Rattle.occ_renamed.specs.occ_usage.Accepted.{IsTyped}
 
 abbrev pub Table : Type 0
 Table = List (List ℕ)

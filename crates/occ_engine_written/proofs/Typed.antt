@@ -1,38 +1,38 @@
 -- The parameters and the body that a text reads as keep names, types and directions.
 use Rattle.std.proofs.Common.{◌≡◌, true, nat_lt, ◌&&◌, ℕ, List, length, None, sym, ap, subst, ◌∙◌}
 use Rattle.std.proofs.lemmas.Bool.{and_parts}
-use Rattle.occ_base.specs.Names.{IsDistinct}
-use Rattle.occ_base.specs.declared.names.Name.{Name}
-use Rattle.occ_lex_symbols.specs.Symbols.{Extends}
-use Rattle.occ_lex_symbols.proofs.Interned.{extends_trans}
-use Rattle.occ_parse.proofs.Faultless.{below_judged, declared_once, header_judged, lines_of, no_fault}
-use Rattle.occ_parse.proofs.Forests.{program_of}
-use Rattle.occ_parse.proofs.Knowing.{EachLine, IsLineOf, each_map, line_passes, line_small, lines_are_of, lines_sound}
-use Rattle.occ_parse.proofs.Placed.{good_are_placed}
-use Rattle.occ_parse.proofs.Places.{knows, lines_known, lines_places, one_to_one, places_distinct, places_extend}
-use Rattle.occ_parse.proofs.Small.{shape_small}
-use Rattle.occ_parse.proofs.Texts.{in_table, is_plain, plain_table}
-use Rattle.occ_parse_forms.specs.Shape.{close, header}
-use Rattle.occ_parse_forms.specs.declared.form.Param.{Param}
-use Rattle.occ_parse_layout.specs.Whole.{IsProgram}
-use Rattle.occ_parse_reading.specs.Drafts.{draft_fault, header_below, header_params}
-use Rattle.occ_parse_reading.specs.Reading.{IsLaidOut, names_in}
-use Rattle.occ_parse_reading.specs.declared.bound.Bound.{Bound}
-use Rattle.occ_parse_rules.specs.Forest.{Forest, and_line, no_line}
-use Rattle.occ_parse_rules.specs.Names.{name_fault}
-use Rattle.occ_parse_rules.specs.Types.{direction_fault, type_fault}
-use Rattle.occ_parse_rules.specs.Unrolled.{params_named, slot_process}
-use Rattle.occ_parse_sound.proofs.Params.{program_kept}
-use Rattle.occ_parse_sound.specs.Agreement.{AreKnown}
-use Rattle.occ_parse_sound.specs.Passing.{shape_passes}
-use Rattle.occ_parse_sound.specs.Programs.{param_scope}
-use Rattle.occ_parse_sound.specs.Sound.{are_placed, are_sound, is_sound}
-use Rattle.occ_parse_unroll.specs.Elements.{with_places}
-use Rattle.occ_parse_unroll.specs.Numbers.{number_in}
-use Rattle.occ_syntax.specs.Scopes.{environment}
-use Rattle.occ_syntax.specs.Tree.{Tree}
-use Rattle.occ_syntax.specs.Types.{scope_kept, types_kept}
-use Rattle.occ_syntax.specs.declared.scope.Kind.{Kind}
+use Rattle.occ_renamed.specs.occ_base.Names.{IsDistinct}
+use Rattle.occ_renamed.specs.occ_base.declared.names.Name.{Name}
+use Rattle.occ_renamed.specs.occ_lex.Symbols.{Extends}
+use Rattle.occ_renamed.proofs.from_lex.Interned.{extends_trans}
+use Rattle.occ_renamed.proofs.from_parse.Faultless.{below_judged, declared_once, header_judged, lines_of, no_fault}
+use Rattle.occ_renamed.proofs.from_parse.Forests.{program_of}
+use Rattle.occ_renamed.proofs.from_parse.Knowing.{EachLine, IsLineOf, each_map, line_passes, line_small, lines_are_of, lines_sound}
+use Rattle.occ_renamed.proofs.from_parse.Placed.{good_are_placed}
+use Rattle.occ_renamed.proofs.from_parse.Places.{knows, lines_known, lines_places, one_to_one, places_distinct, places_extend}
+use Rattle.occ_renamed.proofs.from_parse.Small.{shape_small}
+use Rattle.occ_renamed.proofs.from_parse.Texts.{in_table, is_plain, plain_table}
+use Rattle.occ_renamed.specs.occ_parse_forms.Shape.{close, header}
+use Rattle.occ_renamed.specs.occ_parse_forms.declared.form.Param.{Param}
+use Rattle.occ_renamed.specs.occ_parse_layout.Whole.{IsProgram}
+use Rattle.occ_renamed.specs.occ_parse.Drafts.{draft_fault, header_below, header_params}
+use Rattle.occ_renamed.specs.occ_parse.Reading.{IsLaidOut, names_in}
+use Rattle.occ_renamed.specs.occ_parse.declared.bound.Bound.{Bound}
+use Rattle.occ_renamed.specs.occ_parse_rules.Forest.{Forest, and_line, no_line}
+use Rattle.occ_renamed.specs.occ_parse_rules.Names.{name_fault}
+use Rattle.occ_renamed.specs.occ_parse_rules.Types.{direction_fault, type_fault}
+use Rattle.occ_renamed.specs.occ_parse_rules.Unrolled.{params_named, slot_process}
+use Rattle.occ_renamed.proofs.from_parse_rules.Params.{program_kept}
+use Rattle.occ_renamed.specs.occ_parse_rules.Agreement.{AreKnown}
+use Rattle.occ_renamed.specs.occ_parse_rules.Passing.{shape_passes}
+use Rattle.occ_renamed.specs.occ_parse_rules.Programs.{param_scope}
+use Rattle.occ_renamed.specs.occ_parse_rules.Sound.{are_placed, are_sound, is_sound}
+use Rattle.occ_renamed.specs.occ_parse_unroll.Elements.{with_places}
+use Rattle.occ_renamed.specs.occ_parse_unroll.Numbers.{number_in}
+use Rattle.occ_renamed.specs.occ_syntax.Scopes.{environment}
+use Rattle.occ_renamed.specs.occ_syntax.Tree.{Tree}
+use Rattle.occ_renamed.specs.occ_syntax.Types.{scope_kept, types_kept}
+use Rattle.occ_renamed.specs.occ_syntax.declared.scope.Kind.{Kind}
 
 -- these parameters and this body keep names, types and directions
 pub record AreKept (params : List (Name × Kind)) (body : Tree) : Type 0 where

@@ -1,14 +1,14 @@
 -- The first program of a script that is printed.
 use Rattle.std.specs.Prelude.{ℕ, List, []}
-use Rattle.occ_parse_reading.specs.Reading.{IsRead}
-use Rattle.occ_parse_reading.specs.declared.bound.Bound.TheVariants as bound
-use Rattle.occ_parse_rules.specs.Places.{Place}
-use Rattle.occ_print_back.specs.Back.{IsNarrow}
-use Rattle.occ_script_joined.specs.Joined.{AreWrittenMoves}
-use Rattle.occ_script_write.specs.declared.writing.Done.{Done}
-use Rattle.occ_syntax.specs.declared.scope.Program.{Program}
-use Rattle.occ_syntax.specs.View.{tree}
-use Rattle.occ_usage.specs.Accepted.{IsAccepted}
+use Rattle.occ_renamed.specs.occ_parse.Reading.{IsRead}
+use Rattle.occ_renamed.specs.occ_parse.declared.bound.Bound.TheVariants as bound
+use Rattle.occ_renamed.specs.occ_parse_rules.Places.{Place}
+use Rattle.occ_script_table.specs.occ_print_back.Back.{IsNarrow}
+use Rattle.occ_script_table.specs.occ_script_back.Joined.{AreWrittenMoves}
+use Rattle.occ_script_table.specs.occ_script_write.declared.writing.Done.{Done}
+use Rattle.occ_renamed.specs.occ_syntax.declared.scope.Program.{Program}
+use Rattle.occ_renamed.specs.occ_syntax.View.{tree}
+use Rattle.occ_renamed.specs.occ_usage.Accepted.{IsAccepted}
 
 -- The program was read from a text with an empty table, which has these names now; it is accepted, and no line on which it is printed
 -- has more than 4,096 tokens.

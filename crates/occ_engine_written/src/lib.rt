@@ -1,102 +1,25 @@
-//! What orders and expansions make of a program can be written: the steps are moves that are written from the table of names that reading
-//! left. These are laws, and no code: each is a function without a body of its own whose contract is the law.
+//! What orders and expansions make of a program can be written as a script, which reads back and joins whatever numbers its names have; and
+//! accepted programs print texts that read back. Here are the laws; there is no code.
 #![tactic(auto)]
 
-ghost use Rattle.std.specs.List.{AllByRecursion};
-ghost use Rattle.std.specs.Prelude.{ℕ, ◌≡◌, List, Some, true};
-ghost use Rattle.occ_base.specs.Names.{IsDistinct};
-ghost use Rattle.occ_engine.specs.Moved.{moves_of, orders_of};
-ghost use Rattle.occ_engine_rules.specs.Expansion.{IsExpanded};
-ghost use Rattle.occ_engine_rules.specs.Moves.{Moves};
-ghost use Rattle.occ_engine_rules.specs.Orders.{Follows};
-ghost use Rattle.occ_engine_written.specs.First.{AreWritten, IsFirstProgram};
-ghost use Rattle.occ_fresh.specs.Growth.{GrowsByNames};
-ghost use Rattle.occ_parse.specs.Known.{NamesAreKnown};
-ghost use Rattle.occ_parse_reading.specs.declared.bound.Bound.{Bound};
-ghost use Rattle.occ_parse_reading.specs.Limits.{is_limited};
-ghost use Rattle.occ_parse_reading.specs.Reading.{IsRead};
-ghost use Rattle.occ_script.specs.declared.script.Order.{Order};
-ghost use Rattle.occ_script.specs.Orders.{IsOrders};
-ghost use Rattle.occ_script_path.specs.Texts.{path_of};
-ghost use Rattle.occ_script_write.specs.declared.writing.Done.{Done};
-ghost use Rattle.occ_script_write.specs.Text.{IsWritable};
-ghost use Rattle.occ_script_write_back.specs.Said.{IsSaid, IsShortPath};
-ghost use Rattle.occ_syntax.specs.declared.scope.Program.{Program};
-ghost use Rattle.occ_syntax.specs.View.{tree};
-ghost use Rattle.occ_usage.specs.Accepted.{IsTyped};
+mod numbered_moves;
+mod read_back;
+mod written;
 
-use occ_engine_known::{
-    expansions_have_known_names, followed_orders_have_known_names, kept_parts_have_known_names,
-    names_stay_below, read_programs_have_known_names,
+pub use numbered_moves::{
+    printed_moves_are_joined, processes_are_renamed, tables_stay_tables, written_moves_behind,
+    written_moves_in_front, written_moves_stay,
 };
-use occ_engine_rules::{expansions_make_moves, orders_make_moves};
-use occ_print_levels::read_programs_print_within_levels;
-use occ_script_table::{no_names_are_places, orders_leave_places, programs_leave_places};
-
-/// A path that a text writes has numbers below 2 ^ 32.
-pub fn paths_of_texts_are_short()
-    ensures { (text path : List ℕ) → path_of text ≡ Some path → IsShortPath path }
-{}
-
-/// The parameters of a program that was read, and the names that it declares, have texts in the table that reading left.
-pub fn read_programs_declare_known_names()
-    ensures { (b : Bound) (text : List ℕ) (old new : List (List ℕ)) (program : Program) (lines : List ℕ)
-        → IsRead b text old new program.name program.params (tree program.body) lines → NamesAreKnown new program }
-{}
-
-/// A program that was read within the limits keeps names, types, directions and limits.
-pub fn read_programs_are_typed()
-    ensures { (b : Bound) (text : List ℕ) (old new : List (List ℕ)) (program : Program) (lines : List ℕ)
-        → IsRead b text old new program.name program.params (tree program.body) lines → IsDistinct new → is_limited b ≡ true
-        → IsTyped program }
-{}
-
-/// Orders that are followed from a program that was read make moves that are written from the table that reading the orders left.
-pub fn followed_orders_are_written()
-    ensures { (text : List ℕ) (names new : List (List ℕ)) (orders : List Order) (from to : Program) (steps : List Done)
-        → IsFirstProgram names from → IsOrders text names new orders
-        → Follows from.params (tree from.body) (orders_of orders) (moves_of steps) (tree to.body)
-        → to.name ≡ from.name → to.params ≡ from.params → AreWritten new from steps to }
-{
-    names_stay_below();
-    no_names_are_places();
-    orders_leave_places();
-    programs_leave_places();
-    orders_make_moves();
-    kept_parts_have_known_names();
-    followed_orders_have_known_names();
-    read_programs_have_known_names();
-    read_programs_print_within_levels();
-}
-
-/// An expansion in a program that was read makes moves that are written from the table that reading left.
-pub fn expansions_are_written()
-    ensures { (names : List (List ℕ)) (path : List ℕ) (from to : Program) (steps : List Done)
-        → IsFirstProgram names from → IsShortPath path
-        → IsExpanded from.params (tree from.body) path (moves_of steps) (tree to.body)
-        → to.name ≡ from.name → to.params ≡ from.params → AreWritten names from steps to }
-{
-    no_names_are_places();
-    programs_leave_places();
-    expansions_make_moves();
-    kept_parts_have_known_names();
-    expansions_have_known_names();
-    read_programs_have_known_names();
-    read_programs_print_within_levels();
-}
-
-/// Moves from a program that was read are written from a table that has grown from the one that reading left by names of the language,
-/// where the names of their parts stand in it, and their lines can be read.
-pub fn known_moves_are_written()
-    ensures { (names new : List (List ℕ)) (from to : Program) (steps : List Done) → IsFirstProgram names from → GrowsByNames names new
-        → AllByRecursion (IsWritable new) steps → AllByRecursion IsSaid steps
-        → Moves from.params (tree from.body) (moves_of steps) (tree to.body)
-        → to.name ≡ from.name → to.params ≡ from.params → AreWritten new from steps to }
-{
-    names_stay_below();
-    no_names_are_places();
-    programs_leave_places();
-    kept_parts_have_known_names();
-    read_programs_have_known_names();
-    read_programs_print_within_levels();
-}
+pub use occ_engine_known::{
+    EngineFault, Outcome, expand, expansions_have_known_names, expansions_have_no_fault,
+    expansions_have_one_fault, expansions_have_one_outcome, followed_orders_have_known_names,
+    followed_orders_have_one_outcome, kept_parts_have_known_names, names_stay_below,
+    orders_follow_or_stop, orders_stop_once, read_programs_have_known_names, transform,
+};
+pub use read_back::{
+    accepted_programs_read_back, parts_of_accepted_programs_read_back, parts_of_scripts_read_back,
+};
+pub use written::{
+    expansions_are_written, followed_orders_are_written, known_moves_are_written,
+    paths_of_texts_are_short, read_programs_are_typed, read_programs_declare_known_names,
+};

@@ -3,20 +3,20 @@ use Rattle.std.specs.Prelude.{◌↔◌, Contains}
 use Rattle.std.specs.List.{list_any}
 use Rattle.std.proofs.lemmas.Bool.{cases_Bool, false≢true, or_cases, or_left, or_right}
 use Rattle.std.proofs.lemmas.Option.{same_Some}
-use Rattle.occ_base.specs.declared.event.Event.{Event}
-use Rattle.occ_dd.specs.Store.{IsSet, has}
-use Rattle.occ_accept.specs.Accept.{in_some, refuses}
-use Rattle.occ_mdd.specs.declared.map.MapId.{MapId}
+use Rattle.occ_choice.specs.occ_base.declared.event.Event.{Event}
+use Rattle.occ_choice.specs.occ_dd.Store.{IsSet, has}
+use Rattle.occ_choice.specs.occ_accept.Accept.{in_some, refuses}
+use Rattle.occ_choice.specs.occ_mdd.declared.map.MapId.{MapId}
 use Rattle.occ_choice.specs.Joined.{IsSound}
 use Rattle.occ_choice.specs.Union.{IsAdded}
-use Rattle.occ_accept.specs.Order.{strict}
-use Rattle.occ_node.specs.Offers.{offer_cmp, next_in, are_below, are_offered}
-use Rattle.occ_node.specs.Rows.{goes_on}
-use Rattle.occ_node.specs.World.{IsNode, nodes_of, row_of, fails, ends, row_fails, row_ends, Leads, IsFit, IsMade}
-use Rattle.occ_node.specs.declared.node.NodeId.{NodeId}
-use Rattle.occ_node.specs.declared.row.Row.{Row}
-use Rattle.occ_node.specs.declared.world.World.{World}
-use Rattle.occ_node.proofs.Behaviours.{fails_nil, fails_cons, ends_nil, fails_made, ends_made, is_row, set-leads, within_offers, in_offers, leads_trans}
+use Rattle.occ_choice.specs.occ_accept.Order.{strict}
+use Rattle.occ_choice.specs.occ_node.Offers.{offer_cmp, next_in, are_below, are_offered}
+use Rattle.occ_choice.specs.occ_node.Rows.{goes_on}
+use Rattle.occ_choice.specs.occ_node.World.{IsNode, nodes_of, row_of, fails, ends, row_fails, row_ends, Leads, IsFit, IsMade}
+use Rattle.occ_choice.specs.occ_node.declared.node.NodeId.{NodeId}
+use Rattle.occ_choice.specs.occ_node.declared.row.Row.{Row}
+use Rattle.occ_choice.specs.occ_node.declared.world.World.{World}
+use Rattle.occ_choice.proofs.from_node.Behaviours.{fails_nil, fails_cons, ends_nil, fails_made, ends_made, is_row, set-leads, within_offers, in_offers, leads_trans}
 use Rattle.occ_scope.specs.Paired.{Paired}
 use Rattle.occ_scope.proofs.Pairing.{Related, paired_next, paired_more, paired_strict, paired_below, paired_offered, item_below}
 use Rattle.occ_follow.specs.Sequence.{HasNodes, Continues}

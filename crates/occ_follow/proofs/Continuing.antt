@@ -2,18 +2,18 @@ use Rattle.std.proofs.Common.{◌≡◌, ◌⊎◌, ◌<◌, ◌^◌, ◌++◌, 
 use Rattle.std.specs.Prelude.{◌↔◌}
 use Rattle.std.proofs.lemmas.Bool.{false≢true}
 use Rattle.std.proofs.lemmas.Option.{same_Some}
-use Rattle.occ_base.specs.declared.event.Event.{Event}
-use Rattle.occ_diagram.specs.Memo.{recalled, Learns}
-use Rattle.occ_diagram.specs.declared.memo.Call.{Call}
-use Rattle.occ_diagram.specs.declared.memo.Memo.{Memo}
-use Rattle.occ_mdd.specs.Maps.{IsKnown, value}
-use Rattle.occ_mdd.specs.declared.map.MapId.{MapId}
-use Rattle.occ_node.specs.Offers.{next_in}
-use Rattle.occ_node.specs.Rows.{goes_on}
-use Rattle.occ_node.specs.World.{IsNode, row_of, fails, ends, Leads}
-use Rattle.occ_node.specs.declared.node.NodeId.{NodeId}
-use Rattle.occ_node.specs.declared.world.World.{World}
-use Rattle.occ_node.proofs.Behaviours.{ends_cons, ends_some, node-leads}
+use Rattle.occ_choice.specs.occ_base.declared.event.Event.{Event}
+use Rattle.occ_choice.specs.occ_dd.Memo.{recalled, Learns}
+use Rattle.occ_choice.specs.occ_dd.declared.memo.Call.{Call}
+use Rattle.occ_choice.specs.occ_dd.declared.memo.Memo.{Memo}
+use Rattle.occ_choice.specs.occ_mdd.Maps.{IsKnown, value}
+use Rattle.occ_choice.specs.occ_mdd.declared.map.MapId.{MapId}
+use Rattle.occ_choice.specs.occ_node.Offers.{next_in}
+use Rattle.occ_choice.specs.occ_node.Rows.{goes_on}
+use Rattle.occ_choice.specs.occ_node.World.{IsNode, row_of, fails, ends, Leads}
+use Rattle.occ_choice.specs.occ_node.declared.node.NodeId.{NodeId}
+use Rattle.occ_choice.specs.occ_node.declared.world.World.{World}
+use Rattle.occ_choice.proofs.from_node.Behaviours.{ends_cons, ends_some, node-leads}
 use Rattle.occ_follow.specs.Sequence.{HasNodes, Continues, IsFollowed}
 use Rattle.occ_follow.specs.Nexts.{IsNext}
 use Rattle.occ_follow.specs.Sequences.{IsSequence, AreSequences, node, map_id}

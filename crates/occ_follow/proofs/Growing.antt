@@ -1,12 +1,12 @@
 use Rattle.std.proofs.Common.{◌≡◌, ◌≤◌, ℕ, Bool, true, false, cond, Option, Some, ap, ◌∙◌, ⊎_elim, arith}
 use Rattle.std.proofs.lemmas.Bool.{cases_Bool}
-use Rattle.occ_dd.specs.Store.{Keeps}
-use Rattle.occ_mdd.specs.Maps.{IsMap}
-use Rattle.occ_mdd.specs.declared.map.MapId.{MapId}
-use Rattle.occ_node.specs.World.{IsNode, Grows, nodes_of, row_of, fails, ends}
-use Rattle.occ_node.specs.declared.node.NodeId.{NodeId}
-use Rattle.occ_node.specs.declared.world.World.{World}
-use Rattle.occ_node.proofs.Table.{Holds, row-holds, fails-holds, ends-holds}
+use Rattle.occ_choice.specs.occ_dd.Store.{Keeps}
+use Rattle.occ_choice.specs.occ_mdd.Maps.{IsMap}
+use Rattle.occ_choice.specs.occ_mdd.declared.map.MapId.{MapId}
+use Rattle.occ_choice.specs.occ_node.World.{IsNode, Grows, nodes_of, row_of, fails, ends}
+use Rattle.occ_choice.specs.occ_node.declared.node.NodeId.{NodeId}
+use Rattle.occ_choice.specs.occ_node.declared.world.World.{World}
+use Rattle.occ_choice.proofs.from_node.Table.{Holds, row-holds, fails-holds, ends-holds}
 use Rattle.occ_follow.specs.Sequence.{HasNodes}
 
 -- Maps of a world that are made.

@@ -5,15 +5,15 @@ use Rattle.std.proofs.lemmas.Bool.{false≢true, or_cases}
 use Rattle.std.proofs.lemmas.List.{take_all}
 use Rattle.std.proofs.lemmas.List.Folds.{list_any_at, list_any_more}
 use Rattle.std.proofs.lemmas.List.Elements.{Contains-get_or}
-use Rattle.occ_dd.specs.Store.{has}
-use Rattle.occ_dd.specs.declared.set.SetId.{SetId}
-use Rattle.occ_mdd.specs.Maps.{AreLabelsOn}
-use Rattle.occ_mdd.specs.declared.map.MapId.{MapId}
+use Rattle.occ_choice.specs.occ_dd.Store.{has}
+use Rattle.occ_choice.specs.occ_dd.declared.set.SetId.{SetId}
+use Rattle.occ_choice.specs.occ_mdd.Maps.{AreLabelsOn}
+use Rattle.occ_choice.specs.occ_mdd.declared.map.MapId.{MapId}
 use Rattle.std.specs.declared.cmp.Ordering.{Ordering}
-use Rattle.occ_node.specs.World.{IsNode, row_of, fails, ends, Leads}
-use Rattle.occ_node.specs.declared.node.NodeId.{NodeId}
-use Rattle.occ_node.specs.declared.world.World.{World}
-use Rattle.occ_node.proofs.Behaviours.{ends_nil, node-leads}
+use Rattle.occ_choice.specs.occ_node.World.{IsNode, row_of, fails, ends, Leads}
+use Rattle.occ_choice.specs.occ_node.declared.node.NodeId.{NodeId}
+use Rattle.occ_choice.specs.occ_node.declared.world.World.{World}
+use Rattle.occ_choice.proofs.from_node.Behaviours.{ends_nil, node-leads}
 use Rattle.occ_choice.specs.Union.{IsUnion}
 use Rattle.occ_follow.specs.Sequence.{HasNodes}
 use Rattle.occ_follow.specs.Nexts.{IsNext, AreNexts, IsUnionOf}

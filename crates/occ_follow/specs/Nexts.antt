@@ -1,11 +1,11 @@
 use Rattle.std.specs.Prelude.{ℕ, ◌<◌, ◌≡◌, ◌^◌, Bool, true, List, [], Some, Contains}
 use Rattle.std.specs.List.{list_any}
-use Rattle.occ_base.specs.declared.event.Event.{Event}
-use Rattle.occ_mdd.specs.Maps.{value}
-use Rattle.occ_mdd.specs.declared.map.MapId.{MapId}
-use Rattle.occ_node.specs.World.{IsNode, fails, ends}
-use Rattle.occ_node.specs.declared.node.NodeId.{NodeId}
-use Rattle.occ_node.specs.declared.world.World.{World}
+use Rattle.occ_choice.specs.occ_base.declared.event.Event.{Event}
+use Rattle.occ_choice.specs.occ_mdd.Maps.{value}
+use Rattle.occ_choice.specs.occ_mdd.declared.map.MapId.{MapId}
+use Rattle.occ_choice.specs.occ_node.World.{IsNode, fails, ends}
+use Rattle.occ_choice.specs.occ_node.declared.node.NodeId.{NodeId}
+use Rattle.occ_choice.specs.occ_node.declared.world.World.{World}
 
 -- the map has the node at an assignment in which p can have ended before any event
 pub record IsNext (w : World) (p : NodeId) (map : MapId) (m : NodeId) : Type 0 where

@@ -1,10 +1,10 @@
 use Rattle.std.specs.Prelude.{ℕ, ◌<◌, ◌≡◌, ◌^◌, ◌↔◌, ◌⊎◌, ◌++◌, Bool, true, List, Some}
-use Rattle.occ_base.specs.declared.event.Event.{Event}
-use Rattle.occ_mdd.specs.Maps.{IsKnown, value}
-use Rattle.occ_mdd.specs.declared.map.MapId.{MapId}
-use Rattle.occ_node.specs.World.{IsNode, fails, ends}
-use Rattle.occ_node.specs.declared.node.NodeId.{NodeId}
-use Rattle.occ_node.specs.declared.world.World.{World}
+use Rattle.occ_choice.specs.occ_base.declared.event.Event.{Event}
+use Rattle.occ_choice.specs.occ_mdd.Maps.{IsKnown, value}
+use Rattle.occ_choice.specs.occ_mdd.declared.map.MapId.{MapId}
+use Rattle.occ_choice.specs.occ_node.World.{IsNode, fails, ends}
+use Rattle.occ_choice.specs.occ_node.declared.node.NodeId.{NodeId}
+use Rattle.occ_choice.specs.occ_node.declared.world.World.{World}
 
 -- One process after another, where the second begins in the state in which the first has ended (Roscoe 1985).
 

@@ -1,11 +1,11 @@
 use Rattle.std.specs.Prelude.{ℕ, ◌≡◌, Some}
-use Rattle.occ_diagram.specs.Memo.{recalled}
-use Rattle.occ_diagram.specs.declared.memo.Call.{Call}
-use Rattle.occ_diagram.specs.declared.memo.Memo.{Memo}
-use Rattle.occ_mdd.specs.declared.map.MapId.{MapId}
-use Rattle.occ_node.specs.World.{IsNode}
-use Rattle.occ_node.specs.declared.node.NodeId.{NodeId}
-use Rattle.occ_node.specs.declared.world.World.{World}
+use Rattle.occ_choice.specs.occ_dd.Memo.{recalled}
+use Rattle.occ_choice.specs.occ_dd.declared.memo.Call.{Call}
+use Rattle.occ_choice.specs.occ_dd.declared.memo.Memo.{Memo}
+use Rattle.occ_choice.specs.occ_mdd.declared.map.MapId.{MapId}
+use Rattle.occ_choice.specs.occ_node.World.{IsNode}
+use Rattle.occ_choice.specs.occ_node.declared.node.NodeId.{NodeId}
+use Rattle.occ_choice.specs.occ_node.declared.world.World.{World}
 use Rattle.occ_choice.specs.Union.{AreUnions}
 use Rattle.occ_follow.specs.Sequence.{HasNodes, IsFollowed}
 use Rattle.occ_follow.specs.declared.follower.Follower.{Follower}

@@ -1,11 +1,9 @@
 ghost use Rattle.std.specs.Prelude.{IfOk};
-ghost use Rattle.occ_node.specs.World.{IsNode, Leads};
+ghost use Rattle.occ_choice.specs.occ_node.World.{IsNode, Leads};
 ghost use Rattle.occ_follow.specs.Sequence.{HasNodes, IsFollowed};
 
 use crate::follower::Follower;
-use occ_base::Memory;
-use occ_mdd::MapId;
-use occ_node::{NodeId, World};
+use occ_choice::{MapId, Memory, NodeId, World};
 use std::alloc::Global;
 
 /// The node that has the failures of a node and, wherever it ends in an assignment, goes on as the map's

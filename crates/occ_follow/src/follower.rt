@@ -1,16 +1,12 @@
 ghost use Rattle.std.specs.Prelude.{◌≡◌, IfOk};
-ghost use Rattle.occ_node.specs.World.{IsNode, Leads, row_of};
-ghost use Rattle.occ_node.specs.declared.world.World.{World};
+ghost use Rattle.occ_choice.specs.occ_node.World.{IsNode, Leads, row_of};
+ghost use Rattle.occ_choice.specs.occ_node.declared.world.World.{World};
 ghost use Rattle.occ_choice.specs.Union.{AreUnions};
 ghost use Rattle.occ_scope.specs.Paired.{Paired};
 ghost use Rattle.occ_follow.specs.Sequence.{HasNodes};
 
 use crate::nexts::{nexts_of, united};
-use occ_base::Memory;
-use occ_choice::{Unions, add};
-use occ_diagram::{Call, Memo};
-use occ_mdd::MapId;
-use occ_node::{NodeId, Offers, Row, World};
+use occ_choice::{Call, MapId, Memo, Memory, NodeId, Offers, Row, Unions, World, add};
 use std::alloc::Global;
 
 /// What makes sequences in a world, with the tables of the unions and of the sequences that it has made: these

@@ -6,3 +6,8 @@ mod follower;
 mod nexts;
 
 pub use calls::follow;
+pub use occ_choice::{
+    AcceptSet, Antichain, MapId, Maps, NodeId, Offers, Row, World, accept_join as join, alt, least,
+    prefix_out, without,
+};
+pub use occ_scope::{Shifts, shift_with};

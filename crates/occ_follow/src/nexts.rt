@@ -1,14 +1,11 @@
 ghost use Rattle.std.specs.Prelude.{◌∷◌, IfOk};
 ghost use Rattle.std.specs.List.{All};
-ghost use Rattle.occ_node.specs.World.{IsNode, Leads};
+ghost use Rattle.occ_choice.specs.occ_node.World.{IsNode, Leads};
 ghost use Rattle.occ_choice.specs.Union.{AreUnions};
 ghost use Rattle.occ_follow.specs.Nexts.{AreNexts, IsUnionOf};
 ghost use Rattle.occ_follow.specs.Sequence.{HasNodes};
 
-use occ_base::Memory;
-use occ_choice::{Unions, union_with};
-use occ_mdd::MapId;
-use occ_node::{NodeId, World};
+use occ_choice::{MapId, Memory, NodeId, Unions, World, union_with};
 use std::alloc::Global;
 
 /// The nodes with which the map goes on where a node has ended before any event, each once.

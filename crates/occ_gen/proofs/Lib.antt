@@ -1,1 +1,11 @@
 mod Texts
+mod Chains
+mod Spoken
+mod Same
+mod Tables
+mod AcceptedTexts
+mod Lists
+mod Usage
+mod Checked
+mod Read
+mod Judged

@@ -4,7 +4,7 @@ ghost use Rattle.occ_gen.specs.Programs.{cell, channel as channel_of, lines_text
 use crate::Shape;
 use crate::line::push_line;
 use itoa::Buffer;
-use occ_base::Memory;
+use occ_script::Memory;
 use std::alloc::Global;
 
 /// The channel from a stage to the next.

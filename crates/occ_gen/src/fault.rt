@@ -1,7 +1,7 @@
 ghost use Rattle.std.specs.Prelude.{◌≡◌};
 ghost use Rattle.occ_gen.specs.declared.fault.GenFault.TheVariants as fault;
 
-use occ_base::Memory;
+use occ_script::Memory;
 use thiserror::Error;
 
 /// Why there is no program.

@@ -2,7 +2,7 @@ ghost use Rattle.std.specs.Prelude.{◌≡◌, ◌++◌, ◌*◌, OnOk, replicat
 ghost use Rattle.std.specs.List.{flat_map};
 ghost use Rattle.occ_gen.specs.Programs.{line, line_text};
 
-use occ_base::Memory;
+use occ_script::Memory;
 
 /// Adds a line: two spaces for each level, its parts and a line feed.
 pub fn push_line(text: &mut Vec<u8>, level: u64, parts: &[&[u8]]) -> Result<(), Memory>

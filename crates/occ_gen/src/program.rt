@@ -4,7 +4,7 @@ ghost use Rattle.occ_gen.specs.Programs.{cell, channel as channel_of, line, line
 use crate::cell::{Cell, channel};
 use crate::line::push_line;
 use crate::{GenFault, Shape};
-use occ_base::Memory;
+use occ_script::Memory;
 use std::alloc::Global;
 
 /// The greatest number of stages.

@@ -1,8 +1,8 @@
 -- par-assign by the parts of its sides.
 use Rattle.std.proofs.Common.{◌≡◌, ℕ, ◌↔◌, Bool, IsTrue, List, [], refl, ap, sym, ◌∙◌, subst}
 use Rattle.occ_syntax.specs.Tree.{Tree, Exp, assign, seq, par, Trees, and_tree}
-use Rattle.occ_meaning.specs.Parallel.{two}
-use Rattle.occ_law_rules.specs.Parallel.{ParAssign, par_assign}
+use Rattle.occ_law_shape.specs.occ_meaning.Parallel.{two}
+use Rattle.occ_law_shape.specs.occ_law.Parallel.{ParAssign, par_assign}
 
 -- the first part of the PAR is a SEQ that begins with the assignment and goes on with the rest
 abbrev pub Begins : Tree → Tree → Tree → Type 0

@@ -1,19 +1,19 @@
 -- par-if by the choices of its sides.
 use Rattle.std.proofs.Common.{◌≡◌, ℕ, ◌↔◌, Bool, IsTrue, true, ◌&&◌, List, [], refl, ap, sym, ◌∙◌, subst}
 use Rattle.std.proofs.lemmas.Bool.{and_parts}
-use Rattle.occ_base.specs.declared.names.Name.{Name}
+use Rattle.occ_law_shape.specs.occ_base.declared.names.Name.{Name}
 use Rattle.occ_syntax.specs.declared.scope.Kind.{Kind}
 use Rattle.occ_syntax.specs.Scopes.{Environment, environment}
 use Rattle.occ_syntax.specs.Tree.{Tree, par, select, Cases, no_case, and_case}
 use Rattle.occ_syntax.specs.Types.{types_kept}
 use Rattle.occ_syntax.specs.Usage.{Keeps}
-use Rattle.occ_meaning.specs.Parallel.{two}
-use Rattle.occ_bits.specs.Named.{are_conditions}
-use Rattle.occ_law_rules.specs.Lists.{conditions}
-use Rattle.occ_law_rules.specs.Parallel.{ParIf, each_case_beside, par_if}
-use Rattle.occ_law_rules.specs.States.{AreFew, IsExhaustive}
+use Rattle.occ_law_shape.specs.occ_meaning.Parallel.{two}
+use Rattle.occ_law_shape.specs.occ_bits.Named.{are_conditions}
+use Rattle.occ_law_shape.specs.occ_law.Lists.{conditions}
+use Rattle.occ_law_shape.specs.occ_law.Parallel.{ParIf, each_case_beside, par_if}
+use Rattle.occ_law_shape.specs.occ_law.States.{AreFew, IsExhaustive}
 use Rattle.occ_law_shape.specs.Pieces.{each_choice}
-use Rattle.occ_law_states.proofs.Typed.{conditions_typed}
+use Rattle.occ_law_shape.proofs.Typed.{conditions_typed}
 
 -- the conditions of an IF in a PAR of two are conditions
 pub conditions_kept : (Γ : Environment) (l f s : Tree) (cs : Cases) → Keeps Γ l → l ≡ par (two f s) → f ≡ select cs → are_conditions Γ (conditions cs) ≡ true

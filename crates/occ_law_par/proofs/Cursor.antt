@@ -5,8 +5,8 @@ use Rattle.occ_syntax.specs.declared.proc.Proc.{Proc}
 use Rattle.occ_syntax.specs.declared.expr.Op.TheVariants.{And}
 use Rattle.occ_syntax.specs.Tree.{Exp, operation, Waiting, ready, input, output, Tree, Branches, no_branch, and_branch}
 use Rattle.occ_syntax.specs.View.{branches}
-use Rattle.occ_law_rules.specs.Lists.{all_branches}
-use Rattle.occ_law_rules.specs.Parallel.{both_go, meeting, meetings, meetings_of}
+use Rattle.occ_law_shape.specs.occ_law.Lists.{all_branches}
+use Rattle.occ_law_shape.specs.occ_law.Parallel.{both_go, meeting, meetings, meetings_of}
 use Rattle.occ_law_shape.proofs.Fronts.{branches_whole}
 
 -- one more piece: `step` puts it in front, and `after` puts in front what is left then

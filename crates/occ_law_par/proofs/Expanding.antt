@@ -1,9 +1,9 @@
 -- par-expand by the branches of its sides.
 use Rattle.std.proofs.Common.{◌≡◌, ℕ, ◌↔◌, Bool, IsTrue, List, [], refl, ap, sym, ◌∙◌, subst}
 use Rattle.occ_syntax.specs.Tree.{Exp, Waiting, Tree, par, alt, Branches, no_branch, and_branch}
-use Rattle.occ_meaning.specs.Parallel.{two}
-use Rattle.occ_law_rules.specs.Lists.{all_branches}
-use Rattle.occ_law_rules.specs.Parallel.{ParExpand, expanded, first_goes, meetings, par_expand, second_goes}
+use Rattle.occ_law_shape.specs.occ_meaning.Parallel.{two}
+use Rattle.occ_law_shape.specs.occ_law.Lists.{all_branches}
+use Rattle.occ_law_shape.specs.occ_law.Parallel.{ParExpand, expanded, first_goes, meetings, par_expand, second_goes}
 use Rattle.occ_law_par.specs.declared.running.Beside.{Beside}
 use Rattle.occ_law_par.specs.declared.running.Beside.TheVariants.{Behind, Before}
 use Rattle.occ_law_par.specs.Expand.{each_beside, run_beside}

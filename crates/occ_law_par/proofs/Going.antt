@@ -1,9 +1,9 @@
 -- par-flat and par-skip as a part that goes, at a place of a list.
 use Rattle.std.proofs.Common.{◌≡◌, ℕ, ◌↔◌, Bool, IsTrue, List, [], ◌∷◌, refl, ap, sym, ◌∙◌, subst}
 use Rattle.occ_syntax.specs.Tree.{Tree, skip, par, Trees, no_tree, and_tree}
-use Rattle.occ_meaning.specs.Parallel.{all_of}
-use Rattle.occ_law_rules.specs.Lists.{size}
-use Rattle.occ_law_rules.specs.Parallel.{ParFlat, par_flat, ParSkip, par_skip}
+use Rattle.occ_law_shape.specs.occ_meaning.Parallel.{all_of}
+use Rattle.occ_law_shape.specs.occ_law.Lists.{size}
+use Rattle.occ_law_shape.specs.occ_law.Parallel.{ParFlat, par_flat, ParSkip, par_skip}
 use Rattle.occ_law_shape.specs.Places.{Somewhere}
 use Rattle.occ_law_shape.proofs.Parts.{joined, parted, rests_are}
 use Rattle.occ_law_par.specs.declared.places.Leaving.{Leaving}
@@ -39,10 +39,6 @@ pub goes_before_none : (g : Leaving) (p : Tree) (qs rs us : Trees) → Goes g p 
 goes_before_none g p qs rs us goes never j =
     let k = went g p rs us j in
     never rs (k.2 ∙ ap (λ z. all_of z rs) (sym (goes_once g p qs k.0 goes k.1)))
-
--- no part goes that nothing can take the place of
-pub stays : (g : Leaving) (p : Tree) (rs us : Trees) → ((qs : Trees) → Goes g p qs → ⊥) → GoesHere g (and_tree p rs) us → ⊥
-stays g p rs us never j = let k = went g p rs us j in never k.0 k.1
 
 par_gone : (p : Tree) (qs : Trees) → Goes leaving.Par p qs → p ≡ par qs
 par_gone p qs (par_goes a) = refl

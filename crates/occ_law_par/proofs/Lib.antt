@@ -7,3 +7,6 @@ pub mod Reordering
 pub mod Sides
 pub mod Simple
 pub mod Tabled
+pub mod Parting
+pub mod Putting
+pub mod Rights

@@ -5,8 +5,8 @@ use Rattle.std.proofs.lemmas.Bool.{eqb-true}
 use Rattle.occ_syntax.specs.declared.proc.Proc.{Proc}
 use Rattle.occ_syntax.specs.Tree.{Tree, par, Trees, no_tree, and_tree}
 use Rattle.occ_syntax.specs.View.{tree}
-use Rattle.occ_meaning.specs.Parallel.{Reordered, as_they_are, behind_first, first_two, in_steps}
-use Rattle.occ_law_rules.specs.Parallel.{ParOrder, par_order}
+use Rattle.occ_law_shape.specs.occ_meaning.Parallel.{Reordered, as_they_are, behind_first, first_two, in_steps}
+use Rattle.occ_law_shape.specs.occ_law.Parallel.{ParOrder, par_order}
 use Rattle.occ_law_par.specs.Order.{Put, put_first, put_behind, referred}
 
 -- what is left of a list without p, in the order of another list

@@ -1,14 +1,10 @@
 -- Tests in a row, and the sides of a law by their shapes.
-use Rattle.std.proofs.Common.{◌≡◌, ℕ, ◌↔◌, Bool, IsTrue, ◌&&◌, List, ap, sym, ◌∙◌, subst}
+use Rattle.std.proofs.Common.{◌≡◌, ℕ, ◌↔◌, List, sym, subst}
 use Rattle.occ_syntax.specs.Tree.{Tree}
 
 -- two tests in a row
 pub through : {A B C : Type 0} → (A ↔ B) → (B ↔ C) → A ↔ C
 through f g = ((λ a. g.0 (f.0 a)), (λ c. f.1 (g.1 c)))
-
--- both tests are met
-pub both : (a b : Bool) → IsTrue a → IsTrue b → IsTrue (a && b)
-both a b h k = ap (λ z. z && b) h ∙ k
 
 -- what is met where a law holds between two trees is met where it holds between equal ones
 pub at_sides : (D : List ℕ → Tree → Tree → Type 0) {A : Type 0} (l m r s : Tree) → l ≡ m → r ≡ s

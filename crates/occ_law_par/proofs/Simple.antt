@@ -3,8 +3,8 @@ use Rattle.std.proofs.Common.{◌≡◌, ℕ, ◌↔◌, Bool, IsTrue, List, [],
 use Rattle.occ_syntax.specs.declared.proc.Proc.{Proc}
 use Rattle.occ_syntax.specs.Tree.{Tree, seq, par, skip, stop, Trees, no_tree}
 use Rattle.occ_syntax.specs.View.{trees}
-use Rattle.occ_meaning.specs.Parallel.{one, two}
-use Rattle.occ_law_rules.specs.Parallel.{ParNone, par_none, ParOne, par_one, ParStop, par_stop}
+use Rattle.occ_law_shape.specs.occ_meaning.Parallel.{one, two}
+use Rattle.occ_law_shape.specs.occ_law.Parallel.{ParNone, par_none, ParOne, par_one, ParStop, par_stop}
 use Rattle.occ_law_shape.proofs.Fronts.{trees_none}
 
 none_there : (parts : List Proc) → length parts ≡ 0 → no_tree ≡ trees parts

@@ -1,13 +1,13 @@
 -- A law's answer as an answer of the table.
 use Rattle.std.proofs.Common.{◌≡◌, ℕ, ◌↔◌, Bool, IsTrue, Result, IfOk, List, sym, subst}
 use Rattle.std.proofs.lemmas.Result.{IfOk-weaker}
-use Rattle.occ_base.specs.declared.memory.Memory.{Memory}
-use Rattle.occ_base.specs.declared.names.Name.{Name}
+use Rattle.occ_law_shape.specs.occ_base.declared.memory.Memory.{Memory}
+use Rattle.occ_law_shape.specs.occ_base.declared.names.Name.{Name}
 use Rattle.occ_syntax.specs.declared.scope.Kind.{Kind}
 use Rattle.occ_syntax.specs.Scopes.{environment}
 use Rattle.occ_syntax.specs.Tree.{Tree}
 use Rattle.occ_syntax.specs.Usage.{Keeps}
-use Rattle.occ_law_rules.specs.Table.{LAW, SIDES}
+use Rattle.occ_law_shape.specs.occ_law.RuleTable.{LAW, SIDES}
 
 -- where both parts keep the rules, the law holds where they are its sides
 pub in_table : (n k : ℕ) (S : List (Name × Kind)) (l r : Tree) → n ≡ k → Keeps (environment S) l → Keeps (environment S) r → (result : Result Bool Memory)

@@ -2,15 +2,15 @@
 -- branches that are put in front of others.
 use Rattle.std.specs.Prelude.{◌≡◌, List, Option, None, Some}
 use Rattle.std.specs.Borrow.{Bor}
-use Rattle.occ_base.specs.declared.names.Name.{Name}
+use Rattle.occ_law_shape.specs.occ_base.declared.names.Name.{Name}
 use Rattle.occ_syntax.specs.declared.expr.Expr.{Expr}
 use Rattle.occ_syntax.specs.declared.expr.Guard.{Guard}
 use Rattle.occ_syntax.specs.declared.expr.Op.TheVariants.{And}
 use Rattle.occ_syntax.specs.declared.proc.Proc.{Proc}
 use Rattle.occ_syntax.specs.Tree.{Exp, operation, Waiting, ready, Tree, par, alt, Branches, and_branch}
 use Rattle.occ_syntax.specs.View.{exp, tree, branches}
-use Rattle.occ_meaning.specs.Parallel.{two}
-use Rattle.occ_law_rules.specs.Parallel.{both_go, first_goes, meeting, second_goes}
+use Rattle.occ_law_shape.specs.occ_meaning.Parallel.{two}
+use Rattle.occ_law_shape.specs.occ_law.Parallel.{both_go, first_goes, meeting, second_goes}
 use Rattle.occ_law_par.specs.declared.running.Beside.{Beside}
 use Rattle.occ_law_par.specs.declared.running.Beside.TheVariants.{Behind, Before}
 

@@ -4,7 +4,7 @@ use Rattle.std.specs.Borrow.{Bor}
 use Rattle.occ_syntax.specs.declared.proc.Proc.{Proc}
 use Rattle.occ_syntax.specs.Tree.{Tree, skip, par, Trees, no_tree, and_tree}
 use Rattle.occ_syntax.specs.View.{trees}
-use Rattle.occ_meaning.specs.Parallel.{all_of}
+use Rattle.occ_law_shape.specs.occ_meaning.Parallel.{all_of}
 use Rattle.occ_law_par.specs.declared.places.Leaving.{Leaving}
 use Rattle.occ_law_par.specs.declared.places.Leaving.TheVariants as leaving
 

@@ -1,8 +1,8 @@
 ghost use Rattle.std.specs.Prelude.{◌≡◌, ◌↔◌, IsTrue, List, ℕ};
 ghost use Rattle.occ_syntax.specs.Tree.{Exp, Trees, and_tree, assign, par, seq};
 ghost use Rattle.occ_syntax.specs.View.{tree, trees};
-ghost use Rattle.occ_meaning.specs.Parallel.{two};
-ghost use Rattle.occ_law_rules.specs.Parallel.{ParAssign};
+ghost use Rattle.occ_law_shape.specs.occ_meaning.Parallel.{two};
+ghost use Rattle.occ_law_shape.specs.occ_law.Parallel.{ParAssign};
 ghost use Rattle.occ_law_shape.specs.Answer.{IsAnswer};
 
 use crate::pairs::{two_in_par, two_in_seq};

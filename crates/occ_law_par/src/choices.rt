@@ -3,16 +3,13 @@ ghost use Rattle.occ_syntax.specs.Scopes.{environment};
 ghost use Rattle.occ_syntax.specs.Types.{scope_kept};
 ghost use Rattle.occ_syntax.specs.Usage.{Keeps};
 ghost use Rattle.occ_syntax.specs.View.{tree};
-ghost use Rattle.occ_law_rules.specs.Parallel.{ParIf};
+ghost use Rattle.occ_law_shape.specs.occ_law.Parallel.{ParIf};
 ghost use Rattle.occ_law_shape.specs.Answer.{IsAnswer};
 ghost use Rattle.occ_law_par.specs.Choices.{IsIf};
 
 use crate::pairs::two_in_par;
 use crate::running::Beside;
-use occ_base::Memory;
-use occ_dd::Store;
-use occ_law_shape::{Form, are_choice_pieces, opened};
-use occ_law_states::is_exhaustive;
+use occ_law_shape::{Form, Memory, Store, are_choice_pieces, is_exhaustive, opened};
 use occ_syntax::{Expr, Proc, Scope};
 use std::alloc::Global;
 

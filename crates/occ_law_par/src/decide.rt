@@ -3,16 +3,14 @@ ghost use Rattle.occ_syntax.specs.Scopes.{environment};
 ghost use Rattle.occ_syntax.specs.Types.{scope_kept};
 ghost use Rattle.occ_syntax.specs.Usage.{Keeps};
 ghost use Rattle.occ_syntax.specs.View.{tree};
-ghost use Rattle.occ_law_rules.specs.Table.{LAW};
+ghost use Rattle.occ_law_shape.specs.occ_law.RuleTable.{LAW};
 
 use crate::assign::par_assign;
 use crate::choices::par_if;
 use crate::expand::par_expand;
 use crate::order::par_order;
 use crate::parts::{par_flat, par_none, par_one, par_skip, par_stop};
-use occ_base::Memory;
-use occ_dd::Store;
-use occ_law::LawId;
+use occ_law_shape::{LawId, Memory, Store};
 use occ_syntax::{Proc, Scope};
 use std::alloc::Global;
 

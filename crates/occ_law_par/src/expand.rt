@@ -1,7 +1,7 @@
 ghost use Rattle.occ_syntax.specs.Tree.{and_branch};
 ghost use Rattle.occ_syntax.specs.View.{exp, waiting, tree, branches};
-ghost use Rattle.occ_law_rules.specs.Lists.{all_branches};
-ghost use Rattle.occ_law_rules.specs.Parallel.{ParExpand};
+ghost use Rattle.occ_law_shape.specs.occ_law.Lists.{all_branches};
+ghost use Rattle.occ_law_shape.specs.occ_law.Parallel.{ParExpand};
 ghost use Rattle.occ_law_shape.specs.Answer.{IsAnswer};
 ghost use Rattle.occ_law_par.specs.Expand.{IsAlt, IsRest, each_beside, run_beside};
 

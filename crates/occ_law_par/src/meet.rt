@@ -2,12 +2,11 @@ ghost use Rattle.std.specs.Prelude.{◌≡◌, ◌↔◌, IsTrue, [], ◌∷◌}
 ghost use Rattle.occ_syntax.specs.declared.expr.Op.TheVariants.{And};
 ghost use Rattle.occ_syntax.specs.Tree.{assign, operation, ready};
 ghost use Rattle.occ_syntax.specs.View.{exp, waiting, tree, branches};
-ghost use Rattle.occ_law_rules.specs.Parallel.{both_go, meeting, meetings, meetings_of};
+ghost use Rattle.occ_law_shape.specs.occ_law.Parallel.{both_go, meeting, meetings, meetings_of};
 ghost use Rattle.occ_law_par.specs.Expand.{IsPassed, IsRest};
 
 use crate::pairs::{is_par_of, two_in_seq};
-use occ_base::Name;
-use occ_law_shape::{Form, opened, same_expressions, same_names};
+use occ_law_shape::{Form, Name, opened, same_expressions, same_names};
 use occ_syntax::{Expr, Guard, Op, Proc, Wait, same_expr};
 use std::slice;
 

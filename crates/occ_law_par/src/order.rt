@@ -1,12 +1,11 @@
 ghost use Rattle.std.specs.Prelude.{◌≡◌, ◌↔◌, IfOk, IsTrue};
 ghost use Rattle.occ_syntax.specs.View.{tree, trees};
-ghost use Rattle.occ_meaning.specs.Parallel.{Reordered};
-ghost use Rattle.occ_law_rules.specs.Parallel.{ParOrder};
+ghost use Rattle.occ_law_shape.specs.occ_meaning.Parallel.{Reordered};
+ghost use Rattle.occ_law_shape.specs.occ_law.Parallel.{ParOrder};
 ghost use Rattle.occ_law_shape.specs.Answer.{IsAnswer};
 ghost use Rattle.occ_law_par.specs.Order.{IsCancelled, IsPlaced, referred};
 
-use occ_base::Memory;
-use occ_law::law_case;
+use occ_law_shape::{Memory, law_case};
 use occ_syntax::{Proc, same_proc};
 use std::alloc::Global;
 

@@ -1,7 +1,7 @@
 ghost use Rattle.std.specs.Prelude.{◌≡◌, ◌↔◌, IsTrue};
 ghost use Rattle.occ_syntax.specs.Tree.{par, seq, stop};
 ghost use Rattle.occ_syntax.specs.View.{tree};
-ghost use Rattle.occ_meaning.specs.Parallel.{two};
+ghost use Rattle.occ_law_shape.specs.occ_meaning.Parallel.{two};
 ghost use Rattle.occ_law_par.specs.Pairs.{IsTwoIn};
 
 use occ_law_shape::{Form, opened, pair};

@@ -1,15 +1,13 @@
 ghost use Rattle.std.specs.Prelude.{◌≡◌, ◌↔◌, IfOk, IsTrue};
 ghost use Rattle.occ_syntax.specs.Tree.{Tree, stop};
 ghost use Rattle.occ_syntax.specs.View.{tree, trees};
-ghost use Rattle.occ_meaning.specs.Parallel.{two};
-ghost use Rattle.occ_law_rules.specs.Parallel.{ParFlat, ParNone, ParOne, ParSkip, ParStop};
+ghost use Rattle.occ_law_shape.specs.occ_meaning.Parallel.{two};
+ghost use Rattle.occ_law_shape.specs.occ_law.Parallel.{ParFlat, ParNone, ParOne, ParSkip, ParStop};
 ghost use Rattle.occ_law_shape.specs.Answer.{IsAnswer};
 
 use crate::pairs::is_stop;
 use crate::places::Leaving;
-use occ_base::Memory;
-use occ_law::{law_case, shape};
-use occ_law_shape::{only, pair, same_procs, somewhere};
+use occ_law_shape::{Memory, law_case, only, pair, same_procs, shape, somewhere};
 use occ_syntax::{Proc, same_proc};
 
 /// PAR() = SKIP

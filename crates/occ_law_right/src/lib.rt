@@ -1,47 +1,36 @@
-//! What any law of the table makes of a part at a place.
+//! What a law of SEQ, of assignment, of communication as choice, or of declarations makes of a part at a place: its right side, written.
 #![tactic(auto)]
 
-ghost use Rattle.std.specs.Prelude.{◌≡◌, IfOk, true};
-ghost use Rattle.occ_law_place.specs.Instances.{IsInstance};
-ghost use Rattle.occ_syntax.specs.Scopes.{environment};
-ghost use Rattle.occ_syntax.specs.Types.{scope_kept};
-ghost use Rattle.occ_syntax.specs.Usage.{Keeps};
-ghost use Rattle.occ_syntax.specs.View.{tree};
-
-use occ_base::Memory;
-use occ_dd::Store;
-use occ_law::LawId;
-use occ_law_place::Place;
-use occ_syntax::{Proc, Scope};
-use std::alloc::Global;
-
-/// What a law makes of a part at a place, where it holds there: the right side whose left side is the part. None exactly where
-/// the law holds at no such place, and for laws whose left side doesn't tell the right one. The part keeps names, types,
-/// directions and usage in the scope. The store serves the questions that some laws ask of conditions.
-pub fn right(
-    alloc: Global,
-    store: &mut Store,
-    law: LawId,
-    scope: &Scope,
-    left: &Proc,
-    place: Place,
-) -> Result<Option<Proc>, Memory>
-    requires scope { scope_kept scope.now ≡ true }
-    requires left { Keeps (environment scope.now) (tree left.now) }
-    ensures { IfOk result (IsInstance law.0 scope.now (tree left.now) place) }
-{
-    if law.0 == 0 || law.0 > 63 {
-        return Ok(None);
-    }
-    if law.0 <= 15 {
-        occ_law_right_seq::right(alloc, law, scope, left, place)
-    } else if law.0 <= 25 {
-        occ_law_right_if::right(alloc, store, law, scope, left, place)
-    } else if law.0 <= 36 {
-        occ_law_right_alt::right(alloc, store, law, scope, left, place)
-    } else if law.0 <= 45 {
-        occ_law_right_par::right(alloc, store, law, scope, left, place)
-    } else {
-        occ_law_right_scope::right(alloc, law, scope, left, place)
-    }
+/// Takes a part apart for a law: where the part is of the named form, the expression over the form's fields, and
+/// otherwise the answer that the law makes nothing of it.
+macro_rules! form {
+    ($part:expr, $form:ident($($field:pat),*) => $body:expr) => {
+        match occ_law_seq::opened($part) {
+            occ_law_seq::Form::$form($($field),*) => $body,
+            _ => Ok(None),
+        }
+    };
 }
+
+mod assignment;
+mod behind;
+mod choices;
+mod chosen;
+mod communication;
+mod declaration;
+mod followed;
+mod kept;
+mod made;
+mod moves;
+mod pairs;
+mod put_in;
+mod sequence;
+mod table;
+mod unheard;
+mod values;
+mod write;
+
+pub use occ_law_scope::holds;
+pub use occ_law_seq::holds as law_seq_holds;
+pub use table::sequence_right;
+pub use write::scope_right;

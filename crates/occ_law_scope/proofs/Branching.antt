@@ -1,9 +1,9 @@
 -- The laws that put a declaration into each choice or each branch, by their sides.
 use Rattle.std.proofs.Common.{◌≡◌, ℕ, ◌↔◌, false, List, [], refl, ap, sym, ◌∙◌}
-use Rattle.occ_base.specs.declared.names.Name.{Name}
-use Rattle.occ_base.specs.declared.width.Width.{Width}
-use Rattle.occ_law_rules.specs.Lists.{conditions}
-use Rattle.occ_law_rules.specs.Scope.{ChanIf, chan_if, VarAlt, var_alt, VarIf, var_if, each_branch_declaring, each_case_connecting, each_case_declaring, some_guard_names}
+use Rattle.occ_names.specs.occ_base.declared.names.Name.{Name}
+use Rattle.occ_names.specs.occ_base.declared.width.Width.{Width}
+use Rattle.occ_law_shape.specs.occ_law.Lists.{conditions}
+use Rattle.occ_law_shape.specs.occ_law.Scope.{ChanIf, chan_if, VarAlt, var_alt, VarIf, var_if, each_branch_declaring, each_case_connecting, each_case_declaring, some_guard_names}
 use Rattle.occ_law_shape.specs.Pieces.{each_branch, each_choice}
 use Rattle.occ_syntax.specs.Names.{some_names}
 use Rattle.occ_syntax.specs.Tree.{Tree, select, alt, declare, connect, Cases, no_case, and_case, Branches, no_branch, and_branch}

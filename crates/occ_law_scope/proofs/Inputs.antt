@@ -2,11 +2,11 @@
 use Rattle.std.proofs.Common.{◌≡◌, ℕ, ◌==◌, ◌↔◌, Bool, true, false, ◌||◌, ◌&&◌, Some, List, [], ◌∷◌, refl, ap, sym, ◌∙◌, subst, inl, inr}
 use Rattle.std.proofs.lemmas.Bool.{and_parts}
 use Rattle.std.proofs.lemmas.Bool.Decides.{eqb_tells}
-use Rattle.occ_base.specs.declared.event.Dir.TheVariants.{Input}
-use Rattle.occ_base.specs.declared.width.Width.{Width}
-use Rattle.occ_law_rules.specs.Lists.{all_branches, tally}
-use Rattle.occ_law_rules.specs.Scope.{VarAltInput, var_alt_input}
-use Rattle.occ_meaning.proofs.Facts.{agreed, name_at, name_off, off_turned, true_not_false}
+use Rattle.occ_names.specs.occ_base.declared.event.Dir.TheVariants.{Input}
+use Rattle.occ_names.specs.occ_base.declared.width.Width.{Width}
+use Rattle.occ_law_shape.specs.occ_law.Lists.{all_branches, tally}
+use Rattle.occ_law_shape.specs.occ_law.Scope.{VarAltInput, var_alt_input}
+use Rattle.occ_names.proofs.from_meaning.Facts.{agreed, name_at, name_off, off_turned, true_not_false}
 use Rattle.occ_syntax.specs.declared.scope.Kind.TheVariants.{Var}
 use Rattle.occ_syntax.specs.Names.{free, free_in_branches, free_in_waiting, names}
 use Rattle.occ_syntax.specs.Scopes.{Environment, allows, channel_width, variable_kind, variable_width, with_name}

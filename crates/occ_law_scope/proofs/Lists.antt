@@ -3,8 +3,8 @@ use Rattle.std.proofs.Common.{◌≡◌, ℕ, ◌==◌, ◌↔◌, ◌⊎◌, in
 use Rattle.std.proofs.lemmas.List.{at_drop_all}
 use Rattle.std.proofs.lemmas.Bool.{cases_lt}
 use Rattle.std.specs.List.{list_any}
-use Rattle.occ_base.specs.declared.names.Name.{Name}
-use Rattle.occ_meaning.proofs.Facts.{same_turned}
+use Rattle.occ_names.specs.occ_base.declared.names.Name.{Name}
+use Rattle.occ_names.proofs.from_meaning.Facts.{same_turned}
 use Rattle.occ_syntax.specs.declared.expr.Expr.{Expr}
 use Rattle.occ_syntax.specs.declared.expr.Guard.{Guard}
 use Rattle.occ_syntax.specs.declared.proc.Proc.{Proc}

@@ -1,6 +1,6 @@
 -- The one branch in which an input goes through another variable, sought in two lists of branches.
 use Rattle.std.proofs.Common.{◌≡◌, ℕ, ◌==◌, ◌↔◌, ◌⊎◌, inl, inr, Bool, IsTrue, false, refl, ap, sym, ◌∙◌, subst}
-use Rattle.occ_meaning.proofs.Facts.{at_itself, true_not_false}
+use Rattle.occ_names.proofs.from_meaning.Facts.{at_itself, true_not_false}
 use Rattle.occ_syntax.specs.Tree.{Exp, variable, Waiting, input, Tree, Branches, and_branch}
 use Rattle.occ_law_scope.specs.Input.{InputHere, input_here, OtherInput, other_here, other_behind}
 use Rattle.occ_law_scope.specs.Turns.{begun}

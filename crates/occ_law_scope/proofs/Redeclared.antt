@@ -3,11 +3,11 @@ use Rattle.std.proofs.Common.{◌≡◌, ℕ, ◌==◌, Bool, true, false, ◌||
 use Rattle.std.specs.Prelude.{is_none}
 use Rattle.std.proofs.lemmas.Bool.{and_parts}
 use Rattle.std.proofs.lemmas.Bool.Decides.{eqb_tells}
-use Rattle.occ_base.specs.declared.names.Name.{Name}
-use Rattle.occ_base.specs.declared.event.Dir.{Dir}
-use Rattle.occ_base.specs.declared.width.Width.{Width}
-use Rattle.occ_meaning.proofs.Facts.{false_not_true}
-use Rattle.occ_meaning.proofs.States.{fresh_name}
+use Rattle.occ_names.specs.occ_base.declared.names.Name.{Name}
+use Rattle.occ_names.specs.occ_base.declared.event.Dir.{Dir}
+use Rattle.occ_names.specs.occ_base.declared.width.Width.{Width}
+use Rattle.occ_names.proofs.from_meaning.Facts.{false_not_true}
+use Rattle.occ_names.proofs.from_meaning.States.{fresh_name}
 use Rattle.occ_names.specs.declared.mention.Mention.{Mention}
 use Rattle.occ_names.specs.declared.mention.Mention.TheVariants.{Read, Write, End, Declare}
 use Rattle.occ_names.specs.Mentions.{called, declared_in, declared_names, mentions, mentions_of_all, mentions_of_branches, mentions_of_cases, mentions_of_waiting, outside, reads, reads_of_all, writes}

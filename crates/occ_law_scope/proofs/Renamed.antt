@@ -2,11 +2,11 @@
 use Rattle.std.proofs.Common.{◌≡◌, ℕ, ◌↔◌, true, false, None, List, [], ap, sym, ◌∙◌, subst}
 use Rattle.std.specs.Prelude.{is_none}
 use Rattle.std.proofs.lemmas.Bool.{and_parts}
-use Rattle.occ_base.specs.declared.width.Width.{Width}
-use Rattle.occ_law_rules.specs.Scope.{ChanRename, chan_rename, VarRename, var_rename}
-use Rattle.occ_meaning.proofs.Facts.{name_at}
-use Rattle.occ_meaning.proofs.States.{fresh_name}
-use Rattle.occ_meaning.specs.Rename.{renamed, replacing, stands}
+use Rattle.occ_names.specs.occ_base.declared.width.Width.{Width}
+use Rattle.occ_law_shape.specs.occ_law.Scope.{ChanRename, chan_rename, VarRename, var_rename}
+use Rattle.occ_names.proofs.from_meaning.Facts.{name_at}
+use Rattle.occ_names.proofs.from_meaning.States.{fresh_name}
+use Rattle.occ_names.specs.occ_meaning.Rename.{renamed, replacing, stands}
 use Rattle.occ_names.specs.Mentions.{declared_names}
 use Rattle.occ_syntax.specs.declared.scope.Kind.TheVariants.{Var, Chan}
 use Rattle.occ_syntax.specs.Names.{is_in}

@@ -1,7 +1,7 @@
 -- Assignments without the pairs for one variable.
 use Rattle.std.specs.Prelude.{ℕ, List}
-use Rattle.occ_law_rules.specs.Lists.{assigned_without}
-use Rattle.occ_meaning.specs.Parallel.{two}
+use Rattle.occ_law_shape.specs.occ_law.Lists.{assigned_without}
+use Rattle.occ_names.specs.occ_meaning.Parallel.{two}
 use Rattle.occ_syntax.specs.Tree.{Exp, Tree, assign, seq}
 
 -- an assignment, and the assignment of its pairs for other variables

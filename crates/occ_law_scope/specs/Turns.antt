@@ -1,12 +1,12 @@
 -- A SEQ of two processes, and one that begins with an assignment of one variable.
 use Rattle.std.specs.Prelude.{ℕ, ◌≡◌, List, [], ◌∷◌, Option, None, Some}
 use Rattle.std.specs.Borrow.{Bor}
-use Rattle.occ_base.specs.declared.names.Name.{Name}
+use Rattle.occ_names.specs.occ_base.declared.names.Name.{Name}
 use Rattle.occ_syntax.specs.declared.expr.Expr.{Expr}
 use Rattle.occ_syntax.specs.declared.proc.Proc.{Proc}
 use Rattle.occ_syntax.specs.Tree.{Exp, Tree, assign, seq}
 use Rattle.occ_syntax.specs.View.{exp, tree}
-use Rattle.occ_meaning.specs.Parallel.{two}
+use Rattle.occ_names.specs.occ_meaning.Parallel.{two}
 
 -- the process is a SEQ of these two; or it is a SEQ of no two
 abbrev pub IsTurns : Tree → Option (Bor Proc × Bor Proc) → Type 0

@@ -1,5 +1,5 @@
 ghost use Rattle.std.specs.Prelude.{◌≡◌, ◌↔◌, IfOk, IsTrue};
-ghost use Rattle.occ_law_rules.specs.Scope.{ChanIf, VarAlt, VarIf};
+ghost use Rattle.occ_law_shape.specs.occ_law.Scope.{ChanIf, VarAlt, VarIf};
 ghost use Rattle.occ_law_scope.specs.Under.{under};
 ghost use Rattle.occ_law_shape.specs.Answer.{IsAnswer};
 ghost use Rattle.occ_law_shape.specs.Pieces.{each_branch, each_choice};
@@ -8,9 +8,8 @@ ghost use Rattle.occ_syntax.specs.View.{branches, cases, tree};
 
 use crate::declaration::Declaration;
 use crate::mentions::{some_condition_names, some_guard_names};
-use occ_base::Memory;
-use occ_law::shape;
-use occ_law_shape::{BranchPiece, ChoicePiece, are_branch_pieces, are_choice_pieces};
+use occ_law_shape::{BranchPiece, ChoicePiece, are_branch_pieces, are_choice_pieces, shape};
+use occ_names::Memory;
 use occ_syntax::{Expr, Guard, Proc, same_expr};
 use std::alloc::Global;
 

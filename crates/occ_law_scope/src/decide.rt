@@ -1,5 +1,5 @@
 ghost use Rattle.std.specs.Prelude.{◌≡◌, ◌↔◌, ◌≤◌, IfOk, IsTrue, true};
-ghost use Rattle.occ_law_rules.specs.Table.{LAW};
+ghost use Rattle.occ_law_shape.specs.occ_law.RuleTable.{LAW};
 ghost use Rattle.occ_syntax.specs.Scopes.{environment};
 ghost use Rattle.occ_syntax.specs.Types.{scope_kept};
 ghost use Rattle.occ_syntax.specs.Usage.{Keeps};
@@ -14,9 +14,8 @@ use crate::pairs::{var_assign, var_end};
 use crate::renaming::{chan_rename, var_rename};
 use crate::unheard::chan_alt;
 use crate::values::var_any;
-use occ_base::Memory;
-use occ_dd::Store;
-use occ_law::LawId;
+use occ_law_shape::{LawId, Store};
+use occ_names::Memory;
 use occ_syntax::{Proc, Scope};
 use std::alloc::Global;
 

@@ -2,8 +2,8 @@ ghost use Rattle.std.specs.Prelude.{◌≡◌, ◌↔◌, IsTrue};
 ghost use Rattle.occ_syntax.specs.View.{exp, tree, waiting};
 ghost use Rattle.occ_law_scope.specs.Under.{IsBody, IsTakenOff, name_of, under};
 
-use occ_base::{Name, Width};
 use occ_law_shape::{Form, opened, same_waits};
+use occ_names::{Name, Width};
 use occ_syntax::{Guard, Proc, same_expr, same_proc};
 
 /// A declaration without the process under it.

@@ -1,5 +1,5 @@
 ghost use Rattle.std.specs.Prelude.{◌≡◌, ◌↔◌, ◌⊎◌, IfOk, IsTrue, true};
-ghost use Rattle.occ_law_rules.specs.Scope.{VarAlt, VarAltInput};
+ghost use Rattle.occ_law_shape.specs.occ_law.Scope.{VarAlt, VarAltInput};
 ghost use Rattle.occ_law_scope.specs.Input.{AltInput, InputHere, OtherInput};
 ghost use Rattle.occ_law_scope.specs.Turns.{begun as begun_with};
 ghost use Rattle.occ_law_shape.specs.Answer.{IsAnswer};
@@ -12,9 +12,8 @@ use crate::choices::var_alt_under;
 use crate::declaration::Declaration;
 use crate::mentions::is_unused;
 use crate::turns::begun;
-use occ_base::{Memory, Name};
-use occ_law::shape;
-use occ_law_shape::same_waits;
+use occ_law_shape::{same_waits, shape};
+use occ_names::{Memory, Name};
 use occ_syntax::{Expr, Guard, Proc, Scope, Wait, same_expr, same_proc};
 use std::alloc::Global;
 

@@ -1,12 +1,11 @@
 ghost use Rattle.std.specs.Prelude.{◌≡◌, ◌↔◌, IfOk, IsTrue, false};
-ghost use Rattle.occ_law_rules.specs.Lists.{conditions};
-ghost use Rattle.occ_law_rules.specs.Scope.{is_on as waits_on, some_guard_names as is_some_guard_named};
+ghost use Rattle.occ_law_shape.specs.occ_law.Lists.{conditions};
+ghost use Rattle.occ_law_shape.specs.occ_law.Scope.{is_on as waits_on, some_guard_names as is_some_guard_named};
 ghost use Rattle.occ_syntax.specs.Names.{free as is_free, free_in_some, free_in_waiting, is_in};
 ghost use Rattle.occ_syntax.specs.Names.{names as is_named, some_names as is_some_named};
-ghost use Rattle.occ_syntax.specs.View.{branches, cases, exp, exps, numbers, tree, trees, waiting};
+ghost use Rattle.occ_syntax.specs.View.{branches, cases, exp, numbers, tree, trees, waiting};
 
-use occ_base::{Memory, Name};
-use occ_names::free;
+use occ_names::{Memory, Name, free};
 use occ_syntax::{Expr, Guard, Proc, Wait};
 use std::alloc::Global;
 
@@ -35,18 +34,6 @@ fn has_name(names: &[Name], name: Name) -> bool
     ensures { result ≡ is_in (numbers names.now) name.0 }
 {
     names.contains(&name)
-}
-
-/// Whether one of the expressions names a variable.
-pub(crate) fn some_names(exprs: &[Expr], name: Name) -> bool
-    ensures { result ≡ is_some_named (exps exprs.now) name.0 }
-{
-    for expr in exprs {
-        if names(expr, name) {
-            return true;
-        }
-    }
-    false
 }
 
 /// Whether one of the conditions names a variable.

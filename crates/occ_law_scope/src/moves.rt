@@ -1,9 +1,9 @@
 ghost use Rattle.std.specs.Prelude.{◌≡◌, ◌↔◌, IfOk, IsTrue, false};
-ghost use Rattle.occ_law_rules.specs.Scope.{ChanPar, ChanSeq, ChanSwap, ChanUnused, VarFirst, VarLast, VarPar, VarSwap, VarUnused};
+ghost use Rattle.occ_law_shape.specs.occ_law.Scope.{ChanPar, ChanSeq, ChanSwap, ChanUnused, VarFirst, VarLast, VarPar, VarSwap, VarUnused};
 ghost use Rattle.occ_law_scope.specs.Moves.{InFirst};
 ghost use Rattle.occ_law_scope.specs.Under.{name_of, under};
 ghost use Rattle.occ_law_shape.specs.Answer.{IsAnswer};
-ghost use Rattle.occ_meaning.specs.Parallel.{two};
+ghost use Rattle.occ_names.specs.occ_meaning.Parallel.{two};
 ghost use Rattle.occ_syntax.specs.Names.{free as is_free};
 ghost use Rattle.occ_syntax.specs.Tree.{seq};
 ghost use Rattle.occ_syntax.specs.View.{tree, trees};
@@ -11,9 +11,8 @@ ghost use Rattle.occ_syntax.specs.View.{tree, trees};
 use crate::declaration::{Declaration, taken_off};
 use crate::mentions::{is_unused, is_unused_in_all};
 use crate::turns::turns;
-use occ_base::{Memory, Name};
-use occ_law::shape;
-use occ_law_shape::same_procs;
+use occ_law_shape::{same_procs, shape};
+use occ_names::{Memory, Name};
 use occ_syntax::{Proc, same_proc};
 use std::alloc::Global;
 

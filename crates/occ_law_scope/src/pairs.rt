@@ -1,6 +1,6 @@
 ghost use Rattle.std.specs.Prelude.{◌≡◌, ◌↔◌, IfOk, IsTrue};
-ghost use Rattle.occ_law_rules.specs.Lists.{assigned_without, names_without, values_without};
-ghost use Rattle.occ_law_rules.specs.Scope.{VarAssign, VarEnd};
+ghost use Rattle.occ_law_shape.specs.occ_law.Lists.{assigned_without, names_without, values_without};
+ghost use Rattle.occ_law_shape.specs.occ_law.Scope.{VarAssign, VarEnd};
 ghost use Rattle.occ_law_scope.specs.Pairs.{AssignedWithout, EndsWithout};
 ghost use Rattle.occ_law_shape.specs.Answer.{IsAnswer};
 ghost use Rattle.occ_syntax.specs.Names.{some_names as is_some_named};
@@ -9,9 +9,8 @@ ghost use Rattle.occ_syntax.specs.View.{exps, numbers, tree};
 use crate::declaration::Declaration;
 use crate::mentions::names;
 use crate::turns::turns;
-use occ_base::{Memory, Name};
-use occ_law::shape;
-use occ_law_shape::{Form, opened};
+use occ_law_shape::{Form, opened, shape};
+use occ_names::{Memory, Name};
 use occ_syntax::{Expr, Proc, same_expr, same_proc};
 
 /// VAR x: ys := fs = the assignment of the pairs for the other variables, where no right side of these names x

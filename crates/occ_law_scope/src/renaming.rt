@@ -1,16 +1,15 @@
 ghost use Rattle.std.specs.Prelude.{◌≡◌, ◌↔◌, IfOk, IsTrue, true, false};
-ghost use Rattle.occ_law_rules.specs.Scope.{ChanRename, VarRename};
+ghost use Rattle.occ_law_shape.specs.occ_law.Scope.{ChanRename, VarRename};
 ghost use Rattle.occ_law_shape.specs.Answer.{IsAnswer};
-ghost use Rattle.occ_meaning.specs.Rename.{renamed, replacing, stands};
+ghost use Rattle.occ_names.specs.occ_meaning.Rename.{renamed, replacing, stands};
 ghost use Rattle.occ_names.specs.Mentions.{declared_names};
 ghost use Rattle.occ_syntax.specs.Names.{is_in};
 ghost use Rattle.occ_syntax.specs.Scopes.{environment};
 ghost use Rattle.occ_syntax.specs.Types.{types_kept};
 ghost use Rattle.occ_syntax.specs.View.{tree};
 
-use occ_base::{Memory, Name, Width};
-use occ_law::shape;
-use occ_names::{RenameFault, rename};
+use occ_law_shape::shape;
+use occ_names::{Memory, Name, RenameFault, Width, rename};
 use occ_syntax::{Proc, Scope, same_proc};
 use std::alloc::Global;
 

@@ -2,8 +2,8 @@ ghost use Rattle.std.specs.Prelude.{◌≡◌, ◌↔◌, IsTrue};
 ghost use Rattle.occ_law_scope.specs.Turns.{IsBegun, IsOnePair, IsOnlyPair, IsTurns};
 ghost use Rattle.occ_syntax.specs.View.{exps, numbers, tree};
 
-use occ_base::Name;
 use occ_law_shape::{Form, opened, pair};
+use occ_names::Name;
 use occ_syntax::{Expr, Proc};
 
 /// The two parts of a SEQ that has two; None exactly where a process isn't such a SEQ.

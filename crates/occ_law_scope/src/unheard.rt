@@ -1,12 +1,12 @@
 ghost use Rattle.std.specs.Prelude.{◌≡◌, ◌↔◌, IfOk, IsTrue};
-ghost use Rattle.occ_law_rules.specs.Scope.{ChanAlt, without_channel};
+ghost use Rattle.occ_law_shape.specs.occ_law.Scope.{ChanAlt, without_channel};
 ghost use Rattle.occ_law_shape.specs.Answer.{IsAnswer};
 ghost use Rattle.occ_syntax.specs.View.{branches, tree};
 
 use crate::declaration::Declaration;
 use crate::mentions::is_on;
-use occ_base::{Memory, Name, Width};
-use occ_law::shape;
+use occ_law_shape::shape;
+use occ_names::{Memory, Name, Width};
 use occ_syntax::{Guard, Proc};
 
 /// CHAN c: ALT(gs) = the ALT of the branches whose guard isn't on c, each process P under CHAN c

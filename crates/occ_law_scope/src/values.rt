@@ -1,6 +1,6 @@
 ghost use Rattle.std.specs.Prelude.{◌≡◌, ◌↔◌, ◌^◌, IfOk, IsTrue, true};
-ghost use Rattle.occ_base.specs.Width.{bits_of};
-ghost use Rattle.occ_law_rules.specs.Scope.{VarAny, each_value, values_of};
+ghost use Rattle.occ_names.specs.occ_base.Width.{bits_of};
+ghost use Rattle.occ_law_shape.specs.occ_law.Scope.{VarAny, each_value, values_of};
 ghost use Rattle.occ_law_scope.specs.Turns.{begun as begun_with};
 ghost use Rattle.occ_law_scope.specs.Values.{value_at};
 ghost use Rattle.occ_law_shape.specs.Answer.{IsAnswer};
@@ -11,8 +11,8 @@ ghost use Rattle.occ_syntax.specs.View.{branches, exp, tree, waiting};
 
 use crate::declaration::Declaration;
 use crate::turns::begun;
-use occ_base::{Memory, Name, Width};
-use occ_law::law_case;
+use occ_law_shape::law_case;
+use occ_names::{Memory, Name, Width};
 use occ_syntax::{Expr, Guard, Proc, Scope, Wait, same_proc};
 
 /// VAR x: P = the ALT that has for each value v of x the branch TRUE & SKIP VAR x: SEQ(x := v, P)

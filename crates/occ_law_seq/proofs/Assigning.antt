@@ -1,11 +1,11 @@
 -- assign-id, assign-pad, assign-join, assign-if and assign-alt by the pairs of the assignments.
 use Rattle.std.proofs.Common.{◌≡◌, ℕ, ◌↔◌, Bool, IsTrue, true, false, true≢false, List, [], ◌∷◌, ◌++◌, map, refl, ap, sym, ◌∙◌, subst}
-use Rattle.occ_meaning.specs.Parallel.{two}
-use Rattle.occ_meaning.specs.Substitution.{substituted}
+use Rattle.occ_law_shape.specs.occ_meaning.Parallel.{two}
+use Rattle.occ_law_shape.specs.occ_meaning.Substitution.{substituted}
 use Rattle.occ_syntax.specs.Names.{is_in}
 use Rattle.occ_syntax.specs.Tree.{Exp, variable, Waiting, Tree, skip, assign, seq, select, alt, Cases, no_case, and_case, Branches, no_branch, and_branch}
-use Rattle.occ_law_rules.specs.Lists.{variables}
-use Rattle.occ_law_rules.specs.Sequence.{AssignAlt, AssignId, AssignIf, AssignJoin, AssignPad, assign_alt, assign_id, assign_if, assign_join, assign_pad, assigned_behind, each_assigned, each_guard_assigned, spare_inputs, substituted_waiting}
+use Rattle.occ_law_shape.specs.occ_law.Lists.{variables}
+use Rattle.occ_law_shape.specs.occ_law.Sequence.{AssignAlt, AssignId, AssignIf, AssignJoin, AssignPad, assign_alt, assign_id, assign_if, assign_join, assign_pad, assigned_behind, each_assigned, each_guard_assigned, spare_inputs, substituted_waiting}
 use Rattle.occ_law_shape.specs.Pieces.{each_branch, each_choice}
 use Rattle.occ_law_seq.specs.Assignment.{IsJoined, IsPadded, assigned_then}
 

@@ -5,7 +5,7 @@ use Rattle.occ_syntax.specs.declared.expr.Guard.{Guard}
 use Rattle.occ_syntax.specs.declared.proc.Proc.{Proc}
 use Rattle.occ_syntax.specs.Tree.{Exp, truth, Waiting, input, output, Tree, skip, receive, send, alt, Branches, no_branch, and_branch}
 use Rattle.occ_syntax.specs.View.{branches}
-use Rattle.occ_law_rules.specs.Sequence.{IoAlt, input_alt, output_alt}
+use Rattle.occ_law_shape.specs.occ_law.Sequence.{IoAlt, input_alt, output_alt}
 use Rattle.occ_law_seq.specs.Communication.{Communicates, EndsAfter, receives, sends}
 
 received_as : (p : Tree) (w : Waiting) → Communicates p w → (c x : ℕ) → receive c x ≡ p → w ≡ input c x

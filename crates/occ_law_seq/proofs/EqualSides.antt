@@ -1,15 +1,15 @@
 -- expr by the form of the two parts.
 use Rattle.std.proofs.Common.{◌≡◌, ℕ, ◌==◌, ◌↔◌, Bool, true, false, true≢false, not, List, [], refl, ap, sym, ◌∙◌, subst}
 use Rattle.std.proofs.lemmas.Bool.{and_parts, eqb-true}
-use Rattle.occ_base.specs.declared.names.Name.{Name}
+use Rattle.occ_law_shape.specs.occ_base.declared.names.Name.{Name}
 use Rattle.occ_syntax.specs.declared.scope.Kind.{Kind}
 use Rattle.occ_syntax.specs.Scopes.{Environment}
 use Rattle.occ_syntax.specs.Tree.{Exp, Tree, assign, send, select, alt, Cases, Branches}
 use Rattle.occ_syntax.specs.Types.{is_pair, pairs_kept, types_kept}
-use Rattle.occ_law_rules.specs.Sequence.{ExprEqual, expr_in_alt, expr_in_assignment, expr_in_if, expr_in_output}
-use Rattle.occ_law_rules.specs.States.{BranchesEqual, CasesEqual, EachEqual, IsEqualAlways}
-use Rattle.occ_law_states.proofs.Typed.{pairs_agree}
-use Rattle.occ_law_states.specs.Types.{agree_each}
+use Rattle.occ_law_shape.specs.occ_law.Sequence.{ExprEqual, expr_in_alt, expr_in_assignment, expr_in_if, expr_in_output}
+use Rattle.occ_law_shape.specs.occ_law.States.{BranchesEqual, CasesEqual, EachEqual, IsEqualAlways}
+use Rattle.occ_law_shape.proofs.Typed.{pairs_agree}
+use Rattle.occ_law_shape.specs.Types.{agree_each}
 
 -- ---- two assignments
 

@@ -1,7 +1,7 @@
 -- seq-if by its choices, and seq-alt by its branches.
 use Rattle.std.proofs.Common.{◌≡◌, ℕ, ◌↔◌, Bool, IsTrue, List, [], refl, ap, sym, ◌∙◌, subst}
 use Rattle.occ_syntax.specs.Tree.{Tree, seq, select, alt, Trees, no_tree, and_tree, Cases, no_case, and_case, Branches, no_branch, and_branch}
-use Rattle.occ_law_rules.specs.Sequence.{SeqAlt, seq_alt, SeqIf, seq_if, each_branch_before, each_case_before}
+use Rattle.occ_law_shape.specs.occ_law.Sequence.{SeqAlt, seq_alt, SeqIf, seq_if, each_branch_before, each_case_before}
 use Rattle.occ_law_shape.specs.Pieces.{each_branch, each_choice}
 use Rattle.occ_law_seq.specs.Behind.{followed}
 

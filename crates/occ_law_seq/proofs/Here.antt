@@ -1,7 +1,7 @@
 -- Whether a place of seq-flat, seq-skip or seq-stop is here.
 use Rattle.std.proofs.Common.{◌≡◌, ◌↔◌, Bool, IsTrue, true, false, true≢false, refl, ap, sym, ◌∙◌, subst}
 use Rattle.occ_syntax.specs.Tree.{Tree, seq, skip, stop, Trees, no_tree, and_tree}
-use Rattle.occ_meaning.specs.Parallel.{all_of, one}
+use Rattle.occ_law_shape.specs.occ_meaning.Parallel.{all_of, one}
 use Rattle.occ_law_shape.proofs.Parts.{rests_are}
 use Rattle.occ_law_seq.specs.Places.{FlatHere, flat_here, SkipHere, skip_here, StopHere, stop_here, begins_with_skip, is_skip}
 

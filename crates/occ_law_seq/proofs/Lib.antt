@@ -8,3 +8,4 @@ pub mod Ordering
 pub mod Placed
 pub mod Simple
 pub mod Tabled
+pub use Rattle.occ_law_shape.proofs as from_law_shape

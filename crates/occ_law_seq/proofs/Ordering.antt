@@ -3,12 +3,12 @@ use Rattle.std.proofs.Common.{◌≡◌, ℕ, ◌+◌, ◌==◌, ◌||◌, ◌�
 use Rattle.std.proofs.lemmas.Bool.{eqb-true}
 use Rattle.std.proofs.lemmas.Bool.Decides.{nat_tests}
 use Rattle.std.proofs.lemmas.List.{length-map}
-use Rattle.occ_base.specs.declared.names.Name.{Name}
+use Rattle.occ_law_shape.specs.occ_base.declared.names.Name.{Name}
 use Rattle.occ_syntax.specs.Names.{is_in}
 use Rattle.occ_syntax.specs.Tree.{Exp, Tree, assign}
 use Rattle.occ_syntax.specs.View.{numbers}
-use Rattle.occ_law_rules.specs.Lists.{PairsReordered, behind_pair, pairs_in_steps, same_pairs, two_pairs}
-use Rattle.occ_law_rules.specs.Sequence.{AssignOrder, assign_order}
+use Rattle.occ_law_shape.specs.occ_law.Lists.{PairsReordered, behind_pair, pairs_in_steps, same_pairs, two_pairs}
+use Rattle.occ_law_shape.specs.occ_law.Sequence.{AssignOrder, assign_order}
 use Rattle.occ_law_seq.specs.Assignment.{AreAmong, ArePairs, HasPair, HasPairs}
 
 -- ---- from an order to the pairs

@@ -1,9 +1,9 @@
 -- seq-flat, seq-skip and seq-stop as changes at a place of a list.
 use Rattle.std.proofs.Common.{◌≡◌, ℕ, ◌↔◌, List, [], ◌∷◌, refl, ap, sym, ◌∙◌, subst}
 use Rattle.occ_syntax.specs.Tree.{Tree, seq, skip, stop, Trees, no_tree, and_tree}
-use Rattle.occ_meaning.specs.Parallel.{all_of, one}
-use Rattle.occ_law_rules.specs.Lists.{size}
-use Rattle.occ_law_rules.specs.Sequence.{SeqFlat, seq_flat, SeqSkip, seq_skip, SeqStop, seq_stop}
+use Rattle.occ_law_shape.specs.occ_meaning.Parallel.{all_of, one}
+use Rattle.occ_law_shape.specs.occ_law.Lists.{size}
+use Rattle.occ_law_shape.specs.occ_law.Sequence.{SeqFlat, seq_flat, SeqSkip, seq_skip, SeqStop, seq_stop}
 use Rattle.occ_law_shape.specs.Places.{Somewhere, here, behind}
 use Rattle.occ_law_shape.proofs.Parts.{joined, parted}
 use Rattle.occ_law_seq.specs.Places.{FlatHere, flat_here, SkipHere, skip_here, StopHere, stop_here}

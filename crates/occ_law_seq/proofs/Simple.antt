@@ -3,8 +3,8 @@ use Rattle.std.proofs.Common.{◌≡◌, ℕ, ◌↔◌, Bool, IsTrue, List, [],
 use Rattle.occ_syntax.specs.declared.proc.Proc.{Proc}
 use Rattle.occ_syntax.specs.Tree.{Tree, seq, skip, Trees, no_tree}
 use Rattle.occ_syntax.specs.View.{trees}
-use Rattle.occ_meaning.specs.Parallel.{one}
-use Rattle.occ_law_rules.specs.Sequence.{SeqNone, seq_none, SeqOne, seq_one}
+use Rattle.occ_law_shape.specs.occ_meaning.Parallel.{one}
+use Rattle.occ_law_shape.specs.occ_law.Sequence.{SeqNone, seq_none, SeqOne, seq_one}
 use Rattle.occ_law_shape.proofs.Fronts.{trees_none}
 
 none_there : (parts : List Proc) → length parts ≡ 0 → trees parts ≡ no_tree

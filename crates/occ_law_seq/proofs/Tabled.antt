@@ -2,16 +2,16 @@
 use Rattle.std.proofs.Common.{◌≡◌, ℕ, ◌↔◌, Bool, IsTrue, true, not, Result, IfOk, List, [], ◌∷◌, ap, sym, ◌∙◌, subst}
 use Rattle.std.proofs.lemmas.Bool.{and_parts, not-true}
 use Rattle.std.proofs.lemmas.Result.{IfOk-weaker}
-use Rattle.occ_base.specs.declared.memory.Memory.{Memory}
-use Rattle.occ_base.specs.declared.names.Name.{Name}
+use Rattle.occ_law_shape.specs.occ_base.declared.memory.Memory.{Memory}
+use Rattle.occ_law_shape.specs.occ_base.declared.names.Name.{Name}
 use Rattle.occ_syntax.specs.declared.scope.Kind.{Kind}
-use Rattle.occ_meaning.proofs.Facts.{and_three, false_not_true}
+use Rattle.occ_law_shape.proofs.from_meaning.Facts.{and_three, false_not_true}
 use Rattle.occ_syntax.specs.Names.{is_in}
 use Rattle.occ_syntax.specs.Scopes.{Environment, environment, variable_width}
 use Rattle.occ_syntax.specs.Tree.{Exp, Tree}
 use Rattle.occ_syntax.specs.Types.{agree, is_pair, pairs_kept, type_of, types_kept}
 use Rattle.occ_syntax.specs.Usage.{Keeps}
-use Rattle.occ_law_rules.specs.Table.{LAW, SIDES}
+use Rattle.occ_law_shape.specs.occ_law.RuleTable.{LAW, SIDES}
 use Rattle.occ_law_seq.specs.Assignment.{ArePairs, HasPairs}
 
 -- where both parts keep the rules, the law holds where they are its sides

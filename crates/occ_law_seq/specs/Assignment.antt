@@ -6,8 +6,8 @@ use Rattle.occ_syntax.specs.declared.proc.Proc.{Proc}
 use Rattle.occ_syntax.specs.Names.{is_in}
 use Rattle.occ_syntax.specs.Tree.{Exp, variable, Tree, assign, seq}
 use Rattle.occ_syntax.specs.View.{exp, exps, numbers, tree}
-use Rattle.occ_meaning.specs.Parallel.{two}
-use Rattle.occ_meaning.specs.Substitution.{substituted}
+use Rattle.occ_law_shape.specs.occ_meaning.Parallel.{two}
+use Rattle.occ_law_shape.specs.occ_meaning.Substitution.{substituted}
 use Rattle.occ_law_seq.specs.declared.pairs.Pairs.{Pairs}
 
 -- the part is the assignment of these pairs; or it is no assignment

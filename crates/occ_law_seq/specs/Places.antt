@@ -1,7 +1,7 @@
 -- What seq-flat, seq-skip and seq-stop change at one place of a list, from that place on.
 use Rattle.std.specs.Prelude.{◌≡◌, Bool, true, false}
 use Rattle.occ_syntax.specs.Tree.{Tree, skip, stop, seq, Trees, no_tree, and_tree}
-use Rattle.occ_meaning.specs.Parallel.{all_of, one}
+use Rattle.occ_law_shape.specs.occ_meaning.Parallel.{all_of, one}
 
 pub data FlatHere : Trees → Trees → Type 0 where
   flat_here : (qs rs : Trees) → FlatHere (and_tree (seq qs) rs) (all_of qs rs)

@@ -1,18 +1,18 @@
 ghost use Rattle.std.specs.Prelude.{◌≡◌, ◌↔◌, IfOk, IsTrue};
 ghost use Rattle.occ_syntax.specs.Tree.{seq};
 ghost use Rattle.occ_syntax.specs.View.{branches, exp, exps, numbers, tree, waiting};
-ghost use Rattle.occ_meaning.specs.Parallel.{two};
-ghost use Rattle.occ_meaning.specs.Substitution.{substituted};
-ghost use Rattle.occ_law_rules.specs.Sequence.{AssignAlt, AssignIf, assigned_behind, spare_inputs, substituted_waiting};
+ghost use Rattle.occ_law_shape.specs.occ_meaning.Parallel.{two};
+ghost use Rattle.occ_law_shape.specs.occ_meaning.Substitution.{substituted};
+ghost use Rattle.occ_law_shape.specs.occ_law.Sequence.{AssignAlt, AssignIf, assigned_behind, spare_inputs, substituted_waiting};
 ghost use Rattle.occ_law_shape.specs.Answer.{IsAnswer};
 ghost use Rattle.occ_law_seq.specs.Assignment.{assigned_then};
 
 use crate::first::{assigned_first, in_turn};
 use crate::kept::{is_without, spares};
 use crate::pairs::Pairs;
-use occ_base::Memory;
-use occ_law::law_case;
-use occ_law_shape::{BranchPiece, ChoicePiece, are_branch_pieces, are_choice_pieces};
+use occ_law_shape::{
+    BranchPiece, ChoicePiece, Memory, are_branch_pieces, are_choice_pieces, law_case,
+};
 use occ_syntax::{Expr, Guard, Proc, Wait, same_proc};
 use std::alloc::Global;
 

@@ -1,15 +1,13 @@
 ghost use Rattle.std.specs.Prelude.{◌≡◌, ◌↔◌, IfOk, IsTrue};
 ghost use Rattle.occ_syntax.specs.View.{exp, exps, numbers, tree};
-ghost use Rattle.occ_law_rules.specs.Lists.{PairsReordered, variables};
-ghost use Rattle.occ_law_rules.specs.Sequence.{AssignId, AssignJoin, AssignOrder, AssignPad};
+ghost use Rattle.occ_law_shape.specs.occ_law.Lists.{PairsReordered, variables};
+ghost use Rattle.occ_law_shape.specs.occ_law.Sequence.{AssignId, AssignJoin, AssignOrder, AssignPad};
 ghost use Rattle.occ_law_shape.specs.Answer.{IsAnswer};
 ghost use Rattle.occ_law_seq.specs.Assignment.{AreAmong, HasPair, HasPairs, IsJoined, IsPadded, assigned_then};
 
 use crate::first::assigned_first;
 use crate::pairs::{Pairs, has_name, is_variable};
-use occ_base::{Memory, Name};
-use occ_law::law_case;
-use occ_law_shape::{same_expressions, same_names};
+use occ_law_shape::{Memory, Name, law_case, same_expressions, same_names};
 use occ_syntax::{Expr, Proc, same_expr};
 
 /// xs := xs = SKIP

@@ -1,14 +1,13 @@
 ghost use Rattle.std.specs.Prelude.{◌≡◌, ◌↔◌, IfOk, IsTrue};
 ghost use Rattle.occ_syntax.specs.Tree.{and_tree, seq};
 ghost use Rattle.occ_syntax.specs.View.{tree, trees};
-ghost use Rattle.occ_law_rules.specs.Sequence.{SeqAlt, SeqIf};
+ghost use Rattle.occ_law_shape.specs.occ_law.Sequence.{SeqAlt, SeqIf};
 ghost use Rattle.occ_law_shape.specs.Answer.{IsAnswer};
 ghost use Rattle.occ_law_seq.specs.Behind.{IsDivided, followed};
 
-use occ_base::Memory;
-use occ_law::{law_case, shape};
 use occ_law_shape::{
-    BranchPiece, ChoicePiece, are_branch_pieces, are_choice_pieces, same_procs, same_waits,
+    BranchPiece, ChoicePiece, Memory, are_branch_pieces, are_choice_pieces, law_case, same_procs,
+    same_waits, shape,
 };
 use occ_syntax::{Expr, Guard, Proc, same_expr, same_proc};
 use std::alloc::Global;

@@ -1,14 +1,12 @@
 ghost use Rattle.std.specs.Prelude.{◌≡◌, ◌↔◌, IfOk, IsTrue, true};
 ghost use Rattle.occ_syntax.specs.Tree.{alt, skip, truth};
 ghost use Rattle.occ_syntax.specs.View.{branches, exp, tree, waiting};
-ghost use Rattle.occ_law_rules.specs.Sequence.{IoAlt};
+ghost use Rattle.occ_law_shape.specs.occ_law.Sequence.{IoAlt};
 ghost use Rattle.occ_law_shape.specs.Answer.{IsAnswer};
 ghost use Rattle.occ_law_seq.specs.Communication.{Communicates, EndsAfter};
 
 use crate::places::is_skip;
-use occ_base::Memory;
-use occ_law::shape;
-use occ_law_shape::{Form, opened};
+use occ_law_shape::{Form, Memory, opened, shape};
 use occ_syntax::{Expr, Guard, Proc, Wait, same_expr};
 
 /// c ! e = ALT(c ! e SKIP), and c ? x = ALT(c ? x SKIP)

@@ -3,7 +3,7 @@ ghost use Rattle.occ_syntax.specs.Scopes.{environment};
 ghost use Rattle.occ_syntax.specs.Types.{scope_kept};
 ghost use Rattle.occ_syntax.specs.Usage.{Keeps};
 ghost use Rattle.occ_syntax.specs.View.{tree};
-ghost use Rattle.occ_law_rules.specs.Table.{LAW};
+ghost use Rattle.occ_law_shape.specs.occ_law.RuleTable.{LAW};
 
 use crate::assigned::{assign_alt, assign_if};
 use crate::assignment::{assign_id, assign_join, assign_order, assign_pad};
@@ -11,9 +11,7 @@ use crate::behind::{seq_alt, seq_if};
 use crate::communication::io_alt;
 use crate::expressions::expr;
 use crate::sequence::{seq_flat, seq_none, seq_one, seq_skip, seq_stop};
-use occ_base::Memory;
-use occ_dd::Store;
-use occ_law::LawId;
+use occ_law_shape::{LawId, Memory, Store};
 use occ_syntax::{Proc, Scope};
 use std::alloc::Global;
 

@@ -3,14 +3,13 @@ ghost use Rattle.occ_syntax.specs.Scopes.{environment};
 ghost use Rattle.occ_syntax.specs.Types.{scope_kept};
 ghost use Rattle.occ_syntax.specs.Usage.{Keeps as KeepsRules};
 ghost use Rattle.occ_syntax.specs.View.{tree};
-ghost use Rattle.occ_law_rules.specs.Sequence.{ExprEqual};
+ghost use Rattle.occ_law_shape.specs.occ_law.Sequence.{ExprEqual};
 ghost use Rattle.occ_law_shape.specs.Answer.{IsAnswer};
 
-use occ_base::Memory;
-use occ_dd::Store;
-use occ_law::shape;
-use occ_law_shape::{Form, opened, same_names};
-use occ_law_states::{Always, Equality, branches_equal, cases_equal, each_equal};
+use occ_law_shape::{
+    Always, Equality, Form, Memory, Store, branches_equal, cases_equal, each_equal, opened,
+    same_names, shape,
+};
 use occ_syntax::{Proc, Scope};
 use std::alloc::Global;
 

@@ -1,13 +1,12 @@
 ghost use Rattle.std.specs.Prelude.{◌≡◌, ◌↔◌, IsTrue};
 ghost use Rattle.occ_syntax.specs.Names.{some_names};
 ghost use Rattle.occ_syntax.specs.View.{exp, exps, numbers, tree, waiting};
-ghost use Rattle.occ_law_rules.specs.Lists.{assigned_without, names_without, values_without};
-ghost use Rattle.occ_law_rules.specs.Sequence.{spares_input};
+ghost use Rattle.occ_law_shape.specs.occ_law.Lists.{assigned_without, names_without, values_without};
+ghost use Rattle.occ_law_shape.specs.occ_law.Sequence.{spares_input};
 ghost use Rattle.occ_law_seq.specs.Kept.{IsNameRest, IsValueRest};
 
 use crate::pairs::{Pairs, names};
-use occ_base::Name;
-use occ_law_shape::{Form, opened};
+use occ_law_shape::{Form, Name, opened};
 use occ_syntax::{Expr, Proc, Wait, same_expr};
 
 /// Whether a part is the assignment of the pairs for other variables than one; SKIP where there are none.

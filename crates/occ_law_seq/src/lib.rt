@@ -18,4 +18,5 @@ pub use assignment::are_variables;
 pub use behind::divided;
 pub use decide::holds;
 pub use first::assigned_first;
+pub use occ_law_shape::{Form, LawId, LawPlace as Place, only, opened, pair, same_names};
 pub use pairs::Pairs;

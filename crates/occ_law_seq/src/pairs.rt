@@ -2,11 +2,10 @@ ghost use Rattle.std.specs.Prelude.{◌≡◌, ◌↔◌, IsTrue, map};
 ghost use Rattle.occ_syntax.specs.Names.{is_in, names as is_named};
 ghost use Rattle.occ_syntax.specs.Tree.{Exp, Tree, assign, variable};
 ghost use Rattle.occ_syntax.specs.View.{exp, exps, numbers, tree};
-ghost use Rattle.occ_meaning.specs.Substitution.{substituted, value_for};
+ghost use Rattle.occ_law_shape.specs.occ_meaning.Substitution.{substituted, value_for};
 ghost use Rattle.occ_law_seq.specs.Assignment.{IsAssignment, standing_for};
 
-use occ_base::Name;
-use occ_law_shape::{Form, opened, same_expressions, same_names};
+use occ_law_shape::{Form, Name, opened, same_expressions, same_names};
 use occ_syntax::{Expr, Op, Proc, same_expr};
 
 /// The pairs of an assignment: its variables, and the right side of each.

@@ -1,12 +1,10 @@
 ghost use Rattle.std.specs.Prelude.{IfOk};
 ghost use Rattle.occ_syntax.specs.View.{tree};
-ghost use Rattle.occ_law_rules.specs.Sequence.{SeqFlat, SeqNone, SeqOne, SeqSkip, SeqStop};
+ghost use Rattle.occ_law_shape.specs.occ_law.Sequence.{SeqFlat, SeqNone, SeqOne, SeqSkip, SeqStop};
 ghost use Rattle.occ_law_shape.specs.Answer.{IsAnswer};
 
 use crate::places::{Flat, LastSkip, LastStop};
-use occ_base::Memory;
-use occ_law::{law_case, shape};
-use occ_law_shape::{only, somewhere};
+use occ_law_shape::{Memory, law_case, only, shape, somewhere};
 use occ_syntax::{Proc, same_proc};
 
 /// SEQ() = SKIP

@@ -6,7 +6,7 @@ use Rattle.occ_syntax.specs.declared.expr.Expr.{Expr}
 use Rattle.occ_syntax.specs.declared.expr.Guard.{Guard}
 use Rattle.occ_syntax.specs.declared.proc.Proc.{Proc}
 use Rattle.occ_syntax.specs.Tree.{Exp, Waiting, Tree, Trees, no_tree, and_tree, Cases, no_case, and_case, Branches, no_branch, and_branch}
-use Rattle.occ_meaning.specs.Parallel.{all_of}
+use Rattle.occ_law.specs.occ_meaning.Parallel.{all_of}
 use Rattle.occ_law_shape.specs.Pieces.{each_branch, each_choice}
 use Rattle.occ_law_shape.proofs.Parts.{all_of-none, rests_are}
 use Rattle.occ_syntax.specs.View.{exp, exps, waiting, tree, trees, cases, branches}

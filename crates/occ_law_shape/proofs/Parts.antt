@@ -1,8 +1,8 @@
 -- Lists of processes taken apart: at a place, and behind a front.
 use Rattle.std.proofs.Common.{◌≡◌, ◌+◌, ◌⊎◌, ◌↔◌, inl, inr, arith, refl, ap, sym, ◌∙◌, subst}
 use Rattle.occ_syntax.specs.Tree.{Tree, Trees, no_tree, and_tree}
-use Rattle.occ_meaning.specs.Parallel.{all_of}
-use Rattle.occ_law_rules.specs.Lists.{size}
+use Rattle.occ_law.specs.occ_meaning.Parallel.{all_of}
+use Rattle.occ_law.specs.Lists.{size}
 use Rattle.occ_law_shape.specs.Places.{Somewhere, here, behind}
 
 -- two lists that are equal up to a place, with what is related from there on

@@ -4,7 +4,7 @@ use Rattle.std.specs.Borrow.{Bor}
 use Rattle.occ_syntax.specs.declared.proc.Proc.{Proc}
 use Rattle.occ_syntax.specs.Tree.{Tree, Trees}
 use Rattle.occ_syntax.specs.View.{tree, trees}
-use Rattle.occ_meaning.specs.Parallel.{all_of, one, two}
+use Rattle.occ_law.specs.occ_meaning.Parallel.{all_of, one, two}
 
 -- the list has one part, which is this; or it hasn't one
 abbrev pub IsOnly : Trees → Option (Bor Proc) → Type 0

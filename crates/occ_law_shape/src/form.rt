@@ -2,7 +2,7 @@ ghost use Rattle.std.specs.Prelude.{◌≡◌};
 ghost use Rattle.occ_syntax.specs.View.{tree};
 ghost use Rattle.occ_law_shape.specs.Form.{form_tree};
 
-use occ_base::{Name, Width};
+use occ_law::{BaseName as Name, Width};
 use occ_syntax::{Expr, Guard, Proc};
 
 /// A process taken apart, one step deep: its construct, with lists as slices.
@@ -33,7 +33,7 @@ pub enum Form<'a> {
 }
 
 /// The construct of a process. It takes no memory.
-#[tactic(auto, unfolding(occ_syntax::specs::View::tree))]
+#[tactic(auto, unfolding(crate::specs::tree))]
 pub fn opened(part: &Proc) -> Form<'_>
     ensures { form_tree result ≡ tree part.now }
 {

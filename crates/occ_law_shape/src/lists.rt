@@ -2,7 +2,7 @@ ghost use Rattle.std.specs.Prelude.{◌≡◌, ◌↔◌, IsTrue};
 ghost use Rattle.occ_syntax.specs.View.{exps, numbers, trees, waiting};
 ghost use Rattle.occ_law_shape.specs.Lists.{IsBehind, IsOnly, IsPair};
 
-use occ_base::Name;
+use occ_law::BaseName as Name;
 use occ_syntax::{Expr, Proc, Wait, same_expr, same_proc};
 
 /// The part of a list that has one; None exactly where it hasn't one. It takes no memory.

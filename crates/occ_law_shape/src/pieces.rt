@@ -3,7 +3,7 @@ ghost use Rattle.occ_syntax.specs.Tree.{Exp, Tree, Waiting};
 ghost use Rattle.occ_syntax.specs.View.{exp, waiting, tree, cases, branches};
 ghost use Rattle.occ_law_shape.specs.Pieces.{each_branch, each_choice};
 
-use occ_base::Memory;
+use occ_law::Memory;
 use occ_syntax::{Expr, Guard, Proc};
 use std::alloc::Global;
 

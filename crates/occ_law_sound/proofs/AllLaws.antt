@@ -1,16 +1,16 @@
 -- Each law of the table leads to parts that are the same.
-use Rattle.occ_base.specs.declared.names.Name.{Name}
-use Rattle.occ_law_choice_sound.proofs.Sound.{choice_sound}
-use Rattle.occ_law_par_sound.proofs.Sound.{parallel_sound}
-use Rattle.occ_law_rules.specs.Table.{LAW, SIDES}
-use Rattle.occ_law_scope_sound.proofs.Sound.{scope_sound}
-use Rattle.occ_law_seq_sound.proofs.Sound.{sequence_sound}
-use Rattle.occ_meaning.proofs.Facts.{either}
-use Rattle.occ_syntax.specs.Same.{SAME}
-use Rattle.occ_syntax.specs.Scopes.{environment}
-use Rattle.occ_syntax.specs.Tree.{Tree}
-use Rattle.occ_syntax.specs.Usage.{Keeps}
-use Rattle.occ_syntax.specs.declared.scope.Kind.{Kind}
+use Rattle.occ_law.specs.occ_base.declared.names.Name.{Name}
+use Rattle.occ_law_sound.proofs.ChoiceSound.{choice_sound}
+use Rattle.occ_law_sound.proofs.ParSound.{parallel_sound}
+use Rattle.occ_law.specs.RuleTable.{LAW, SIDES}
+use Rattle.occ_law_sound.proofs.ScopeSound.{scope_sound}
+use Rattle.occ_law_sound.proofs.SeqSound.{sequence_sound}
+use Rattle.occ_law.proofs.from_meaning.Facts.{either}
+use Rattle.occ_law.specs.occ_syntax.Same.{SAME}
+use Rattle.occ_law.specs.occ_syntax.Scopes.{environment}
+use Rattle.occ_law.specs.occ_syntax.Tree.{Tree}
+use Rattle.occ_law.specs.occ_syntax.Usage.{Keeps}
+use Rattle.occ_law.specs.occ_syntax.declared.scope.Kind.{Kind}
 use Rattle.std.proofs.Common.{List, nat_le, ℕ}
 
 sides_sound : (n : ℕ) (S : List (Name × Kind)) (ks : List ℕ) (l r : Tree) → Keeps (environment S) l → SIDES n S ks l r

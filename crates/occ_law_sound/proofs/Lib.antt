@@ -1,1 +1,31 @@
+pub mod AssignedChoice
+pub mod Assigning
+pub mod EqualPlaces
+pub mod GoingOn
+pub mod InTurn
+pub mod SeqSound
+pub mod Alternatives
+pub mod Choices
+pub mod ChoiceSound
+pub mod Expanding
+pub mod Meetings
+pub mod Parts
+pub mod ParSound
+pub mod ChannelBranches
+pub mod Declared
+pub mod DroppedPairs
+pub mod EachValue
+pub mod IntoBranches
+pub mod IntoChoices
+pub mod Opened
+pub mod OtherInput
+pub mod ScopeSound
 mod AllLaws
+pub mod Choice
+pub mod Direct
+pub mod Fronts
+pub mod Parallel
+pub mod Scope
+pub mod Sequence
+pub mod Table
+pub use Rattle.occ_law.proofs.from_meaning as from_meaning

@@ -8,19 +8,32 @@
 //!
 //! `read` and `lines` read a whole text. `first_row`, `code` and `line` read one line of it, for readers of formats
 //! that have lines of their own between the others.
+//! The tokens of a text as symbols: reserved words and signs by what they are, numerals by their value, and names by
+//! their number in a name table. No crate above sees bytes.
+//! Names that a program doesn't have yet, and tables of names that grow by names of the language.
 #![tactic(auto)]
 
 mod fault;
+mod fresh_names;
 mod laws;
 mod reading;
 mod row;
 mod scan;
 mod spelling;
+mod symbol;
+mod symbol_laws;
+mod symbol_reading;
 mod token;
+mod words;
 
 pub use fault::{LexFault, LineFault, RowFault};
+pub use fresh_names::numbered;
 pub use laws::{printed_lines_have_their_words, printed_text_is_read, reading_is_of_its_text};
+pub use occ_base::{Dir, Event, Events, List, Memory, Name, Names, State, Width};
 pub use reading::{Reading, lines, read};
 pub use row::{code, first_row, line};
 pub use spelling::{is_name_byte, kind_of, numeral_value};
+pub use symbol::{Keyword, Row, Sign, Symbol, Symbols};
+pub use symbol_laws::{each_token_has_a_symbol, names_are_known};
+pub use symbol_reading::rows;
 pub use token::{Line, Token, TokenKind, Tokens};

@@ -1,14 +1,14 @@
 use Rattle.std.proofs.Common.{◌≡◌, ℕ, ◌+◌, ◌<◌, ◌≤◌, Bool, true, false, List, length, max, Some, None, cond, refl, sym, ap, ◌∙◌, subst, ⊎_elim, arith}
 use Rattle.std.specs.Int.{bit_at}
-use Rattle.occ_diagram.proofs.Bits.{bit_cases, is_one, is_zero}
-use Rattle.occ_diagram.proofs.Growth.{known-keeps, depth-keeps, end-keeps, keeps_trans as nodes_trans}
-use Rattle.occ_diagram.proofs.Growth.{keeps_refl as nodes_stay}
-use Rattle.occ_diagram.specs.Memo.{recalled, Learns}
-use Rattle.occ_diagram.specs.Diagram.{depth_of, end_of, IsDiagram}
-use Rattle.occ_diagram.specs.Diagram.{IsSplit as IsBranch, Keeps as KeepsNodes}
-use Rattle.occ_diagram.specs.declared.memo.Call.{Call}
-use Rattle.occ_diagram.specs.declared.memo.Memo.{Memo}
-use Rattle.occ_diagram.specs.declared.node.Node.{Node}
+use Rattle.occ_dd.proofs.Bits.{bit_cases, is_one, is_zero}
+use Rattle.occ_dd.proofs.Growth.{known-keeps, depth-keeps, end-keeps, keeps_trans as nodes_trans}
+use Rattle.occ_dd.proofs.Growth.{keeps_refl as nodes_stay}
+use Rattle.occ_dd.specs.Memo.{recalled, Learns}
+use Rattle.occ_dd.specs.Diagram.{depth_of, end_of, IsDiagram}
+use Rattle.occ_dd.specs.Diagram.{IsSplit as IsBranch, Keeps as KeepsNodes}
+use Rattle.occ_dd.specs.declared.memo.Call.{Call}
+use Rattle.occ_dd.specs.declared.memo.Memo.{Memo}
+use Rattle.occ_dd.specs.declared.node.Node.{Node}
 use Rattle.occ_dd.proofs.Callers.{keeps_refl, keeps_trans}
 use Rattle.occ_dd.proofs.Callers.{known-keeps as set_known-keeps}
 use Rattle.occ_dd.proofs.Sets.{one_number}

@@ -8,15 +8,15 @@ use Rattle.std.specs.declared.cmp.Ordering.{Ordering}
 use Rattle.std.proofs.lemmas.Bool.{cond_both}
 use Rattle.std.proofs.lemmas.List.Kept.{Contains-dedup, Contains-from_dedup, IsStrictlySortedBy-dedup}
 use Rattle.std.proofs.lemmas.List.Sorted.{Contains-permutation, IsPermutation-sym}
-use Rattle.occ_diagram.proofs.Bits.{bit_cases, bit_at-with_bit_same}
-use Rattle.occ_diagram.proofs.DiagramLemmas.{end-with_bit_free}
-use Rattle.occ_diagram.specs.Assignment.{with_bit, turned}
-use Rattle.occ_diagram.specs.Memo.{recalled, Learns}
-use Rattle.occ_diagram.specs.Diagram.{depth_of, end_of, label_of, IsDiagram, IsPart}
-use Rattle.occ_diagram.specs.Table.{nodes_of}
-use Rattle.occ_diagram.specs.declared.memo.Call.{Call}
-use Rattle.occ_diagram.specs.declared.memo.Memo.{Memo}
-use Rattle.occ_diagram.specs.declared.node.Node.{Node}
+use Rattle.occ_dd.proofs.Bits.{bit_cases, bit_at-with_bit_same}
+use Rattle.occ_dd.proofs.DiagramLemmas.{end-with_bit_free}
+use Rattle.occ_dd.specs.Assignment.{with_bit, turned}
+use Rattle.occ_dd.specs.Memo.{recalled, Learns}
+use Rattle.occ_dd.specs.Diagram.{depth_of, end_of, label_of, IsDiagram, IsPart}
+use Rattle.occ_dd.specs.Table.{nodes_of}
+use Rattle.occ_dd.specs.declared.memo.Call.{Call}
+use Rattle.occ_dd.specs.declared.memo.Memo.{Memo}
+use Rattle.occ_dd.specs.declared.node.Node.{Node}
 use Rattle.occ_dd.proofs.Callers.{keeps_refl, keeps_trans, known-keeps, has-free, has-low, depth-constant, member-other}
 use Rattle.occ_dd.specs.Store.{IsKnown, has, depth, IsEmpty, IsConstant, IsSet, Keeps}
 use Rattle.occ_dd.specs.declared.set.SetId.{SetId}

@@ -1,16 +1,16 @@
 use Rattle.std.proofs.Common.{◌≡◌, ℕ, ◌+◌, ◌<◌, ◌≤◌, List, length, max, Option, Some, None, slice_get, cond, sym, ap, ◌∙◌, subst, ⊎_elim, arith, IfSome}
 use Rattle.std.specs.Int.{bit_at}
 use Rattle.std.proofs.lemmas.Option.{IfSome_then, same_Some, slice_get_within}
-use Rattle.occ_diagram.proofs.Bits.{bit_cases, is_one, is_zero}
-use Rattle.occ_diagram.proofs.DiagramLemmas.{depth-leaf, end-part}
-use Rattle.occ_diagram.proofs.Growth.{known-keeps, depth-keeps, end-keeps, keeps_refl, keeps_trans}
-use Rattle.occ_diagram.specs.Assignment.{with_bit}
-use Rattle.occ_diagram.specs.Memo.{recalled, Learns}
-use Rattle.occ_diagram.specs.Diagram.{depth_of, end_of, label_of, IsDiagram, Keeps, IsSplit, IsPart}
-use Rattle.occ_diagram.specs.declared.memo.Call.{Call}
-use Rattle.occ_diagram.specs.declared.memo.Memo.{Memo}
-use Rattle.occ_diagram.specs.declared.node.Node.{Node}
-use Rattle.occ_diagram.specs.declared.node.Node.TheVariants.{Leaf}
+use Rattle.occ_dd.proofs.Bits.{bit_cases, is_one, is_zero}
+use Rattle.occ_dd.proofs.DiagramLemmas.{depth-leaf, end-part}
+use Rattle.occ_dd.proofs.Growth.{known-keeps, depth-keeps, end-keeps, keeps_refl, keeps_trans}
+use Rattle.occ_dd.specs.Assignment.{with_bit}
+use Rattle.occ_dd.specs.Memo.{recalled, Learns}
+use Rattle.occ_dd.specs.Diagram.{depth_of, end_of, label_of, IsDiagram, Keeps, IsSplit, IsPart}
+use Rattle.occ_dd.specs.declared.memo.Call.{Call}
+use Rattle.occ_dd.specs.declared.memo.Memo.{Memo}
+use Rattle.occ_dd.specs.declared.node.Node.{Node}
+use Rattle.occ_dd.specs.declared.node.Node.TheVariants.{Leaf}
 use Rattle.occ_mdd.specs.Value.{value_at}
 use Rattle.occ_mdd.specs.Combined.{AreCombined, AreHalved, ArePair, ArePart, IsCombined, Pass, deepest}
 use Rattle.occ_mdd.proofs.Values.{value-keeps, value-ends, value-flat, value-label, value-leaf}

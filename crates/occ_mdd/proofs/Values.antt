@@ -3,14 +3,14 @@ use Rattle.std.specs.Int.{bit_at}
 use Rattle.std.proofs.lemmas.Nat.{div-add-mod'}
 use Rattle.std.proofs.lemmas.Nat.Bits.{bit_at_cat_low}
 use Rattle.std.proofs.lemmas.Option.{slice_get_within}
-use Rattle.occ_diagram.proofs.DiagramLemmas.{depth-le, end-in, end-leaf, end_terminal, one_terminal, label-leaf, end_agree, canonical}
-use Rattle.occ_diagram.proofs.Growth.{end-keeps, label-keeps}
-use Rattle.occ_diagram.specs.Assignment.{turned}
-use Rattle.occ_diagram.specs.Diagram.{depth_of, end_of, label_of, IsDiagram, IsTurned}
-use Rattle.occ_diagram.specs.Diagram.{Keeps as KeepsNodes}
-use Rattle.occ_diagram.specs.Table.{nodes_of}
-use Rattle.occ_diagram.specs.declared.node.Node.{Node}
-use Rattle.occ_diagram.specs.declared.node.Node.TheVariants.{Leaf}
+use Rattle.occ_dd.proofs.DiagramLemmas.{depth-le, end-in, end-leaf, end_terminal, one_terminal, label-leaf, end_agree, canonical}
+use Rattle.occ_dd.proofs.Growth.{end-keeps, label-keeps}
+use Rattle.occ_dd.specs.Assignment.{turned}
+use Rattle.occ_dd.specs.Diagram.{depth_of, end_of, label_of, IsDiagram, IsTurned}
+use Rattle.occ_dd.specs.Diagram.{Keeps as KeepsNodes}
+use Rattle.occ_dd.specs.Table.{nodes_of}
+use Rattle.occ_dd.specs.declared.node.Node.{Node}
+use Rattle.occ_dd.specs.declared.node.Node.TheVariants.{Leaf}
 use Rattle.occ_mdd.specs.Value.{value_at}
 use Rattle.occ_mdd.specs.Combined.{IsCombined}
 use Rattle.occ_mdd.specs.Maps.{maps_of, IsKnown, value, Keeps, IsMap, HasLabels, IsRelated, IsCanonical}

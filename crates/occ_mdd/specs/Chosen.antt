@@ -1,11 +1,11 @@
 use Rattle.std.specs.Prelude.{ℕ, ◌+◌, ◌<◌, ◌≤◌, ◌≡◌, List, Some, length, max, if◌then◌else◌}
 use Rattle.std.specs.Int.{bit_at}
-use Rattle.occ_diagram.specs.Memo.{recalled}
-use Rattle.occ_diagram.specs.Diagram.{depth_of, end_of, IsPart}
-use Rattle.occ_diagram.specs.Diagram.{Keeps as KeepsNodes}
-use Rattle.occ_diagram.specs.declared.memo.Call.{Call}
-use Rattle.occ_diagram.specs.declared.memo.Memo.{Memo}
-use Rattle.occ_diagram.specs.declared.node.Node.{Node}
+use Rattle.occ_dd.specs.Memo.{recalled}
+use Rattle.occ_dd.specs.Diagram.{depth_of, end_of, IsPart}
+use Rattle.occ_dd.specs.Diagram.{Keeps as KeepsNodes}
+use Rattle.occ_dd.specs.declared.memo.Call.{Call}
+use Rattle.occ_dd.specs.declared.memo.Memo.{Memo}
+use Rattle.occ_dd.specs.declared.node.Node.{Node}
 use Rattle.occ_dd.specs.Store.{IsKnown, Keeps, has, depth}
 use Rattle.occ_dd.specs.declared.set.SetId.{SetId}
 use Rattle.occ_dd.specs.declared.store.Store.{Store}

@@ -3,3 +3,4 @@ pub mod Combined
 pub mod Maps
 pub mod Met
 pub mod Value
+pub use Rattle.occ_dd.specs as occ_dd

@@ -1,6 +1,6 @@
 use Rattle.std.specs.Prelude.{ℕ, List, Option, None, unwrap_or}
-use Rattle.occ_diagram.specs.Diagram.{end_of, label_of}
-use Rattle.occ_diagram.specs.declared.node.Node.{Node}
+use Rattle.occ_dd.specs.Diagram.{end_of, label_of}
+use Rattle.occ_dd.specs.declared.node.Node.{Node}
 
 -- the value of function i at an assignment
 unfoldable pub value_at : {L : Type 0} → List (Node (Option L)) → ℕ → ℕ → Option L

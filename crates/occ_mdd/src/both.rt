@@ -1,7 +1,6 @@
 ghost use Rattle.std.specs.Prelude.{IfOk, IfSome, Option};
 
-use occ_base::Memory;
-use occ_diagram::Label;
+use occ_dd::{Label, Memory};
 
 /// How two maps are combined, label by label, by something that may change on the way. It has three
 /// meanings: a test of the labels that it takes; a relation between two labels and the answer for
@@ -14,7 +13,7 @@ pub trait Both<L: Label> {
 
     ghost leads: { Self → Self → Type 0 };
 
-    /// The label for two labels, which pass the test. After want of memory too, the state is a later one.
+    /// The label for two labels, which pass the test. Also where memory runs out, the state is a later one.
     fn both(&mut self, a: Option<L>, b: Option<L>) -> Result<Option<L>, Memory>
         requires a { IfSome a (accepts self.old) }
         requires b { IfSome b (accepts self.old) }

@@ -1,13 +1,11 @@
 ghost use Rattle.std.specs.Prelude.{◌<◌, ◌≤◌, IfOk, length};
-ghost use Rattle.occ_diagram.specs.Table.{nodes_of};
+ghost use Rattle.occ_dd.specs.Table.{nodes_of};
 ghost use Rattle.std.specs.Bool.{OnTrue, OnFalse};
 ghost use Rattle.occ_dd.specs.Store.{IsKnown, IsFull, Splits};
 ghost use Rattle.occ_dd.specs.Store.{Keeps as KeepsSets};
 ghost use Rattle.occ_mdd.specs.Chosen.{AreChosen, Grown, IsAsked, IsChosen, IsHalved, IsSetPart, IsTop};
 
-use occ_base::Memory;
-use occ_dd::{SetId, Store};
-use occ_diagram::{Call, Label, Memo, Table};
+use occ_dd::{Call, Label, Memo, Memory, SetId, Store, Table};
 
 /// What a choice comes to: a function that is there, or a bit with the choices on its two sides.
 #[derive(Clone, Copy)]

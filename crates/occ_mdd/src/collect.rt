@@ -1,14 +1,12 @@
 ghost use Rattle.std.specs.Prelude.{◌≡◌, ℕ, ◌<◌, ◌≤◌, ◌⊎◌, OnOk, IfOk, Contains, length, true};
 ghost use Rattle.std.specs.Bool.{OnTrue, OnFalse};
-ghost use Rattle.occ_diagram.specs.Diagram.{depth_of};
-ghost use Rattle.occ_diagram.specs.Table.{nodes_of};
+ghost use Rattle.occ_dd.specs.Diagram.{depth_of};
+ghost use Rattle.occ_dd.specs.Table.{nodes_of};
 ghost use Rattle.occ_dd.specs.Store.{IsKnown, IsEmpty, Keeps, has};
 ghost use Rattle.occ_mdd.specs.Met.{AreHalves, AreSeen, IsSeen, Visits};
 
 use crate::choose::{sides, top_bit};
-use occ_base::Memory;
-use occ_dd::{SetId, Store};
-use occ_diagram::{Call, Label, Memo, Table};
+use occ_dd::{Call, Label, Memo, Memory, SetId, Store, Table};
 
 /// The labels that were found, and the pairs of a set and a function that were visited.
 #[derive(Drop)]

@@ -1,11 +1,10 @@
 ghost use Rattle.std.specs.Prelude.{◌≡◌, ◌<◌, ◌≤◌, IfOk, length};
-ghost use Rattle.occ_diagram.specs.Diagram.{Keeps};
-ghost use Rattle.occ_diagram.specs.Table.{nodes_of};
+ghost use Rattle.occ_dd.specs.Diagram.{Keeps};
+ghost use Rattle.occ_dd.specs.Table.{nodes_of};
 ghost use Rattle.occ_mdd.specs.Combined.{AreCombined, AreHalved, IsCombined, Pass, deepest};
 
 use crate::Both;
-use occ_base::Memory;
-use occ_diagram::{Call, Label, Memo, Table};
+use occ_dd::{Call, Label, Memo, Memory, Table};
 
 // The greatest depth of two functions.
 fn deepest<L: Label>(table: &Table<Option<L>>, call: Call) -> u32

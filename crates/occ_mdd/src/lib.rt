@@ -13,3 +13,4 @@ pub use both::Both;
 pub use law::maps_have_one_number;
 pub use map::MapId;
 pub use maps::Maps;
+pub use occ_dd::{Call, Label, Memo, SetId, Store};

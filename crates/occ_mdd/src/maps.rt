@@ -1,5 +1,5 @@
 ghost use Rattle.std.specs.Prelude.{◌≡◌, ℕ, ◌<◌, ◌^◌, IfOk, if◌then◌else◌};
-ghost use Rattle.occ_diagram.specs.Assignment.{turned};
+ghost use Rattle.occ_dd.specs.Assignment.{turned};
 ghost use Rattle.occ_dd.specs.Store.{has};
 ghost use Rattle.occ_dd.specs.Store.{IsKnown as IsSetKnown, Keeps as KeepsSets};
 
@@ -7,15 +7,13 @@ use crate::choose::choose;
 use crate::collect::{Found, collect};
 use crate::combine::combine;
 use crate::{Both, MapId};
-use occ_base::Memory;
-use occ_dd::{SetId, Store};
-use occ_diagram::{Call, Label, Memo, Table};
+use occ_dd::{Call, Label, Memo, Memory, SetId, Store, Table};
 use std::alloc::Global;
 use std::hash::Hash;
 
 /// Functions from assignments of 64 bits to optional labels, known by their numbers. An assignment is
 /// a u64 whose k-th binary digit is bit k. One function has one number, and a number keeps its
-/// function whatever is made later, also after want of memory. The functions are ordered reduced
+/// function whatever is made later, also where memory runs out. The functions are ordered reduced
 /// decision diagrams with shared nodes (Bryant 1986).
 #[derive(Drop)]
 pub struct Maps<L>
@@ -98,7 +96,7 @@ impl<L: Label> Maps<L> {
     }
 
     /// The function whose value at each assignment is what `f` gives for the values of the two.
-    /// After want of memory too, `f` is at a later state.
+    /// Also where memory runs out, `f` is at a later state.
     pub fn apply2<F: Both<L>>(&mut self, a: MapId, b: MapId, f: &mut F) -> Result<MapId, Memory>
         requires a { IsKnown self.old a }
         requires b { IsKnown self.old b }

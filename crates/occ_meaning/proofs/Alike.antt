@@ -1,6 +1,6 @@
 -- SAME over meanings: an equivalence that every operator keeps.
 -- a refusal lies within the environment; an end has nothing to show
-use Rattle.occ_base.specs.declared.width.Width.{Width}
+use Rattle.occ_syntax.specs.occ_base.declared.width.Width.{Width}
 use Rattle.occ_meaning.proofs.Facts.{both, false_not_true, name_off}
 use Rattle.occ_meaning.proofs.States.{KeepsStates, connected_state, declared_state, taken_state}
 use Rattle.occ_syntax.specs.Eval.{is_true}

@@ -1,9 +1,9 @@
 -- PAR of meanings: its parts may change places and groups, SKIP is its unit, and STOP stops it at its end.
 -- every behaviour of the first is one of the second, from all values
-use Rattle.occ_base.specs.Event.{counterpart, other_direction}
-use Rattle.occ_base.specs.declared.event.Dir.{Dir}
-use Rattle.occ_base.specs.declared.event.Dir.TheVariants.{Input, Output}
-use Rattle.occ_base.specs.declared.event.Event.{Event}
+use Rattle.occ_syntax.specs.occ_base.Event.{counterpart, other_direction}
+use Rattle.occ_syntax.specs.occ_base.declared.event.Dir.{Dir}
+use Rattle.occ_syntax.specs.occ_base.declared.event.Dir.TheVariants.{Input, Output}
+use Rattle.occ_syntax.specs.occ_base.declared.event.Event.{Event}
 use Rattle.occ_meaning.proofs.Alike.{Into, same_from}
 use Rattle.occ_meaning.proofs.Facts.{false_not_true, if_false, if_true}
 use Rattle.occ_meaning.proofs.Frame.{KeepsValue}

@@ -1,6 +1,6 @@
 -- No trace of a part is longer than its communications on the longest way.
-use Rattle.occ_base.specs.declared.event.Event.{Event}
-use Rattle.occ_base.specs.declared.width.Width.{Width}
+use Rattle.occ_syntax.specs.occ_base.declared.event.Event.{Event}
+use Rattle.occ_syntax.specs.occ_base.declared.width.Width.{Width}
 use Rattle.occ_meaning.proofs.Facts.{either}
 use Rattle.occ_meaning.specs.Bound.{guard_events, most_events, most_of_branches, most_of_cases, sum_of_events}
 use Rattle.occ_syntax.specs.Eval.{is_true}

@@ -1,6 +1,6 @@
 -- SAME is kept in every context, and at every path.
 -- ---- lists that are the same part by part
-use Rattle.occ_base.specs.declared.width.Width.{Width}
+use Rattle.occ_syntax.specs.occ_base.declared.width.Width.{Width}
 use Rattle.occ_meaning.proofs.Alike.{GuardsInto, Into, alternatives_into, and_guard_into, back, beside_into, channel_into, chosen_into, followed_into, forth, into_itself, keeps_through, no_guard_into, same_back, same_from, same_itself, variable_into}
 use Rattle.occ_meaning.proofs.Facts.{and_four, and_three, none_not_some, some_is}
 use Rattle.occ_meaning.proofs.States.{fresh_name, part_states}

@@ -1,9 +1,9 @@
 -- Declarations that aren't used, that change places, and that move past parts which don't have the name.
 -- ---- one operator in another
-use Rattle.occ_base.specs.Width.{bits_of}
-use Rattle.occ_base.specs.declared.event.Dir.{Dir}
-use Rattle.occ_base.specs.declared.event.Event.{Event}
-use Rattle.occ_base.specs.declared.width.Width.{Width}
+use Rattle.occ_syntax.specs.occ_base.Width.{bits_of}
+use Rattle.occ_syntax.specs.occ_base.declared.event.Dir.{Dir}
+use Rattle.occ_syntax.specs.occ_base.declared.event.Event.{Event}
+use Rattle.occ_syntax.specs.occ_base.declared.width.Width.{Width}
 use Rattle.occ_meaning.proofs.Beside.{Gives, done, same_by, shrink}
 use Rattle.occ_meaning.proofs.Ends.{part_uses}
 use Rattle.occ_meaning.proofs.Facts.{clash, name_off, off_turned, value_off}

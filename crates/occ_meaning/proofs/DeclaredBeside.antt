@@ -1,9 +1,9 @@
 -- Declarations and PAR: a declaration belongs to one part, where the others don't have its name.
 -- ---- events in scope around a variable that isn't in scope outside
-use Rattle.occ_base.specs.Event.{counterpart}
-use Rattle.occ_base.specs.Width.{bits_of}
-use Rattle.occ_base.specs.declared.event.Event.{Event}
-use Rattle.occ_base.specs.declared.width.Width.{Width}
+use Rattle.occ_syntax.specs.occ_base.Event.{counterpart}
+use Rattle.occ_syntax.specs.occ_base.Width.{bits_of}
+use Rattle.occ_syntax.specs.occ_base.declared.event.Event.{Event}
+use Rattle.occ_syntax.specs.occ_base.declared.width.Width.{Width}
 use Rattle.occ_meaning.proofs.Beside.{gives_through, same_by, shrink}
 use Rattle.occ_meaning.proofs.Declared.{Foreign, channel_gives, declared_off, foreign_in, foreign_out, foreign_part, variable_gives}
 use Rattle.occ_meaning.proofs.Ends.{part_uses}

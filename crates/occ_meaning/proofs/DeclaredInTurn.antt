@@ -1,6 +1,6 @@
 -- Declarations and SEQ: a declaration moves past a part that doesn't have its name, and a channel is declared for each part.
-use Rattle.occ_base.specs.Width.{bits_of}
-use Rattle.occ_base.specs.declared.width.Width.{Width}
+use Rattle.occ_syntax.specs.occ_base.Width.{bits_of}
+use Rattle.occ_syntax.specs.occ_base.declared.width.Width.{Width}
 use Rattle.occ_meaning.proofs.Beside.{Gives, done, gives_itself, gives_through, same_by}
 use Rattle.occ_meaning.proofs.Declared.{Foreign, declared_off, foreign_in, foreign_out, foreign_part, foreign_skip}
 use Rattle.occ_meaning.proofs.Facts.{value_at}

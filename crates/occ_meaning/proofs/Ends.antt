@@ -1,6 +1,6 @@
 -- The events of a part's traces are on the channel ends that it uses.
-use Rattle.occ_base.specs.declared.event.Dir.{Dir}
-use Rattle.occ_base.specs.declared.width.Width.{Width}
+use Rattle.occ_syntax.specs.occ_base.declared.event.Dir.{Dir}
+use Rattle.occ_syntax.specs.occ_base.declared.width.Width.{Width}
 use Rattle.occ_meaning.proofs.Facts.{and_four, and_three, clash, either, false_not_true}
 use Rattle.occ_meaning.proofs.Refusals.{after_end, unused_below}
 use Rattle.occ_meaning.specs.Foundation.{AreOnEnds}

@@ -1,5 +1,5 @@
 -- Names exchanged, both ways; and what a part with usage kept gives.
-use Rattle.occ_base.specs.declared.event.Event.{Event}
+use Rattle.occ_syntax.specs.occ_base.declared.event.Event.{Event}
 use Rattle.occ_meaning.proofs.Redeclared.{replaced_is_exchanged}
 use Rattle.occ_meaning.proofs.RenamedTrees.{tree_twice, types_under}
 use Rattle.occ_meaning.proofs.Renaming.{IsExchange, exchange_is, part_carries}

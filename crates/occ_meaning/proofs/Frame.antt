@@ -1,7 +1,7 @@
 -- A variable that isn't written keeps its value.
-use Rattle.occ_base.specs.declared.event.Dir.TheVariants.{Input}
-use Rattle.occ_base.specs.declared.event.Event.{Event}
-use Rattle.occ_base.specs.declared.width.Width.{Width}
+use Rattle.occ_syntax.specs.occ_base.declared.event.Dir.TheVariants.{Input}
+use Rattle.occ_syntax.specs.occ_base.declared.event.Event.{Event}
+use Rattle.occ_syntax.specs.occ_base.declared.width.Width.{Width}
 use Rattle.occ_meaning.proofs.Facts.{and_four, and_second, and_three, either, if_false, if_true, name_off, or_three, value_off}
 use Rattle.occ_meaning.proofs.Typing.{pairs_in_scope, variable_in_scope}
 use Rattle.occ_syntax.specs.Eval.{eval, is_true}

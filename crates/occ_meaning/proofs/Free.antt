@@ -1,6 +1,6 @@
 -- What isn't free isn't written, and is no channel that is used.
-use Rattle.occ_base.specs.declared.event.Dir.{Dir}
-use Rattle.occ_base.specs.declared.event.Dir.TheVariants.{Input, Output}
+use Rattle.occ_syntax.specs.occ_base.declared.event.Dir.{Dir}
+use Rattle.occ_syntax.specs.occ_base.declared.event.Dir.TheVariants.{Input, Output}
 use Rattle.occ_meaning.proofs.Facts.{or_four, or_three}
 use Rattle.occ_syntax.specs.Names.{end_in_branches, end_in_cases, end_in_some, end_in_waiting, free, free_in_branches, free_in_cases, free_in_some, free_in_waiting, is_in, names, some_names, uses_end, written, written_in_branches, written_in_cases, written_in_some, written_in_waiting}
 use Rattle.occ_syntax.specs.Scopes.{same_dir}

@@ -1,7 +1,7 @@
 -- A well-typed part names what is in scope, and declares none of it again.
-use Rattle.occ_base.specs.declared.event.Dir.{Dir}
-use Rattle.occ_base.specs.declared.event.Dir.TheVariants.{Input, Output}
-use Rattle.occ_base.specs.declared.width.Width.{Width}
+use Rattle.occ_syntax.specs.occ_base.declared.event.Dir.{Dir}
+use Rattle.occ_syntax.specs.occ_base.declared.event.Dir.TheVariants.{Input, Output}
+use Rattle.occ_syntax.specs.occ_base.declared.width.Width.{Width}
 use Rattle.occ_meaning.proofs.Facts.{allowed_not_none, and_four, and_second, and_three, clash, name_off, or_four, or_three}
 use Rattle.occ_meaning.proofs.Typing.{condition_in_scope, input_types, names_in_scope, output_types, pairs_in_scope, variable_in_scope}
 use Rattle.occ_meaning.specs.Rename.{stands, stands_in_branches, stands_in_cases, stands_in_some, stands_in_waiting}

@@ -1,8 +1,8 @@
 -- The events of a well-typed part are those of its interface, and SAME can be asked over these alone.
-use Rattle.occ_base.specs.Width.{bits_of}
-use Rattle.occ_base.specs.declared.event.Dir.{Dir}
-use Rattle.occ_base.specs.declared.event.Event.{Event}
-use Rattle.occ_base.specs.declared.width.Width.{Width}
+use Rattle.occ_syntax.specs.occ_base.Width.{bits_of}
+use Rattle.occ_syntax.specs.occ_base.declared.event.Dir.{Dir}
+use Rattle.occ_syntax.specs.occ_base.declared.event.Event.{Event}
+use Rattle.occ_syntax.specs.occ_base.declared.width.Width.{Width}
 use Rattle.occ_meaning.proofs.Ends.{part_uses}
 use Rattle.occ_meaning.proofs.Facts.{and_four, and_three, clash, either, false_not_true, if_false, if_true, name_off}
 use Rattle.occ_meaning.proofs.Refusals.{Extends, end_in_scope, part_more, part_shrinks}

@@ -31,3 +31,7 @@ pub mod States
 pub mod Substituting
 pub mod Typing
 pub mod Overlay
+pub mod AtGuards
+pub mod AtState
+pub mod Covering
+pub use Rattle.occ_syntax.proofs.from_base as from_base

@@ -24,10 +24,6 @@ pub record Goes (Γ : Environment) (s : Values) (bs : Branches) (t : Trace) (o :
   pub taken_by : Taken Γ s guard t state rest
   pub goes_on : (meaning process).does Γ state rest o
 
--- each enabled guard is quiet on the set
-pub record Refuses (Γ : Environment) (s : Values) (bs : Branches) (X : EventSet) : Type 0 where
-  pub each : (e : Exp) (w : Waiting) (p : Tree) → Among e w p bs → is_true Γ e s ≡ true → IsQuiet Γ s w X
-
 pub goes_out : (Γ : Environment) (s : Values) (bs : Branches) (t : Trace) (o : Outcome) → (guards bs).goes Γ s t o → Goes Γ s bs t o
 goes_out Γ s no_branch t o d = absurd d
 goes_out Γ s (and_branch e w p bs) t o d = elim d [

@@ -1,7 +1,7 @@
 -- An expression depends on the names that it names alone; conditions are 0 or 1.
 -- ---- environments and values that agree on the names of an expression
-use Rattle.occ_base.specs.Width.{bits_of}
-use Rattle.occ_base.specs.declared.width.Width.TheVariants.{Bool as TruthValue}
+use Rattle.occ_syntax.specs.occ_base.Width.{bits_of}
+use Rattle.occ_syntax.specs.occ_base.declared.width.Width.TheVariants.{Bool as TruthValue}
 use Rattle.occ_meaning.proofs.Facts.{at_itself}
 use Rattle.occ_meaning.proofs.Typing.{condition_type, eval_below}
 use Rattle.occ_meaning.specs.Foundation.{AgreeOn, ValuesAgreeOn}

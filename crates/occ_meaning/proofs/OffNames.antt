@@ -1,8 +1,8 @@
 -- A name that isn't free doesn't matter to the environment: whether it is there, and what it stands for.
-use Rattle.occ_base.specs.declared.event.Dir.{Dir}
-use Rattle.occ_base.specs.declared.event.Dir.TheVariants.{Output}
-use Rattle.occ_base.specs.declared.event.Event.{Event}
-use Rattle.occ_base.specs.declared.width.Width.{Width}
+use Rattle.occ_syntax.specs.occ_base.declared.event.Dir.{Dir}
+use Rattle.occ_syntax.specs.occ_base.declared.event.Dir.TheVariants.{Output}
+use Rattle.occ_syntax.specs.occ_base.declared.event.Event.{Event}
+use Rattle.occ_syntax.specs.occ_base.declared.width.Width.{Width}
 use Rattle.occ_meaning.proofs.Facts.{and_four, and_second, and_three, both, if_false, if_true, off_turned, or_four, or_three}
 use Rattle.occ_meaning.proofs.Free.{no_end, some_no_end}
 use Rattle.occ_meaning.proofs.Refusals.{Extends, RefusesMore, parallel_more, part_more}

@@ -1,8 +1,8 @@
 -- The value of a name that isn't a variable of the part doesn't matter.
 -- ---- changes of values
-use Rattle.occ_base.specs.declared.event.Dir.TheVariants.{Input, Output}
-use Rattle.occ_base.specs.declared.event.Event.{Event}
-use Rattle.occ_base.specs.declared.width.Width.{Width}
+use Rattle.occ_syntax.specs.occ_base.declared.event.Dir.TheVariants.{Input, Output}
+use Rattle.occ_syntax.specs.occ_base.declared.event.Event.{Event}
+use Rattle.occ_syntax.specs.occ_base.declared.width.Width.{Width}
 use Rattle.occ_meaning.proofs.Facts.{and_four, and_second, and_three, both, clash, if_false, if_true, off_turned, value_at, value_off}
 use Rattle.occ_meaning.proofs.Frame.{no_variable_at, still_no_variable}
 use Rattle.occ_meaning.proofs.Typing.{condition_in_scope, names_in_scope, output_types, pairs_in_scope, variable_in_scope}

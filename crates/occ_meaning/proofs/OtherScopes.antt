@@ -1,6 +1,6 @@
 -- Whether two parts are the same doesn't depend on a name that is free in neither.
 -- a state with that name's value taken away is one in both environments
-use Rattle.occ_base.specs.Width.{bits_of}
+use Rattle.occ_syntax.specs.occ_base.Width.{bits_of}
 use Rattle.occ_meaning.proofs.Alike.{same_back}
 use Rattle.occ_meaning.proofs.Facts.{if_false, if_true}
 use Rattle.occ_meaning.proofs.Frame.{part_value}

@@ -2,9 +2,9 @@
 use Rattle.std.proofs.Common.{◌≡◌, ◌==◌, ◌-◌, ◌^◌, inl, inr, MatchBool, ℕ, Bool, true, false, cond, List, [], ◌∷◌, Option, Some, None, is_some, is_none, refl, sym, ap, ◌∙◌, subst, ⊎_elim}
 use Rattle.std.proofs.lemmas.Bool.{and_parts, cases_Bool, eqb-true}
 use mathlib.Core.Path.{fun_ext}
-use Rattle.occ_base.specs.declared.event.Dir.TheVariants.{Output}
-use Rattle.occ_base.specs.declared.event.Event.{Event}
-use Rattle.occ_base.specs.declared.width.Width.{Width}
+use Rattle.occ_syntax.specs.occ_base.declared.event.Dir.TheVariants.{Output}
+use Rattle.occ_syntax.specs.occ_base.declared.event.Event.{Event}
+use Rattle.occ_syntax.specs.occ_base.declared.width.Width.{Width}
 use Rattle.occ_syntax.specs.declared.scope.Kind.TheVariants.{Var, Chan}
 use Rattle.occ_syntax.specs.Eval.{eval, bits_of_exp, applied, is_true}
 use Rattle.occ_syntax.specs.Meaning.{After, Alternates, Combines, Followed, Guards, IsQuiet, Meaning, Outcome, Stopped, Taken, Together, WithChannel, WithVariable, alternatives, and_guard, assigned, at_event, at_once, at_ready, at_the_same_time, beside, beside_all, both_ended, chosen, ended, first_choice, first_ended, followed, guards, in_first, in_second, in_turn, join, meaning, neither_ended, never, no_guard, off_channel, over_channel, over_variable, refusing, second_ended, stable, stopped, taken, together}

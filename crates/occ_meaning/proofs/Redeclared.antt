@@ -1,7 +1,7 @@
 -- A declared name may be exchanged for one that isn't in scope.
-use Rattle.occ_base.specs.declared.event.Dir.{Dir}
-use Rattle.occ_base.specs.declared.event.Event.{Event}
-use Rattle.occ_base.specs.declared.width.Width.{Width}
+use Rattle.occ_syntax.specs.occ_base.declared.event.Dir.{Dir}
+use Rattle.occ_syntax.specs.occ_base.declared.event.Event.{Event}
+use Rattle.occ_syntax.specs.occ_base.declared.width.Width.{Width}
 use Rattle.occ_meaning.proofs.Beside.{Gives, same_by}
 use Rattle.occ_meaning.proofs.Ends.{part_uses, silent_uses}
 use Rattle.occ_meaning.proofs.Facts.{at_itself, clash, if_false, if_true, name_at, name_off, off_turned, value_at, value_off}

@@ -1,9 +1,9 @@
 -- A refusal may lose events, and may gain those on channel ends that the part doesn't use.
 -- ---- which ends a part can use
-use Rattle.occ_base.specs.declared.event.Dir.{Dir}
-use Rattle.occ_base.specs.declared.event.Dir.TheVariants.{Input, Output}
-use Rattle.occ_base.specs.declared.event.Event.{Event}
-use Rattle.occ_base.specs.declared.width.Width.{Width}
+use Rattle.occ_syntax.specs.occ_base.declared.event.Dir.{Dir}
+use Rattle.occ_syntax.specs.occ_base.declared.event.Dir.TheVariants.{Input, Output}
+use Rattle.occ_syntax.specs.occ_base.declared.event.Event.{Event}
+use Rattle.occ_syntax.specs.occ_base.declared.width.Width.{Width}
 use Rattle.occ_meaning.proofs.Facts.{and_four, and_second, and_three, at_itself, both, clash, if_true, name_off, or_three, same_dirs, true_not_false}
 use Rattle.occ_meaning.proofs.Frame.{not_and}
 use Rattle.occ_meaning.proofs.Typing.{input_types, output_types}

@@ -1,8 +1,8 @@
 -- Renamed trees: renaming by two functions, renaming back, and types under other names.
 -- ---- two functions that agree on the names that stand in a part
-use Rattle.occ_base.specs.declared.event.Dir.TheVariants.{Input, Output}
-use Rattle.occ_base.specs.declared.width.Width.{Width}
-use Rattle.occ_base.specs.declared.width.Width.TheVariants.{Bool as TruthValue}
+use Rattle.occ_syntax.specs.occ_base.declared.event.Dir.TheVariants.{Input, Output}
+use Rattle.occ_syntax.specs.occ_base.declared.width.Width.{Width}
+use Rattle.occ_syntax.specs.occ_base.declared.width.Width.TheVariants.{Bool as TruthValue}
 use Rattle.occ_meaning.proofs.Facts.{at_itself}
 use Rattle.occ_meaning.proofs.Renaming.{IsExchange, name_under, one_for_one, type_under}
 use Rattle.occ_meaning.specs.Rename.{all_renamed, branches_renamed, cases_renamed, renamed, renamed_exp, renamed_exps, renamed_names, renamed_waiting, stands, stands_in_branches, stands_in_cases, stands_in_some, stands_in_waiting, under}

@@ -1,8 +1,8 @@
 -- Names exchanged for others, each for one: whatever a part does, it does under the other names.
 -- ---- an exchange f: applied twice it changes nothing
-use Rattle.occ_base.specs.declared.event.Dir.TheVariants.{Input, Output}
-use Rattle.occ_base.specs.declared.event.Event.{Event}
-use Rattle.occ_base.specs.declared.width.Width.{Width}
+use Rattle.occ_syntax.specs.occ_base.declared.event.Dir.TheVariants.{Input, Output}
+use Rattle.occ_syntax.specs.occ_base.declared.event.Event.{Event}
+use Rattle.occ_syntax.specs.occ_base.declared.width.Width.{Width}
 use Rattle.occ_meaning.proofs.Facts.{at_itself, both, if_false, if_true}
 use Rattle.occ_meaning.specs.Rename.{all_renamed, branches_renamed, cases_renamed, exchanging, renamed, renamed_event, renamed_exp, renamed_exps, renamed_names, renamed_outcome, renamed_trace, renamed_waiting, under}
 use Rattle.occ_syntax.specs.Eval.{applied, bits_in, bits_of_exp, eval, is_true, keeps_width}

@@ -1,12 +1,12 @@
 -- Every part, run without more than a trace, comes to an end or to a stable point: so it has the empty trace, and its
 -- traces are closed under fronts.
 -- none of those events is in the set
-use Rattle.occ_base.specs.Event.{counterpart, other_direction}
-use Rattle.occ_base.specs.Width.{bits_of}
-use Rattle.occ_base.specs.declared.event.Dir.{Dir}
-use Rattle.occ_base.specs.declared.event.Dir.TheVariants.{Input, Output}
-use Rattle.occ_base.specs.declared.event.Event.{Event}
-use Rattle.occ_base.specs.declared.width.Width.{Width}
+use Rattle.occ_syntax.specs.occ_base.Event.{counterpart, other_direction}
+use Rattle.occ_syntax.specs.occ_base.Width.{bits_of}
+use Rattle.occ_syntax.specs.occ_base.declared.event.Dir.{Dir}
+use Rattle.occ_syntax.specs.occ_base.declared.event.Dir.TheVariants.{Input, Output}
+use Rattle.occ_syntax.specs.occ_base.declared.event.Event.{Event}
+use Rattle.occ_syntax.specs.occ_base.declared.width.Width.{Width}
 use Rattle.occ_meaning.proofs.Facts.{clash, event_itself, false_not_true, if_false, if_true, same_events, true_not_false}
 use Rattle.occ_syntax.specs.Eval.{eval, is_true}
 use Rattle.occ_syntax.specs.Meaning.{After, Alternates, Followed, Guards, Meaning, Outcome, Stopped, Taken, Together, Weave, WithChannel, WithVariable, alternatives, and_guard, answered, assigned, at_event, at_once, at_ready, at_the_same_time, beside, beside_all, both_done, both_ended, chosen, ended, first_choice, first_ended, followed, guards, in_first, in_second, in_turn, is_silent, join, meaning, neither_ended, never, no_guard, of_first, of_second, off_channel, over_channel, over_variable, refused_with, refusing, second_ended, stable, stopped, taken, together, unseen}

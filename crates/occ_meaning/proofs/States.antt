@@ -1,7 +1,7 @@
 -- A well-typed part takes states to states.
-use Rattle.occ_base.specs.Width.{bits_of}
-use Rattle.occ_base.specs.declared.event.Event.{Event}
-use Rattle.occ_base.specs.declared.width.Width.{Width}
+use Rattle.occ_syntax.specs.occ_base.Width.{bits_of}
+use Rattle.occ_syntax.specs.occ_base.declared.event.Event.{Event}
+use Rattle.occ_syntax.specs.occ_base.declared.width.Width.{Width}
 use Rattle.occ_meaning.proofs.Facts.{agreed, and_four, and_three, either, false_not_true, if_below, if_false, if_true, none_not_some, some_is}
 use Rattle.occ_meaning.proofs.Typing.{eval_below, input_types}
 use Rattle.occ_syntax.specs.Eval.{eval, is_true}

@@ -1,5 +1,5 @@
 -- An expression in which variables are replaced has the value that it has after the assignment.
-use Rattle.occ_base.specs.declared.width.Width.{Width}
+use Rattle.occ_syntax.specs.occ_base.declared.width.Width.{Width}
 use Rattle.occ_meaning.proofs.Facts.{agreed, and_three, at_itself, clash, false_not_true, if_false, if_true}
 use Rattle.occ_meaning.proofs.Typing.{bits_of_type}
 use Rattle.occ_meaning.specs.Substitution.{NamesNone, substituted, value_for}

@@ -1,8 +1,8 @@
 -- What the types of expressions give: widths, values below two to the width, and that each name is in scope.
-use Rattle.occ_base.specs.Width.{bits_of}
-use Rattle.occ_base.specs.declared.event.Dir.TheVariants.{Input, Output}
-use Rattle.occ_base.specs.declared.width.Width.{Width}
-use Rattle.occ_base.specs.declared.width.Width.TheVariants.{Bool as TruthValue, Word}
+use Rattle.occ_syntax.specs.occ_base.Width.{bits_of}
+use Rattle.occ_syntax.specs.occ_base.declared.event.Dir.TheVariants.{Input, Output}
+use Rattle.occ_syntax.specs.occ_base.declared.width.Width.{Width}
+use Rattle.occ_syntax.specs.occ_base.declared.width.Width.TheVariants.{Bool as TruthValue, Word}
 use Rattle.occ_meaning.proofs.Facts.{agreed, and_three, false_not_true, none_not_some, same_widths, some_is}
 use Rattle.occ_syntax.specs.Eval.{applied, bits_in, bits_of_exp, eval, keeps_width, one_if}
 use Rattle.occ_syntax.specs.Names.{is_in, names, some_names}

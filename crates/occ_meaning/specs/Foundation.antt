@@ -1,6 +1,6 @@
 -- What holds of every part: the words of the laws on values, traces and refusals.
-use Rattle.occ_base.specs.declared.event.Dir.{Dir}
-use Rattle.occ_base.specs.declared.event.Event.{Event}
+use Rattle.occ_syntax.specs.occ_base.declared.event.Dir.{Dir}
+use Rattle.occ_syntax.specs.occ_base.declared.event.Event.{Event}
 use Rattle.occ_syntax.specs.Meaning.{Outcome, ended, ends, fails, meaning, refusing}
 use Rattle.occ_syntax.specs.Names.{free, is_in, names}
 use Rattle.occ_syntax.specs.Scopes.{Environment, EventSet, IsState, Trace, Values, in_interface, variable_width, with_value}

@@ -1,5 +1,5 @@
 -- Other names for names.
-use Rattle.occ_base.specs.declared.event.Event.{Event}
+use Rattle.occ_syntax.specs.occ_base.declared.event.Event.{Event}
 use Rattle.occ_syntax.specs.Meaning.{Outcome, ended, refusing}
 use Rattle.occ_syntax.specs.Names.{is_in, names, some_names}
 use Rattle.occ_syntax.specs.Scopes.{Trace}

@@ -1,6 +1,6 @@
 //! Declared names: left out where they are not used, exchanged, and moved past parts that do not have them.
 
-ghost use Rattle.occ_base.specs.declared.width.Width.{Width};
+ghost use Rattle.occ_syntax.specs.occ_base.declared.width.Width.{Width};
 ghost use Rattle.occ_meaning.specs.Parallel.{two};
 ghost use Rattle.occ_syntax.specs.Names.{free, free_in_some};
 ghost use Rattle.occ_syntax.specs.Same.{SAME};

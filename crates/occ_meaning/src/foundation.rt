@@ -1,7 +1,7 @@
 //! What every well-typed part keeps: values within their widths, states, and the values of what it does not write.
 
-ghost use Rattle.occ_base.specs.Width.{bits_of};
-ghost use Rattle.occ_base.specs.declared.width.Width.{Width};
+ghost use Rattle.occ_syntax.specs.occ_base.Width.{bits_of};
+ghost use Rattle.occ_syntax.specs.occ_base.declared.width.Width.{Width};
 ghost use Rattle.occ_meaning.specs.Context.{environment_at, part_at};
 ghost use Rattle.occ_meaning.specs.Foundation.{AgreeOn, ValuesAgreeOn};
 ghost use Rattle.occ_syntax.specs.Eval.{eval, is_true, one_if};

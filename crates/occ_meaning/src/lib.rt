@@ -1,7 +1,9 @@
 //! Laws of the definitions: what holds of every part, SAME in every context, and PAR.
 //! Each law is the contract of a function that does nothing.
+//! Parts compared from one state: what an assignment, an IF and an ALT do there.
 #![tactic(auto)]
 
+mod at_states;
 mod behaviour;
 mod declare;
 mod foundation;
@@ -11,6 +13,9 @@ mod same;
 mod scope;
 mod substitution;
 
+pub use at_states::{
+    assignments_lead_to_their_values, false_choices_are_passed, true_choices_are_taken,
+};
 pub use behaviour::{
     events_are_of_the_interface, events_are_on_used_ends, every_part_has_the_empty_trace,
     refusals_shrink, traces_are_bounded, traces_are_closed_under_fronts, unused_ends_are_refused,
@@ -29,6 +34,7 @@ pub use foundation::{
     parts_of_typed_parts_are_typed, typed_parts_take_states_to_states,
     unwritten_variables_keep_their_values,
 };
+pub use occ_syntax::{Dir, List, Memory, Name, Names, Width};
 pub use parallel::{
     assignments_may_leave_a_par, par_in_par_is_flat, par_is_associative,
     par_with_stop_stops_at_its_end, parts_may_stand_in_any_order,

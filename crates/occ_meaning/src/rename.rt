@@ -1,6 +1,6 @@
 //! Other names for names.
 
-ghost use Rattle.occ_base.specs.declared.width.Width.{Width};
+ghost use Rattle.occ_syntax.specs.occ_base.declared.width.Width.{Width};
 ghost use Rattle.occ_meaning.specs.Foundation.{Does};
 ghost use Rattle.occ_meaning.specs.Rename.{exchanging, renamed, renamed_outcome, renamed_trace, replacing, stands, under};
 ghost use Rattle.occ_syntax.specs.Meaning.{Outcome};

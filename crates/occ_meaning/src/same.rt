@@ -1,6 +1,6 @@
 //! SAME is an equivalence, and is kept in every context.
 
-ghost use Rattle.occ_base.specs.declared.width.Width.{Width};
+ghost use Rattle.occ_syntax.specs.occ_base.declared.width.Width.{Width};
 ghost use Rattle.occ_meaning.specs.Context.{EachBranchSame, EachChoiceSame, EachSame, environment_at, part_at, put};
 ghost use Rattle.occ_meaning.specs.Foundation.{SameOverInterface};
 ghost use Rattle.occ_syntax.specs.Same.{HasTrace, SAME};

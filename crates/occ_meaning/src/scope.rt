@@ -1,6 +1,6 @@
 //! Which names a part has, and which don't matter to it.
 
-ghost use Rattle.occ_base.specs.declared.event.Dir.{Dir};
+ghost use Rattle.occ_syntax.specs.occ_base.declared.event.Dir.{Dir};
 ghost use Rattle.occ_meaning.specs.Foundation.{AgreeOff, Does, IsNoVariable, with_result};
 ghost use Rattle.occ_meaning.specs.Rename.{stands};
 ghost use Rattle.occ_syntax.specs.Meaning.{Outcome};

@@ -2,8 +2,8 @@
 use Rattle.std.proofs.Common.{◌≡◌, ◌==◌, Bool, true, false, true≢false, cond, not, ◌&&◌, ◌||◌, List, [], ◌∷◌, ◌++◌, filter, refl, sym, ap, ◌∙◌, append_assoc, append-nil, subst, eq-eqb}
 use Rattle.std.proofs.lemmas.Bool.{eqb-true, and_parts, not-true}
 use Rattle.std.proofs.lemmas.List.Folds.{list_any-append}
-use Rattle.occ_base.specs.declared.event.Dir.{Dir}
-use Rattle.occ_base.specs.declared.event.Dir.TheVariants.{Input, Output}
+use Rattle.occ_meaning.specs.occ_base.declared.event.Dir.{Dir}
+use Rattle.occ_meaning.specs.occ_base.declared.event.Dir.TheVariants.{Input, Output}
 use Rattle.occ_syntax.specs.Scopes.{same_dir}
 use Rattle.occ_names.specs.Once.{has, without, firsts, with_one, with_all, is_distinct, same_number}
 use Rattle.occ_names.specs.Mentions.{same_end}
@@ -53,10 +53,6 @@ pub filter_two : {T : Type 0} (p q r : T → Bool) → ((y : T) → (q y && p y)
 filter_two p q r h [] = refl
 filter_two p q r h (y ∷ ys) =
     filter-cond p (q y) y (filter q ys) ∙ filter_two_at (p y) (q y) (r y) y (filter p (filter q ys)) (filter p (filter q ys)) (filter r ys) (h y) (filter_two p q r h ys) (filter_two p q r h ys)
-
-pub filter_same : {T : Type 0} (p r : T → Bool) → ((y : T) → p y ≡ r y) → (ys : List T) → filter p ys ≡ filter r ys
-filter_same p r h [] = refl
-filter_same p r h (y ∷ ys) = ap (λ b. cond b (y ∷ filter p ys) (filter p ys)) (h y) ∙ ap (λ zs. cond (r y) (y ∷ zs) zs) (filter_same p r h ys)
 
 filter_all : {T : Type 0} (p : T → Bool) → ((y : T) → p y ≡ true) → (ys : List T) → filter p ys ≡ ys
 filter_all p h [] = refl

@@ -3,7 +3,7 @@ ghost use Rattle.occ_names.specs.Once.{has, with_one, with_all};
 ghost use Rattle.occ_names.specs.Mentions.{end_number, end_numbers, end_in, same_end};
 
 use indexmap::IndexSet;
-use occ_base::{Dir, Memory, Name};
+use occ_meaning::{Dir, Memory, Name};
 use std::alloc::Global;
 use std::marker::Model;
 
@@ -15,7 +15,7 @@ pub struct EndSet {
 
 impl Model for EndSet {
     ghost use Rattle.std.specs.Prelude.{List, ℕ};
-    ghost use Rattle.occ_base.specs.declared.event.Dir.{Dir};
+    ghost use Rattle.occ_meaning.specs.occ_base.declared.event.Dir.{Dir};
     ghost use Rattle.occ_names.specs.Mentions.{end_numbers};
 
     ghost Value = { List (ℕ × Dir) };
@@ -33,7 +33,7 @@ impl EndSet {
         }
     }
 
-    /// Puts an end last, if it isn't in the set yet. After want of memory the set is as before.
+    /// Puts an end last, if it isn't in the set yet. Where memory runs out, the set is as before.
     pub fn insert(&mut self, end: (Name, Dir)) -> Result<(), Memory>
         ensures ok { OnOk result (self.new ≡ with_one same_end self.old (end_number end)) }
         ensures err { OnErr result (self.new ≡ self.old) }
@@ -42,7 +42,7 @@ impl EndSet {
         Ok(())
     }
 
-    /// Puts an end last, if there is one and it isn't in the set yet. After want of memory the set is as before.
+    /// Puts an end last, if there is one and it isn't in the set yet. Where memory runs out, the set is as before.
     pub fn insert_any(&mut self, end: Option<(Name, Dir)>) -> Result<(), Memory>
         ensures ok { OnOk result (self.new ≡ with_all same_end self.old (end_in end)) }
         ensures err { OnErr result (self.new ≡ self.old) }

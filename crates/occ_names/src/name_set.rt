@@ -5,7 +5,7 @@ ghost use Rattle.occ_names.specs.Once.{same_number, with_one, with_all};
 ghost use Rattle.occ_names.specs.Mentions.{number_in};
 
 use indexmap::IndexSet;
-use occ_base::{Memory, Name};
+use occ_meaning::{Memory, Name};
 use std::alloc::Global;
 use std::marker::Model;
 
@@ -34,7 +34,7 @@ impl NameSet {
         }
     }
 
-    /// Puts a name last, if it isn't in the set yet. After want of memory the set is as before.
+    /// Puts a name last, if it isn't in the set yet. Where memory runs out, the set is as before.
     pub fn insert(&mut self, name: Name) -> Result<(), Memory>
         ensures ok { OnOk result (self.new ≡ with_one same_number self.old name.0) }
         ensures err { OnErr result (self.new ≡ self.old) }
@@ -43,7 +43,7 @@ impl NameSet {
         Ok(())
     }
 
-    /// Puts a name last, if there is one and it isn't in the set yet. After want of memory the set is as before.
+    /// Puts a name last, if there is one and it isn't in the set yet. Where memory runs out, the set is as before.
     pub fn insert_any(&mut self, name: Option<Name>) -> Result<(), Memory>
         ensures ok { OnOk result (self.new ≡ with_all same_number self.old (number_in name)) }
         ensures err { OnErr result (self.new ≡ self.old) }

@@ -3,7 +3,7 @@ ghost use Rattle.occ_syntax.specs.Declarations.{is_declaration};
 ghost use Rattle.occ_syntax.specs.View.{numbers, exp, exps, waiting, tree, trees, cases, branches, in_procs, in_choices, in_alternatives};
 ghost use Rattle.occ_meaning.specs.Rename.{replacing, renamed, renamed_exp, renamed_names, renamed_exps, renamed_waiting, all_renamed, cases_renamed, branches_renamed};
 
-use occ_base::{Memory, Name};
+use occ_meaning::{Memory, Name};
 use occ_syntax::{Alternatives, Choices, Expr, Exprs, Guard, NameList, Proc, Procs, Scope, Wait};
 use std::alloc::Global;
 
@@ -102,7 +102,7 @@ impl Replace {
         made.within(alloc, declarations.items())
     }
 
-    #[tactic(auto, unfolding(occ_syntax::specs::View::tree))]
+    #[tactic(auto, unfolding(crate::specs::tree))]
     #[cycle(replace)]
     fn undeclared(self, alloc: Global, part: &Proc) -> Result<Proc, Memory>
         requires { is_declaration (tree part.now) ≡ false }

@@ -4,7 +4,7 @@ ghost use Rattle.occ_meaning.specs.Substitution.{substituted};
 ghost use Rattle.occ_names.specs.Once.{is_distinct, same_number};
 
 use crate::NameSet;
-use occ_base::{Memory, Name};
+use occ_meaning::{Memory, Name};
 use occ_syntax::Expr;
 use std::alloc::Global;
 

@@ -1,25 +1,25 @@
 -- Normal texts tell programs apart.
 use Rattle.std.proofs.Common.{◌≡◌, ◌<◌, ◌^◌, ◌↔◌, ℕ, Bool, true, false, List, Result, Ok, Err, get_or, length, refl, sym, ap, ◌∙◌, subst}
 use Rattle.std.proofs.lemmas.Bool.{and_parts}
-use Rattle.occ_base.specs.declared.names.Name.{Name}
+use Rattle.occ_nform_rows.specs.occ_base.declared.names.Name.{Name}
 use Rattle.occ_syntax.specs.declared.scope.Kind.{Kind}
 use Rattle.occ_syntax.specs.Same.{SAME}
 use Rattle.occ_syntax.specs.Scopes.{EventSet, Trace, allows, environment, in_scope, values}
 use Rattle.occ_syntax.specs.Tree.{Tree}
 use Rattle.occ_syntax.specs.Types.{scope_kept, types_kept}
-use Rattle.occ_meaning.proofs.Interface.{same_over_interface}
-use Rattle.occ_behaviour.specs.States.{is_state}
-use Rattle.occ_nform_table.specs.declared.table.TableFault.{TableFault}
-use Rattle.occ_nform_table.specs.declared.table.TableRow.{TableRow}
-use Rattle.occ_nform_table.specs.Behaviours.{IsOfInterface, Stands, row_ends, row_fails}
-use Rattle.occ_nform_table.specs.Lines.{state_place}
-use Rattle.occ_nform_table.specs.Normal.{Parts}
-use Rattle.occ_nform_table.specs.Tables.{IsNormal}
-use Rattle.occ_nform_table.specs.Texts.{state_at_place, table_text}
-use Rattle.occ_nform_text.proofs.Whole.{normal_text}
-use Rattle.occ_nform_text.proofs.Places.{place_is_state, place_there}
-use Rattle.occ_nform_unique.specs.Alike.{HaveSameBehaviours}
-use Rattle.occ_nform_unique.proofs.Unique.{one_normal_table}
+use Rattle.occ_nform_rows.proofs.from_meaning.Interface.{same_over_interface}
+use Rattle.occ_nform_rows.specs.occ_behaviour.States.{is_state}
+use Rattle.occ_nform_rows.specs.occ_nform_table.declared.table.TableFault.{TableFault}
+use Rattle.occ_nform_rows.specs.occ_nform_table.declared.table.TableRow.{TableRow}
+use Rattle.occ_nform_rows.specs.occ_nform_table.Behaviours.{IsOfInterface, Stands, row_ends, row_fails}
+use Rattle.occ_nform_rows.specs.occ_nform_table.Lines.{state_place}
+use Rattle.occ_nform_rows.specs.occ_nform_table.Normal.{Parts}
+use Rattle.occ_nform_rows.specs.occ_nform_table.Tables.{IsNormal}
+use Rattle.occ_nform_rows.specs.occ_nform_table.Texts.{state_at_place, table_text}
+use Rattle.occ_nform_rows.proofs.from_nform_table.Whole.{normal_text}
+use Rattle.occ_nform_rows.proofs.from_nform_table.PlaceNames.{place_is_state, place_there}
+use Rattle.occ_nform_rows.specs.occ_nform_table.Alike.{HaveSameBehaviours}
+use Rattle.occ_nform_rows.proofs.from_nform_table.Unique.{one_normal_table}
 use Rattle.occ_nform.specs.Written.{IsNormalText}
 use Rattle.occ_nform.proofs.Programs.{ends_too, fails_too, state_values}
 

@@ -2,19 +2,19 @@
 use Rattle.std.proofs.Common.{◌≡◌, ◌<◌, ◌+◌, ◌*◌, ◌/◌, ◌%◌, ◌^◌, ◌==◌, ◌&&◌, ℕ, true, nat_lt, List, [], ◌∷◌, refl, sym, ap, ◌∙◌, arith}
 use Rattle.std.proofs.lemmas.Bool.{and_parts, false≢true, ltb-true, eqb-true}
 use Rattle.std.proofs.Math.Nat.{mod-eq_of_lt}
-use Rattle.occ_base.specs.declared.names.Name.{Name}
-use Rattle.occ_base.specs.declared.width.Width.{Width}
-use Rattle.occ_base.specs.Width.{bits_of}
+use Rattle.occ_nform_rows.specs.occ_base.declared.names.Name.{Name}
+use Rattle.occ_nform_rows.specs.occ_base.declared.width.Width.{Width}
+use Rattle.occ_nform_rows.specs.occ_base.Width.{bits_of}
 use Rattle.occ_syntax.specs.declared.scope.Kind.{Kind}
 use Rattle.occ_syntax.specs.declared.scope.Kind.TheVariants.{Var, Chan}
 use Rattle.occ_syntax.specs.Counts.{bits_of_scope}
 use Rattle.occ_syntax.specs.Scopes.{values, with_value}
-use Rattle.occ_behaviour.specs.States.{is_state}
-use Rattle.occ_bits.specs.Layout.{laid_out, state_of}
-use Rattle.occ_compare.specs.Places.{assignment_at, rest_state, state_at, values_at}
-use Rattle.occ_compare.proofs.Numbers.{state_is}
-use Rattle.occ_nform_table.specs.Lines.{state_place}
-use Rattle.occ_nform_unique.proofs.States.{place_below}
+use Rattle.occ_nform_rows.specs.occ_behaviour.States.{is_state}
+use Rattle.occ_nform_rows.specs.occ_bits.Layout.{laid_out, state_of}
+use Rattle.occ_nform_rows.specs.occ_compare.Places.{assignment_at, rest_state, state_at, values_at}
+use Rattle.occ_nform_rows.proofs.from_compare.Numbers.{state_is}
+use Rattle.occ_nform_rows.specs.occ_nform_table.Lines.{state_place}
+use Rattle.occ_nform_rows.proofs.from_nform_table.States.{place_below}
 
 -- ---- two digits
 high_of : (v r m : ℕ) → m < r → (v * r + m) / r ≡ v

@@ -1,10 +1,10 @@
 -- Counts of rows, and their heights.
 use Rattle.std.proofs.Common.{◌≡◌, ◌<◌, ◌≤◌, ◌^◌, ◌+◌, ◌-◌, ℕ, zero, suc, max, min, List, [], ◌∷◌, ◌++◌, get_or, drop, drop-cons, length, refl, sym, ap, ◌∙◌, arith}
 use Rattle.std.proofs.lemmas.List.{drop_all}
-use Rattle.occ_base.specs.declared.event.Event.{Event}
+use Rattle.occ_nform_rows.specs.occ_base.declared.event.Event.{Event}
 use Rattle.occ_syntax.specs.Counts.{capped}
-use Rattle.occ_nform_table.specs.Judging.{height_over}
-use Rattle.occ_nform_table.specs.declared.table.TableRow.{TableRow}
+use Rattle.occ_nform_rows.specs.occ_nform_table.Judging.{height_over}
+use Rattle.occ_nform_rows.specs.occ_nform_table.declared.table.TableRow.{TableRow}
 use Rattle.occ_nform.specs.Counts.{greatest, heights_of, offers_in}
 
 -- ---- offers

@@ -1,3 +1,13 @@
+pub mod Rows
+pub mod Nodes
+pub mod Levels
+pub mod Graph
+pub mod Final
+pub mod Steps
+pub mod Sorting
+pub mod NumberTexts
+pub mod Placing
+pub mod Whole
 mod Assignments
 mod Programs
 mod Apart
@@ -5,3 +15,6 @@ pub mod Written
 pub mod Plain
 mod Counting
 mod Texts
+mod Rooted
+pub use Rattle.occ_nform_rows.proofs.from_meaning as from_meaning
+pub use Rattle.occ_nform_rows.proofs.from_nform_table as from_nform_table

@@ -6,23 +6,23 @@ use Rattle.std.specs.List.{list_all, AllByRecursion}
 use Rattle.std.proofs.lemmas.Bool.{false≢true}
 use Rattle.std.proofs.lemmas.Option.{slice_get_within}
 use mathlib.Core.Path.{fun_ext}
-use Rattle.occ_base.specs.declared.event.Event.{Event}
-use Rattle.occ_base.specs.declared.names.Name.{Name}
-use Rattle.occ_base.specs.Names.{IsDistinct, place_of, with_text}
-use Rattle.occ_lex.specs.Rows.{rows as lines_of}
+use Rattle.occ_nform_rows.specs.occ_base.declared.event.Event.{Event}
+use Rattle.occ_nform_rows.specs.occ_base.declared.names.Name.{Name}
+use Rattle.occ_nform_rows.specs.occ_base.Names.{IsDistinct, place_of, with_text}
+use Rattle.occ_nform_rows.specs.occ_lex.Rows.{rows as lines_of}
 use Rattle.occ_syntax.specs.declared.scope.Kind.{Kind}
 use Rattle.occ_syntax.specs.Scopes.{environment, in_interface}
-use Rattle.occ_nform_table.specs.declared.table.TableFault.{TableFault}
-use Rattle.occ_nform_table.specs.declared.table.TableFault.TheVariants as fault
-use Rattle.occ_nform_table.specs.declared.table.TableRow.{TableRow}
-use Rattle.occ_nform_table.specs.Judging.{accepts_text, offers_text, ends_text, row_text, row_marks, rows_marks, height_over, comes_after, placed, is_reached}
-use Rattle.occ_nform_table.specs.Lines.{accept_of, can_follow, end_of, event_of, is_rising, is_row, next_param, offer_of, set_of, below}
-use Rattle.occ_nform_table.specs.Words.{between, cut, each, items_of, number_of, then_read}
-use Rattle.occ_nform_table.specs.Normal.{Parts, behind_params, finished, first_empty, first_mark, first_unreached, is_whole, judged, lines_read, or_fault, line_at, table_fault, text_read}
-use Rattle.occ_nform_table.specs.Reading.{Header, Lines, either, params_in, row_behind, rows_in, states_in, taken, with_row}
-use Rattle.occ_nform_table.specs.Tables.{are_params, AreRowsOf, IsNormal, IsRowOf}
-use Rattle.occ_nform_table.specs.Texts.{params_text, rows_text, states_text, table_text}
-use Rattle.occ_nform_text.proofs.Tables.{reads_back}
+use Rattle.occ_nform_rows.specs.occ_nform_table.declared.table.TableFault.{TableFault}
+use Rattle.occ_nform_rows.specs.occ_nform_table.declared.table.TableFault.TheVariants as fault
+use Rattle.occ_nform_rows.specs.occ_nform_table.declared.table.TableRow.{TableRow}
+use Rattle.occ_nform_rows.specs.occ_nform_table.Judging.{accepts_text, offers_text, ends_text, row_text, row_marks, rows_marks, height_over, comes_after, placed, is_reached}
+use Rattle.occ_nform_rows.specs.occ_nform_table.Lines.{accept_of, can_follow, end_of, event_of, is_rising, is_row, next_param, offer_of, set_of, below}
+use Rattle.occ_nform_rows.specs.occ_nform_table.Words.{between, cut, each, items_of, number_of, then_read}
+use Rattle.occ_nform_rows.specs.occ_nform_table.Normal.{Parts, behind_params, finished, first_empty, first_mark, first_unreached, is_whole, judged, lines_read, or_fault, line_at, table_fault, text_read}
+use Rattle.occ_nform_rows.specs.occ_nform_table.Reading.{Header, Lines, either, params_in, row_behind, rows_in, states_in, taken, with_row}
+use Rattle.occ_nform_rows.specs.occ_nform_table.Tables.{are_params, AreRowsOf, IsNormal, IsRowOf}
+use Rattle.occ_nform_rows.specs.occ_nform_table.Texts.{params_text, rows_text, states_text, table_text}
+use Rattle.occ_nform_rows.proofs.from_nform_table.TextTables.{reads_back}
 
 abbrev plain : List (List ℕ) → List TableRow → List ℕ → Parts
 plain names rows states = record { names = names; params = []; rows = rows; states = states }

@@ -4,24 +4,24 @@ use Rattle.std.proofs.lemmas.Bool.{and_from, and_parts, cases_Bool, eq-eqb, eqb-
 use Rattle.std.specs.List.{list_all}
 use Rattle.std.specs.Prelude.{is_none}
 use mathlib.Core.Path.{fun_ext}
-use Rattle.occ_base.specs.declared.event.Event.{Event}
-use Rattle.occ_base.specs.declared.names.Name.{Name}
-use Rattle.occ_base.specs.declared.width.Width.{Width}
-use Rattle.occ_base.specs.Width.{bits_of}
+use Rattle.occ_nform_rows.specs.occ_base.declared.event.Event.{Event}
+use Rattle.occ_nform_rows.specs.occ_base.declared.names.Name.{Name}
+use Rattle.occ_nform_rows.specs.occ_base.declared.width.Width.{Width}
+use Rattle.occ_nform_rows.specs.occ_base.Width.{bits_of}
 use Rattle.occ_syntax.specs.declared.scope.Kind.{Kind}
 use Rattle.occ_syntax.specs.declared.scope.Kind.TheVariants.{Var, Chan}
 use Rattle.occ_syntax.specs.Meaning.{ended, refusing, fails, ends}
 use Rattle.occ_syntax.specs.Scopes.{Environment, EventSet, IsState, Trace, Values, environment, in_interface, values, variable_kind, variable_width}
 use Rattle.occ_syntax.specs.Tree.{Tree}
 use Rattle.occ_syntax.specs.Types.{can_declare, is_width, scope_kept, types_kept}
-use Rattle.occ_meaning.specs.Foundation.{AreWithin}
-use Rattle.occ_meaning.proofs.Frame.{part_value, written_in_scope}
-use Rattle.occ_meaning.proofs.Interface.{part_in_interface}
-use Rattle.occ_meaning.proofs.States.{part_states}
-use Rattle.occ_behaviour.specs.States.{is_state}
-use Rattle.occ_nform_table.specs.declared.table.TableRow.{TableRow}
-use Rattle.occ_nform_table.specs.Behaviours.{IsOfInterface, Stands}
-use Rattle.occ_meaning.proofs.Overlay.{does_over, over}
+use Rattle.occ_nform_rows.specs.occ_meaning.Foundation.{AreWithin}
+use Rattle.occ_nform_rows.proofs.from_meaning.Frame.{part_value, written_in_scope}
+use Rattle.occ_nform_rows.proofs.from_meaning.Interface.{part_in_interface}
+use Rattle.occ_nform_rows.proofs.from_meaning.States.{part_states}
+use Rattle.occ_nform_rows.specs.occ_behaviour.States.{is_state}
+use Rattle.occ_nform_rows.specs.occ_nform_table.declared.table.TableRow.{TableRow}
+use Rattle.occ_nform_rows.specs.occ_nform_table.Behaviours.{IsOfInterface, Stands}
+use Rattle.occ_nform_rows.proofs.from_meaning.Overlay.{does_over, over}
 
 none_is : (o : Option Kind) → is_none o ≡ true → o ≡ None
 none_is None h = refl

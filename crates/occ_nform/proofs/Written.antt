@@ -3,34 +3,34 @@ use Rattle.std.proofs.Common.{◌≡◌, ◌<◌, ◌≤◌, ◌^◌, ◌+◌, �
 use Rattle.std.specs.Option.{IsSomeAnd}
 use Rattle.std.specs.List.{AllByRecursion}
 use Rattle.std.proofs.lemmas.List.Elements.{All-from_recursion}
-use Rattle.occ_base.specs.declared.names.Name.{Name}
+use Rattle.occ_nform_rows.specs.occ_base.declared.names.Name.{Name}
 use Rattle.occ_syntax.specs.declared.scope.Kind.{Kind}
 use Rattle.occ_syntax.specs.Counts.{bits_of_scope}
 use Rattle.occ_syntax.specs.Meaning.{fails as part_fails, ends as part_ends}
 use Rattle.occ_syntax.specs.Scopes.{EventSet, Trace, environment, values}
 use Rattle.occ_syntax.specs.Tree.{Tree}
-use Rattle.occ_behaviour.specs.States.{is_state}
-use Rattle.occ_bits.specs.Layout.{laid_out, state_of}
-use Rattle.occ_mdd.specs.Maps.{value}
-use Rattle.occ_node.specs.World.{IsNode}
-use Rattle.occ_node.specs.declared.node.NodeId.{NodeId}
-use Rattle.occ_node.specs.declared.root.Root.{Root}
-use Rattle.occ_node.specs.declared.world.World.{World}
-use Rattle.occ_compare.specs.Interface.{HasNodes}
-use Rattle.occ_compare.specs.Places.{assignment_at}
-use Rattle.occ_compare.proofs.Found.{small_start}
-use Rattle.occ_compare.proofs.Numbers.{small}
-use Rattle.occ_nform_table.specs.declared.table.TableRow.{TableRow}
-use Rattle.occ_nform_table.specs.Behaviours.{Stands, row_ends, row_fails}
-use Rattle.occ_nform_table.specs.Lines.{AreNamed, state_place}
-use Rattle.occ_base.specs.Names.{IsDistinct}
-use Rattle.occ_nform_table.specs.Normal.{text_read}
-use Rattle.occ_nform_table.specs.Tables.{AreRowsOf, IsNormal}
-use Rattle.occ_nform_table.specs.Texts.{table_text}
-use Rattle.occ_nform_table.specs.Rows.{RowIsNamed}
-use Rattle.occ_nform_number.specs.Tabulated.{IsTabulated}
-use Rattle.occ_nform_table.proofs.Named.{row_named}
-use Rattle.occ_nform_unique.proofs.States.{place_below}
+use Rattle.occ_nform_rows.specs.occ_behaviour.States.{is_state}
+use Rattle.occ_nform_rows.specs.occ_bits.Layout.{laid_out, state_of}
+use Rattle.occ_nform_rows.specs.occ_mdd.Maps.{value}
+use Rattle.occ_nform_rows.specs.occ_node.World.{IsNode}
+use Rattle.occ_nform_rows.specs.occ_node.declared.node.NodeId.{NodeId}
+use Rattle.occ_nform_rows.specs.occ_node.declared.root.Root.{Root}
+use Rattle.occ_nform_rows.specs.occ_node.declared.world.World.{World}
+use Rattle.occ_nform_rows.specs.occ_compare.Interface.{HasNodes}
+use Rattle.occ_nform_rows.specs.occ_compare.Places.{assignment_at}
+use Rattle.occ_nform_rows.proofs.from_compare.Found.{small_start}
+use Rattle.occ_nform_rows.proofs.from_compare.Numbers.{small}
+use Rattle.occ_nform_rows.specs.occ_nform_table.declared.table.TableRow.{TableRow}
+use Rattle.occ_nform_rows.specs.occ_nform_table.Behaviours.{Stands, row_ends, row_fails}
+use Rattle.occ_nform_rows.specs.occ_nform_table.Lines.{AreNamed, state_place}
+use Rattle.occ_nform_rows.specs.occ_base.Names.{IsDistinct}
+use Rattle.occ_nform_rows.specs.occ_nform_table.Normal.{text_read}
+use Rattle.occ_nform_rows.specs.occ_nform_table.Tables.{AreRowsOf, IsNormal}
+use Rattle.occ_nform_rows.specs.occ_nform_table.Texts.{table_text}
+use Rattle.occ_nform_rows.specs.occ_nform_table.Rows.{RowIsNamed}
+use Rattle.occ_nform.specs.Tabulated.{IsTabulated}
+use Rattle.occ_nform_rows.proofs.from_nform_table.Named.{row_named}
+use Rattle.occ_nform_rows.proofs.from_nform_table.States.{place_below}
 use Rattle.occ_nform.specs.Written.{IsNormalText, IsRootOf}
 use Rattle.occ_nform.specs.Lines.{RowsAreNamed}
 use Rattle.occ_nform.proofs.Assignments.{values_there}

@@ -1,7 +1,7 @@
 -- How large a table is.
 use Rattle.std.specs.Prelude.{ℕ, ◌+◌, max, List, [], ◌∷◌, ◌++◌, length}
-use Rattle.occ_nform_table.specs.Judging.{height_over}
-use Rattle.occ_nform_table.specs.declared.table.TableRow.{TableRow}
+use Rattle.occ_nform_rows.specs.occ_nform_table.Judging.{height_over}
+use Rattle.occ_nform_rows.specs.occ_nform_table.declared.table.TableRow.{TableRow}
 
 -- the OFFER lines of rows together
 abbrev pub offers_in : List TableRow → ℕ

@@ -1,14 +1,14 @@
 -- The lines of a table.
 use Rattle.std.specs.Prelude.{ℕ, ◌++◌, List, codes, decimal}
 use Rattle.std.specs.List.{All}
-use Rattle.occ_base.specs.declared.names.Name.{Name}
+use Rattle.occ_nform_rows.specs.occ_base.declared.names.Name.{Name}
 use Rattle.occ_syntax.specs.declared.scope.Kind.{Kind}
-use Rattle.occ_behaviour.specs.Texts.{state_text}
-use Rattle.occ_nform_table.specs.Judging.{row_text}
-use Rattle.occ_nform_table.specs.Lines.{text_of}
-use Rattle.occ_nform_table.specs.Texts.{param_text, state_at_place}
-use Rattle.occ_nform_table.specs.declared.table.TableRow.{TableRow}
-use Rattle.occ_nform_table.specs.Rows.{RowIsNamed}
+use Rattle.occ_nform_rows.specs.occ_behaviour.Texts.{state_text}
+use Rattle.occ_nform_rows.specs.occ_nform_table.Judging.{row_text}
+use Rattle.occ_nform_rows.specs.occ_nform_table.Lines.{text_of}
+use Rattle.occ_nform_rows.specs.occ_nform_table.Texts.{param_text, state_at_place}
+use Rattle.occ_nform_rows.specs.occ_nform_table.declared.table.TableRow.{TableRow}
+use Rattle.occ_nform_rows.specs.occ_nform_table.Rows.{RowIsNamed}
 
 abbrev pub param_line : List (List ℕ) → Name × Kind → List ℕ
 param_line names p = codes "PARAM " ++ param_text (text_of names p.0) p.1 ++ codes "\n"

@@ -1,18 +1,18 @@
 -- Normal texts of programs.
 use Rattle.std.specs.Prelude.{ℕ, ◌<◌, ◌≡◌, ◌^◌, ◌↔◌, true, List, Some, Ok}
-use Rattle.occ_base.specs.declared.names.Name.{Name}
+use Rattle.occ_nform_rows.specs.occ_base.declared.names.Name.{Name}
 use Rattle.occ_syntax.specs.declared.scope.Kind.{Kind}
 use Rattle.occ_syntax.specs.Meaning.{fails as part_fails, ends as part_ends}
 use Rattle.occ_syntax.specs.Scopes.{EventSet, Trace, environment}
 use Rattle.occ_syntax.specs.Tree.{Tree}
-use Rattle.occ_bits.specs.Layout.{laid_out, state_of}
-use Rattle.occ_mdd.specs.Maps.{value}
-use Rattle.occ_mdd.specs.declared.map.MapId.{MapId}
-use Rattle.occ_node.specs.World.{fails, ends}
-use Rattle.occ_node.specs.declared.node.NodeId.{NodeId}
-use Rattle.occ_node.specs.declared.world.World.{World}
-use Rattle.occ_nform_table.specs.Behaviours.{Stands}
-use Rattle.occ_nform_table.specs.Normal.{Parts, text_read}
+use Rattle.occ_nform_rows.specs.occ_bits.Layout.{laid_out, state_of}
+use Rattle.occ_nform_rows.specs.occ_mdd.Maps.{value}
+use Rattle.occ_nform_rows.specs.occ_mdd.declared.map.MapId.{MapId}
+use Rattle.occ_nform_rows.specs.occ_node.World.{fails, ends}
+use Rattle.occ_nform_rows.specs.occ_node.declared.node.NodeId.{NodeId}
+use Rattle.occ_nform_rows.specs.occ_node.declared.world.World.{World}
+use Rattle.occ_nform_rows.specs.occ_nform_table.Behaviours.{Stands}
+use Rattle.occ_nform_rows.specs.occ_nform_table.Normal.{Parts, text_read}
 
 -- The root has the behaviours of a program's body: at each assignment the node of the map has exactly its failures and ends
 -- from the state for which the assignment stands.

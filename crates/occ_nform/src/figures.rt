@@ -1,10 +1,9 @@
 ghost use Rattle.std.specs.Prelude.{◌≡◌, ◌≤◌, ◌+◌, [], get_or, length, IfOk};
 ghost use Rattle.occ_syntax.specs.Counts.{capped};
-ghost use Rattle.occ_nform_table.specs.Judging.{height_over};
+ghost use Rattle.occ_nform_rows.specs.occ_nform_table.Judging.{height_over};
 ghost use Rattle.occ_nform.specs.Counts.{greatest, heights_of, offers_in};
 
-use occ_base::{Event, Memory};
-use occ_nform_table::{Table, TableRow};
+use occ_nform_rows::{Event, Memory, Table, TableRow};
 use std::alloc::Global;
 
 /// How large a table is.

@@ -1,15 +1,15 @@
 ghost use Rattle.std.specs.Prelude.{true, length, List, ℕ, ◌<◌, ◌^◌, ◌↔◌, ◌≡◌};
-ghost use Rattle.occ_base.specs.Names.{IsDistinct};
-ghost use Rattle.occ_base.specs.declared.names.Name.{Name};
+ghost use Rattle.occ_nform_rows.specs.occ_base.Names.{IsDistinct};
+ghost use Rattle.occ_nform_rows.specs.occ_base.declared.names.Name.{Name};
 ghost use Rattle.occ_syntax.specs.Same.{SAME};
 ghost use Rattle.occ_syntax.specs.Scopes.{environment};
 ghost use Rattle.occ_syntax.specs.Tree.{Tree};
 ghost use Rattle.occ_syntax.specs.Types.{scope_kept, types_kept};
 ghost use Rattle.occ_syntax.specs.declared.scope.Kind.{Kind};
 ghost use Rattle.occ_nform.specs.Written.{IsNormalText};
-ghost use Rattle.occ_nform_table.specs.Behaviours.{Stands};
-ghost use Rattle.occ_nform_table.specs.Tables.{IsNormal};
-ghost use Rattle.occ_nform_table.specs.declared.table.TableRow.{TableRow};
+ghost use Rattle.occ_nform_rows.specs.occ_nform_table.Behaviours.{Stands};
+ghost use Rattle.occ_nform_rows.specs.occ_nform_table.Tables.{IsNormal};
+ghost use Rattle.occ_nform_rows.specs.occ_nform_table.declared.table.TableRow.{TableRow};
 
 /// Two programs with the same parameters have one normal text exactly where they mean the same. A text in memory has
 /// fewer than 2 ^ 64 bytes.

@@ -1,17 +1,15 @@
 ghost use Rattle.std.specs.Prelude.{◌≡◌, ◌<◌, ◌^◌, [], true, length, IfOk};
-ghost use Rattle.occ_base.specs.Names.{IsDistinct};
+ghost use Rattle.occ_nform_rows.specs.occ_base.Names.{IsDistinct};
 ghost use Rattle.occ_syntax.specs.Tree.{Tree};
-ghost use Rattle.occ_compare.specs.Interface.{HasNodes, IsOfInterface};
-ghost use Rattle.occ_nform_table.specs.Tables.{are_params, IsInterface};
-ghost use Rattle.occ_nform_table.specs.Texts.{table_text};
+ghost use Rattle.occ_nform_rows.specs.occ_compare.Interface.{HasNodes, IsOfInterface};
+ghost use Rattle.occ_nform_rows.specs.occ_nform_table.Tables.{are_params, IsInterface};
+ghost use Rattle.occ_nform_rows.specs.occ_nform_table.Texts.{table_text};
 ghost use Rattle.occ_nform.specs.Lines.{RowsAreNamed};
 ghost use Rattle.occ_nform.specs.Written.{IsNormalText, IsRootOf};
 
 use crate::lines::{push_params, push_rows, push_states};
-use occ_base::{Memory, Names};
-use occ_nform_number::tabulate;
-use occ_nform_table::Table;
-use occ_node::{Root, World};
+use crate::tabulate;
+use occ_nform_rows::{Memory, Names, Root, Table, World};
 use std::alloc::Global;
 
 /// The text of a table: the version, a PARAM line for each parameter, the rows and the STATE lines. All that is named in it has a name in

@@ -5,7 +5,7 @@ use Rattle.std.proofs.lemmas.Bool.{both_ways, and_parts, leb-true, leb-false, le
 use Rattle.std.proofs.lemmas.List.{take-append-drop, take_all}
 use Rattle.std.proofs.lemmas.List.Sums.{fold-append, fold_more}
 use Rattle.std.proofs.lemmas.List.Folds.{list_all_at}
-use Rattle.occ_lex.specs.Spelling.{is_digit, is_numeral, value_of}
+use Rattle.occ_nform_table.specs.occ_lex.Spelling.{is_digit, is_numeral, value_of}
 use Rattle.occ_nform_table.specs.Words.{then_read, at_most, number_of, small_number_of}
 use Rattle.occ_nform_table.specs.Lines.{below, is_number}
 

@@ -4,8 +4,8 @@ use Rattle.std.specs.List.{position}
 use Rattle.std.proofs.lemmas.Bool.{cond-true, cond-false, eq-eqb, ne_eqb, eqb-true, eqb-false}
 use Rattle.std.proofs.lemmas.List.{length-drop}
 use Rattle.std.proofs.lemmas.List.Quantifiers.{position-Some}
-use Rattle.occ_lex.specs.Rows.{in_front}
-use Rattle.occ_lex.proofs.RowLemmas.{position-None}
+use Rattle.occ_nform_table.specs.occ_lex.Rows.{in_front}
+use Rattle.occ_nform_table.proofs.from_lex.RowLemmas.{position-None}
 use Rattle.occ_nform_table.specs.Words.{then_read, cut, words, items_of, each}
 
 words_space : (byte : ℕ) (text : List ℕ) → byte ≡ 32 → words (byte ∷ text) ≡ [] ∷ words text

@@ -2,13 +2,13 @@
 use Rattle.std.proofs.Common.{◌≡◌, ℕ, zero, suc, ◌+◌, ◌-◌, ◌<◌, ◌≤◌, Bool, true, false, cond, eqb, subst, List, [], ◌∷◌, ◌++◌, length, Option, Some, None, refl, sym, ap, ◌∙◌, arith, append_assoc, length-append}
 use Rattle.std.proofs.lemmas.Bool.{cond-true, cond-false}
 use Rattle.std.proofs.lemmas.List.{append-nil}
-use Rattle.occ_base.specs.declared.names.Name.{Name}
-use Rattle.occ_base.specs.Names.{place_of, with_text}
+use Rattle.occ_nform_table.specs.occ_base.declared.names.Name.{Name}
+use Rattle.occ_nform_table.specs.occ_base.Names.{place_of, with_text}
 use Rattle.occ_syntax.specs.declared.scope.Kind.{Kind}
 use Rattle.occ_nform_table.specs.declared.table.TableRow.{TableRow}
 use Rattle.occ_nform_table.specs.Lines.{next_param, end_of, accept_of, offer_of, is_row, row_of_state}
 use Rattle.occ_nform_table.specs.Reading.{Lines, kept, taken, either, Header, params_in, row_behind, with_row, rows_in, states_in}
-use Rattle.occ_lex.specs.Rows.{rows, in_front}
+use Rattle.occ_nform_table.specs.occ_lex.Rows.{rows, in_front}
 use Rattle.occ_nform_table.specs.Tables.{IsInterface}
 use Rattle.occ_nform_read.specs.Found.{AreApart}
 use Rattle.occ_nform_read.proofs.Interfaces.{interface_more, names_apart}

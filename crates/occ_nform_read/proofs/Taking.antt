@@ -2,8 +2,8 @@
 use Rattle.std.proofs.Common.{◌≡◌, ℕ, ◌<◌, ◌≤◌, false, eqb, List, [], ◌∷◌, ◌++◌, length, drop, Option, Some, None, refl, sym, ap, ◌∙◌, arith, append_assoc}
 use Rattle.std.proofs.lemmas.Bool.{eqb-false}
 use Rattle.std.proofs.lemmas.List.{append-nil, length-drop}
-use Rattle.occ_lex.specs.Rows.{rows, first_row}
-use Rattle.occ_lex.proofs.RowLemmas.{first_row_is}
+use Rattle.occ_nform_table.specs.occ_lex.Rows.{rows, first_row}
+use Rattle.occ_nform_table.proofs.from_lex.RowLemmas.{first_row_is}
 use Rattle.occ_nform_table.specs.Reading.{Lines, kept, taken}
 
 -- what was read before, and what is still read

@@ -1,12 +1,11 @@
 ghost use Rattle.std.specs.Prelude.{◌≡◌, ◌∷◌, [], ◌++◌, ◌+◌, ◌*◌, ◌≤◌, ◌<◌, length, IfOk, Option, Some, None};
-ghost use Rattle.occ_behaviour.specs.Texts.{mark_text};
+ghost use Rattle.occ_nform_table.specs.occ_behaviour.Texts.{mark_text};
 ghost use Rattle.occ_nform_table.specs.Words.{Finds, each, items_of};
 ghost use Rattle.occ_nform_table.specs.Lines.{AreNamed, HasWidth, HaveWidths, event_on, event_of, text_of, rank, is_rising, set_of, accept_of, offer_of};
 
 use crate::states::fitting;
 use crate::words::{behind, between, cut, lower, small_number_of};
-use occ_base::{Dir, Event, Events, Memory, Name, Names};
-use occ_nform_table::rank;
+use occ_nform_table::{BaseEvents as Events, BaseNames as Names, Dir, Event, Memory, Name, rank};
 use occ_syntax::Kind;
 use std::alloc::Global;
 

@@ -1,6 +1,6 @@
 ghost use Rattle.std.specs.Prelude.{◌≡◌, ◌∷◌, [], ◌≤◌, ◌<◌, ◌+◌, length, IfOk, OnOk};
 ghost use Rattle.std.specs.Option.{MatchOption};
-ghost use Rattle.occ_lex.specs.Rows.{rows};
+ghost use Rattle.occ_nform_table.specs.occ_lex.Rows.{rows};
 ghost use Rattle.occ_syntax.specs.Counts.{bits_of_scope};
 ghost use Rattle.occ_nform_table.specs.Lines.{AreNamed, HaveWidths, end_of, accept_of, offer_of, is_row, row_of_state, next_param};
 ghost use Rattle.occ_nform_table.specs.Reading.{params_in, row_behind, rows_in, states_in, taken};
@@ -9,9 +9,10 @@ use crate::events::{accept_of, offer_of};
 use crate::params::next_param;
 use crate::states::{end_of, row_of_state};
 use crate::words::{between, is_number};
-use occ_base::{Memory, Name, Names};
-use occ_lex::first_row;
-use occ_nform_table::{EventSets, RowNumbers, States, TableOffers, TableRow, TableRows};
+use occ_nform_table::{
+    BaseNames as Names, EventSets, Memory, Name, RowNumbers, States, TableOffers, TableRow,
+    TableRows, first_row,
+};
 use occ_syntax::{Kind, Scope};
 use std::alloc::Global;
 

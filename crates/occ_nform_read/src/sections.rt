@@ -1,5 +1,5 @@
 ghost use Rattle.std.specs.Prelude.{◌≡◌, ◌∷◌, [], ◌≤◌, ◌<◌, ◌+◌, length, IfOk};
-ghost use Rattle.occ_lex.specs.Rows.{rows};
+ghost use Rattle.occ_nform_table.specs.occ_lex.Rows.{rows};
 ghost use Rattle.occ_syntax.specs.Counts.{bits_of_scope};
 ghost use Rattle.occ_nform_table.specs.Lines.{HaveWidths};
 ghost use Rattle.occ_nform_table.specs.Reading.{params_in, rows_in, states_in};
@@ -9,8 +9,7 @@ ghost use Rattle.occ_nform_read.specs.Found.{AreApart};
 use crate::params::next_param;
 use crate::reading::{first_line, is_row, row_behind};
 use crate::states::row_of_state;
-use occ_base::{Memory, Name, Names};
-use occ_nform_table::{RowNumbers, TableRows};
+use occ_nform_table::{BaseNames as Names, Memory, Name, RowNumbers, TableRows};
 use occ_syntax::{Kind, Scope};
 use std::alloc::Global;
 

@@ -1,6 +1,6 @@
 ghost use Rattle.std.specs.Prelude.{◌≡◌, ◌⊎◌, ◌∷◌, [], ◌≤◌, ◌<◌, ◌+◌, Ok, Err, None, length, IfOk, IfErr};
 ghost use Rattle.std.specs.List.{AllByRecursion};
-ghost use Rattle.occ_lex.specs.Rows.{rows};
+ghost use Rattle.occ_nform_table.specs.occ_lex.Rows.{rows};
 ghost use Rattle.occ_syntax.specs.Counts.{bits_of_scope};
 ghost use Rattle.occ_nform_table.specs.Judging.{rows_marks};
 ghost use Rattle.occ_nform_table.specs.Normal.{behind_params, is_whole, judged, line_at, table_fault, text_read};
@@ -8,12 +8,10 @@ ghost use Rattle.occ_nform_table.specs.Reading.{params_in};
 ghost use Rattle.occ_nform_table.specs.Tables.{IsInterface, AreRowsOf};
 ghost use Rattle.occ_nform_read.specs.Found.{IsRead};
 
+use crate::judge;
 use crate::reading::first_line;
 use crate::sections::{params_in, rows_in, states_in};
-use occ_base::{Memory, Name, Names};
-use occ_behaviour::interface_bits;
-use occ_nform_check::judge;
-use occ_nform_table::{Table, TableFault};
+use occ_nform_table::{BaseNames as Names, Memory, Name, Table, TableFault, interface_bits};
 use occ_syntax::Kind;
 use std::alloc::Global;
 
@@ -126,7 +124,7 @@ fn found_in(
 ///
 /// # Errors
 /// Where the text isn't normal, its first fault: a line that hasn't the form for its place, else a line that is out of
-/// order or no least acceptance, else an empty row, else a row that isn't reached. And want of memory.
+/// order or no least acceptance, else an empty row, else a row that isn't reached. `Memory` comes where memory runs out.
 pub fn read(alloc: Global, names: &mut Names, text: &[u8]) -> Result<Table, TableFault>
     requires { length text.now ≤ 67108864 }
     ensures found { IfOk result (λ t. text_read names.old text.now ≡ Ok (record { names = names.new; params = t.params; rows = t.rows; states = t.states })) }

@@ -1,10 +1,10 @@
 ghost use Rattle.std.specs.Prelude.{◌≡◌, ◌∷◌, [], ◌==◌, ◌≤◌, IfOk, position, true};
 ghost use Rattle.std.specs.List.{list_all};
-ghost use Rattle.occ_lex.specs.Spelling.{is_digit, is_numeral, value_of};
+ghost use Rattle.occ_nform_table.specs.occ_lex.Spelling.{is_digit, is_numeral, value_of};
 ghost use Rattle.occ_nform_table.specs.Words.{Finds, behind, before, between, cut, each, items_of, number_of, small_number_of, has_no_leading_zero, at_most, then_read};
 ghost use Rattle.occ_nform_table.specs.Lines.{below, is_number};
 
-use occ_base::{List, Memory};
+use occ_nform_table::{List, Memory};
 use std::alloc::Global;
 
 /// The bytes behind a front.
@@ -77,7 +77,7 @@ fn are_digits(word: &[u8]) -> bool
     word.iter().all(|byte| is_digit(*byte))
 }
 
-#[tactic(auto, unfolding(occ_lex::specs::Spelling::is_numeral))]
+#[tactic(auto, unfolding(crate::specs::is_numeral))]
 fn is_numeral(word: &[u8]) -> bool
     ensures { result ≡ is_numeral word.now }
 {

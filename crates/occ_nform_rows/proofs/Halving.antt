@@ -7,21 +7,21 @@ use Rattle.std.proofs.lemmas.List.{append_assoc, append-nil}
 use Rattle.std.proofs.lemmas.List.Folds.{list_any-append}
 use Rattle.std.proofs.lemmas.Nat.{pow_pos, div-add-mod'}
 use Rattle.std.proofs.lemmas.Nat.Bits.{bit_at_above, bit_at_cat_low, bit_at_cat_high, same_from_bits_below}
-use Rattle.occ_base.specs.declared.names.Name.{Name}
+use Rattle.occ_nform_table.specs.occ_base.declared.names.Name.{Name}
 use Rattle.occ_syntax.specs.declared.scope.Kind.{Kind}
 use Rattle.occ_syntax.specs.Counts.{bits_of_scope}
-use Rattle.occ_diagram.proofs.Bits.{bit_at-with_bit_same, bit_at-with_bit_other, with_bit_same, with_bit_lt}
-use Rattle.occ_diagram.proofs.DiagramLemmas.{end_agree, some_at}
-use Rattle.occ_diagram.specs.Assignment.{with_bit}
-use Rattle.occ_diagram.specs.Table.{nodes_of}
-use Rattle.occ_diagram.specs.declared.node.Node.{Node}
-use Rattle.occ_diagram.specs.declared.node.Node.TheVariants.{Leaf, Branch}
-use Rattle.occ_dd.specs.Store.{IsKnown, Splits, IsConstant, depth, has}
-use Rattle.occ_dd.specs.declared.set.SetId.{SetId}
-use Rattle.occ_dd.specs.declared.store.Store.{Store}
-use Rattle.occ_dd.proofs.Callers.{depth-constant}
-use Rattle.occ_dd.proofs.Sets.{has_end, known_size, leaf_constant, branch_splits}
-use Rattle.occ_accept.proofs.Strict.{same_tests}
+use Rattle.occ_compare.proofs.from_dd.Bits.{bit_at-with_bit_same, bit_at-with_bit_other, with_bit_same, with_bit_lt}
+use Rattle.occ_compare.proofs.from_dd.DiagramLemmas.{end_agree, some_at}
+use Rattle.occ_compare.specs.occ_dd.Assignment.{with_bit}
+use Rattle.occ_compare.specs.occ_dd.Table.{nodes_of}
+use Rattle.occ_compare.specs.occ_dd.declared.node.Node.{Node}
+use Rattle.occ_compare.specs.occ_dd.declared.node.Node.TheVariants.{Leaf, Branch}
+use Rattle.occ_compare.specs.occ_dd.Store.{IsKnown, Splits, IsConstant, depth, has}
+use Rattle.occ_compare.specs.occ_dd.declared.set.SetId.{SetId}
+use Rattle.occ_compare.specs.occ_dd.declared.store.Store.{Store}
+use Rattle.occ_compare.proofs.from_dd.Callers.{depth-constant}
+use Rattle.occ_compare.proofs.from_dd.Sets.{has_end, known_size, leaf_constant, branch_splits}
+use Rattle.occ_compare.proofs.from_accept.Strict.{same_tests}
 use Rattle.occ_compare.specs.Places.{assignment_at, number_in}
 use Rattle.occ_compare.proofs.Numbers.{small, below, again, back}
 use Rattle.occ_nform_rows.specs.Ends.{AreHalves, places_of, has_number}

@@ -6,24 +6,24 @@ use Rattle.std.specs.Cmp.Lexicographic.{slice_cmp, lists_total}
 use Rattle.std.specs.Cmp.{IsTotalOrder}
 use Rattle.std.specs.Ordering.{is_lt, eq_by_cmp, on}
 use Rattle.std.specs.declared.cmp.Ordering.{Ordering}
-use Rattle.std.proofs.lemmas.Bool.{and_parts, and_from, or_cases, or_parts, or_left, or_right, cases_Bool, both_ways, eqb-true, false≢true, true≢false}
+use Rattle.std.proofs.lemmas.Bool.{and_parts, and_from, or_cases, or_parts, or_left, or_right, cases_Bool, both_ways, eqb-true, false≢true}
 use Rattle.std.proofs.lemmas.List.{take_more}
 use Rattle.std.proofs.Common.{take, MatchOption}
-use Rattle.occ_node.proofs.Table.{below_at}
-use Rattle.occ_node.specs.Offers.{are_below}
+use Rattle.occ_compare.proofs.from_node.Table.{below_at}
+use Rattle.occ_compare.specs.occ_node.Offers.{are_below}
 use Rattle.std.proofs.lemmas.List.Sorted.{list_any-IsPermutation}
-use Rattle.occ_base.specs.declared.event.Dir.{Dir}
-use Rattle.occ_base.specs.declared.event.Dir.TheVariants.{Input, Output}
-use Rattle.occ_base.specs.declared.event.Event.{Event}
-use Rattle.occ_base.specs.declared.names.Name.{Name}
+use Rattle.occ_nform_table.specs.occ_base.declared.event.Dir.{Dir}
+use Rattle.occ_nform_table.specs.occ_base.declared.event.Dir.TheVariants.{Input, Output}
+use Rattle.occ_nform_table.specs.occ_base.declared.event.Event.{Event}
+use Rattle.occ_nform_table.specs.occ_base.declared.names.Name.{Name}
 use Rattle.occ_syntax.specs.declared.scope.Kind.{Kind}
 use Rattle.occ_syntax.specs.Scopes.{same_dir, same_event}
-use Rattle.occ_accept.specs.Accept.{IsAntichain, in_set, misses, refuses}
-use Rattle.occ_accept.specs.Order.{event_cmp, strict, is_in}
-use Rattle.occ_accept.proofs.Strict.{IsExact, same_tests, tied, tied_same, all_at, all_each, above-not_in}
-use Rattle.occ_accept.proofs.Events.{cmp_total, event_exact, sets_total}
-use Rattle.occ_node.specs.Offers.{next_in, is_offered}
-use Rattle.occ_node.specs.declared.node.NodeId.{NodeId}
+use Rattle.occ_compare.specs.occ_accept.Accept.{IsAntichain, in_set, misses, refuses}
+use Rattle.occ_compare.specs.occ_accept.Order.{event_cmp, strict, is_in}
+use Rattle.occ_compare.proofs.from_accept.Strict.{IsExact, same_tests, tied, tied_same, all_at, all_each, above-not_in}
+use Rattle.occ_compare.proofs.from_accept.Events.{cmp_total, event_exact, sets_total}
+use Rattle.occ_compare.specs.occ_node.Offers.{next_in, is_offered}
+use Rattle.occ_compare.specs.occ_node.declared.node.NodeId.{NodeId}
 use Rattle.occ_compare.specs.Orders.{print_cmp, list_cmp, IsListOf, has_set}
 use Rattle.occ_compare.proofs.Printing.{print_total, print_exact, one_set}
 use Rattle.occ_nform_table.specs.Behaviours.{next_row}
@@ -132,9 +132,6 @@ event_is e f = same_tests (same_event e f) (eq_by_cmp event_cmp e f)
     (and_from (e.chan.0 == e.chan.0 && same_dir e.dir e.dir) (e.value == e.value) (and_from (e.chan.0 == e.chan.0) (same_dir e.dir e.dir) (eq-eqb e.chan.0 e.chan.0 refl) (same_itself e.dir)) (eq-eqb e.value e.value refl)))
 
 -- ---- offers
-none_of : {A : Type 0} (o : Option A) → is_some o ≡ false → o ≡ None
-none_of None h = refl
-none_of (Some a) h = absurd (true≢false h)
 
 module _ (numbers : List ℕ) (offers : List (Event × NodeId)) where
   -- where the first event isn't the one that is looked for, and where it is

@@ -8,19 +8,19 @@ use Rattle.std.specs.declared.cmp.Ordering.TheVariants.{Less, Equal, Greater}
 use Rattle.std.proofs.Math.Nat.{pow-le-pow_right}
 use Rattle.std.proofs.lemmas.Bool.{and_parts, and_from, or_left, or_right, cases_Bool, both_ways, eqb-true, ltb-true, lt-ltb, le-leb, false≢true}
 use Rattle.std.proofs.lemmas.Option.{same_Some}
-use Rattle.occ_base.specs.declared.event.Dir.{Dir}
-use Rattle.occ_base.specs.declared.event.Dir.TheVariants.{Input, Output}
-use Rattle.occ_base.specs.declared.event.Event.{Event}
-use Rattle.occ_base.specs.declared.names.Name.{Name}
-use Rattle.occ_base.specs.Width.{bits_of}
+use Rattle.occ_nform_table.specs.occ_base.declared.event.Dir.{Dir}
+use Rattle.occ_nform_table.specs.occ_base.declared.event.Dir.TheVariants.{Input, Output}
+use Rattle.occ_nform_table.specs.occ_base.declared.event.Event.{Event}
+use Rattle.occ_nform_table.specs.occ_base.declared.names.Name.{Name}
+use Rattle.occ_nform_table.specs.occ_base.Width.{bits_of}
 use Rattle.occ_syntax.specs.declared.scope.Kind.{Kind}
 use Rattle.occ_syntax.specs.declared.scope.Kind.TheVariants.{Var, Chan}
 use Rattle.occ_syntax.specs.Types.{scope_kept, width_of_kind}
 use Rattle.occ_syntax.specs.Scopes.{environment, in_interface, in_scope, allows, channel_kind, has_width, same_dir}
-use Rattle.occ_accept.specs.Order.{event_cmp, dir_number, strict}
-use Rattle.occ_accept.proofs.Strict.{same_tests, tied, tied_same}
-use Rattle.occ_accept.proofs.Events.{cmp_total, event_exact}
-use Rattle.occ_behaviour.specs.Places.{place_in}
+use Rattle.occ_compare.specs.occ_accept.Order.{event_cmp, dir_number, strict}
+use Rattle.occ_compare.proofs.from_accept.Strict.{same_tests, tied, tied_same}
+use Rattle.occ_compare.proofs.from_accept.Events.{cmp_total, event_exact}
+use Rattle.occ_nform_table.specs.occ_behaviour.Places.{place_in}
 use Rattle.occ_compare.specs.Orders.{print_cmp, list_cmp}
 use Rattle.occ_compare.proofs.Printing.{print_total, print_exact}
 use Rattle.occ_nform_table.specs.Lines.{rank, is_rising}

@@ -7,25 +7,25 @@ use Rattle.std.specs.Ordering.{eq_by_cmp, nat_cmp, on}
 use Rattle.std.specs.declared.cmp.Ordering.{Ordering}
 use Rattle.std.proofs.lemmas.Bool.{and_parts, or_left, or_right, cases_Bool, both_ways, lt-ltb, ltb-true, false≢true}
 use Rattle.std.proofs.lemmas.Option.{same_Some}
-use Rattle.occ_base.specs.declared.event.Event.{Event}
-use Rattle.occ_base.specs.declared.names.Name.{Name}
+use Rattle.occ_nform_table.specs.occ_base.declared.event.Event.{Event}
+use Rattle.occ_nform_table.specs.occ_base.declared.names.Name.{Name}
 use Rattle.occ_syntax.specs.declared.scope.Kind.{Kind}
 use Rattle.occ_syntax.specs.Counts.{bits_of_scope}
 use Rattle.occ_syntax.specs.Scopes.{environment, in_interface, same_event}
 use Rattle.occ_syntax.specs.Types.{scope_kept}
-use Rattle.occ_dd.specs.Store.{depth, has}
-use Rattle.occ_accept.specs.Accept.{in_set, misses, refuses}
-use Rattle.occ_accept.specs.Order.{event_cmp, strict, is_in}
-use Rattle.occ_accept.proofs.Chains.{apart_same}
-use Rattle.occ_accept.proofs.Strict.{tied, tied_same, all_at, all_each}
-use Rattle.occ_accept.proofs.Events.{cmp_total, event_exact, sets_total, set_exact}
-use Rattle.occ_node.specs.Offers.{next_in, is_offered}
-use Rattle.occ_node.specs.Rows.{IsRow}
-use Rattle.occ_node.specs.World.{IsNode, row_of}
-use Rattle.occ_node.specs.declared.node.NodeId.{NodeId}
-use Rattle.occ_node.specs.declared.world.World.{World}
-use Rattle.occ_node.proofs.Behaviours.{ends_nil}
-use Rattle.occ_node.proofs.Worlds.{is_row}
+use Rattle.occ_compare.specs.occ_dd.Store.{depth, has}
+use Rattle.occ_compare.specs.occ_accept.Accept.{in_set, misses, refuses}
+use Rattle.occ_compare.specs.occ_accept.Order.{event_cmp, strict, is_in}
+use Rattle.occ_compare.proofs.from_accept.Chains.{apart_same}
+use Rattle.occ_compare.proofs.from_accept.Strict.{tied, tied_same, all_at, all_each}
+use Rattle.occ_compare.proofs.from_accept.Events.{cmp_total, event_exact, sets_total, set_exact}
+use Rattle.occ_compare.specs.occ_node.Offers.{next_in, is_offered}
+use Rattle.occ_compare.specs.occ_node.Rows.{IsRow}
+use Rattle.occ_compare.specs.occ_node.World.{IsNode, row_of}
+use Rattle.occ_compare.specs.occ_node.declared.node.NodeId.{NodeId}
+use Rattle.occ_compare.specs.occ_node.declared.world.World.{World}
+use Rattle.occ_compare.proofs.from_node.Behaviours.{ends_nil}
+use Rattle.occ_compare.proofs.from_node.Worlds.{is_row}
 use Rattle.occ_compare.specs.Interface.{IsWithin}
 use Rattle.occ_compare.specs.Orders.{print_cmp, list_cmp, IsListOf}
 use Rattle.occ_compare.specs.Places.{number_in}
@@ -39,8 +39,8 @@ use Rattle.occ_nform_table.specs.Lines.{rank, is_rising, state_place}
 use Rattle.occ_nform_table.specs.Tables.{IsRowOf}
 use Rattle.occ_nform_rows.specs.Listed.{IsListed, number_of, are_marked}
 use Rattle.occ_nform_rows.specs.Lists.{AreEnds, AreSets, AreOffers, IsOffer}
-use Rattle.occ_dd.specs.declared.set.SetId.{SetId}
-use Rattle.occ_dd.specs.declared.store.Store.{Store}
+use Rattle.occ_compare.specs.occ_dd.declared.set.SetId.{SetId}
+use Rattle.occ_compare.specs.occ_dd.declared.store.Store.{Store}
 use Rattle.occ_nform_rows.specs.Ends.{byte_state_at, has_number, places_of}
 use Rattle.occ_nform_rows.proofs.Placing.{states_members, states_are, states_strict}
 use Rattle.occ_nform_rows.proofs.Halving.{depth_within, place_member, place_small}

@@ -13,8 +13,8 @@ use Rattle.std.proofs.lemmas.List.Kept.{IsStrictlySortedBy-dedup, Contains-dedup
 use Rattle.std.proofs.lemmas.List.Sorted.{list_any-IsPermutation, sum_by-IsPermutation}
 use Rattle.std.proofs.lemmas.List.Sums.{sum_by-cons}
 use Rattle.std.proofs.lemmas.List.Folds.{Any-from_list_any, list_any-from_Any}
-use Rattle.occ_accept.specs.Order.{strict, is_in}
-use Rattle.occ_accept.proofs.Strict.{IsExact, equal_is, same_tests, tied_same}
+use Rattle.occ_compare.specs.occ_accept.Order.{strict, is_in}
+use Rattle.occ_compare.proofs.from_accept.Strict.{IsExact, equal_is, same_tests, tied_same}
 use Rattle.occ_nform_rows.specs.Ends.{has_number}
 
 all_less : {A : Type 0} (R : A → A → Ordering) (x : A) (xs : List A) → AllByRecursion (λ y. R x y ≡ Less) xs → list_all (λ y. is_lt (R x y)) xs ≡ true

@@ -1,14 +1,14 @@
 -- The final states of a node: the members of a set in the order of their states.
 use Rattle.std.specs.Prelude.{ℕ, zero, suc, ◌+◌, ◌/◌, ◌%◌, ◌^◌, ◌<◌, ◌≤◌, ◌≡◌, ◌==◌, Bool, List, [], ◌∷◌, ◌++◌, if◌then◌else◌}
 use Rattle.std.specs.List.{list_any}
-use Rattle.occ_base.specs.declared.names.Name.{Name}
+use Rattle.occ_nform_table.specs.occ_base.declared.names.Name.{Name}
 use Rattle.occ_syntax.specs.declared.scope.Kind.{Kind}
 use Rattle.occ_syntax.specs.declared.scope.Kind.TheVariants.{Var, Chan}
 use Rattle.occ_syntax.specs.Counts.{bits_of_scope}
 use Rattle.occ_compare.specs.Places.{number_in}
-use Rattle.occ_dd.specs.Store.{IsKnown, depth, has}
-use Rattle.occ_dd.specs.declared.set.SetId.{SetId}
-use Rattle.occ_dd.specs.declared.store.Store.{Store}
+use Rattle.occ_compare.specs.occ_dd.Store.{IsKnown, depth, has}
+use Rattle.occ_compare.specs.occ_dd.declared.set.SetId.{SetId}
+use Rattle.occ_compare.specs.occ_dd.declared.store.Store.{Store}
 
 -- the state that has a place among the states, each value by its lowest eight bits
 abbrev pub byte_state_at : List (Name × Kind) → ℕ → List (Name × ℕ)

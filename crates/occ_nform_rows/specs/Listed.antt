@@ -1,17 +1,17 @@
 -- The row of a table that a node is.
 use Rattle.std.specs.Prelude.{ℕ, ◌<◌, ◌≡◌, ◌==◌, ◌^◌, get_or, Bool, true, false, not, List, option_map}
 use Rattle.std.specs.List.{list_all, list_any, AllByRecursion}
-use Rattle.occ_base.specs.declared.event.Event.{Event}
-use Rattle.occ_base.specs.declared.names.Name.{Name}
+use Rattle.occ_nform_table.specs.occ_base.declared.event.Event.{Event}
+use Rattle.occ_nform_table.specs.occ_base.declared.names.Name.{Name}
 use Rattle.occ_syntax.specs.declared.scope.Kind.{Kind}
 use Rattle.occ_syntax.specs.Counts.{bits_of_scope}
 use Rattle.occ_syntax.specs.Scopes.{EventSet}
-use Rattle.occ_dd.specs.Store.{has}
-use Rattle.occ_accept.specs.Accept.{refuses}
-use Rattle.occ_node.specs.Offers.{next_in}
-use Rattle.occ_node.specs.World.{row_of}
-use Rattle.occ_node.specs.declared.node.NodeId.{NodeId}
-use Rattle.occ_node.specs.declared.world.World.{World}
+use Rattle.occ_compare.specs.occ_dd.Store.{has}
+use Rattle.occ_compare.specs.occ_accept.Accept.{refuses}
+use Rattle.occ_compare.specs.occ_node.Offers.{next_in}
+use Rattle.occ_compare.specs.occ_node.World.{row_of}
+use Rattle.occ_compare.specs.occ_node.declared.node.NodeId.{NodeId}
+use Rattle.occ_compare.specs.occ_node.declared.world.World.{World}
 use Rattle.occ_compare.specs.Places.{assignment_at}
 use Rattle.occ_nform_table.specs.declared.table.TableRow.{TableRow}
 use Rattle.occ_nform_table.specs.Behaviours.{next_row}

@@ -3,18 +3,18 @@ use Rattle.std.specs.Prelude.{ℕ, ◌<◌, ◌≡◌, ◌^◌, Bool, true, List
 use Rattle.std.specs.List.{AllByRecursion}
 use Rattle.std.specs.List.Sorted.{IsPermutation, IsSorted}
 use Rattle.std.specs.Ordering.{nat_cmp, on}
-use Rattle.occ_base.specs.declared.event.Event.{Event}
-use Rattle.occ_base.specs.declared.names.Name.{Name}
+use Rattle.occ_nform_table.specs.occ_base.declared.event.Event.{Event}
+use Rattle.occ_nform_table.specs.occ_base.declared.names.Name.{Name}
 use Rattle.occ_syntax.specs.declared.scope.Kind.{Kind}
 use Rattle.occ_syntax.specs.Counts.{bits_of_scope}
-use Rattle.occ_behaviour.specs.States.{is_state}
-use Rattle.occ_dd.specs.Store.{has}
-use Rattle.occ_dd.specs.declared.set.SetId.{SetId}
-use Rattle.occ_dd.specs.declared.store.Store.{Store}
-use Rattle.occ_accept.specs.Accept.{refuses}
-use Rattle.occ_accept.specs.Order.{is_in, strict}
-use Rattle.occ_node.specs.Offers.{next_in}
-use Rattle.occ_node.specs.declared.node.NodeId.{NodeId}
+use Rattle.occ_nform_table.specs.occ_behaviour.States.{is_state}
+use Rattle.occ_compare.specs.occ_dd.Store.{has}
+use Rattle.occ_compare.specs.occ_dd.declared.set.SetId.{SetId}
+use Rattle.occ_compare.specs.occ_dd.declared.store.Store.{Store}
+use Rattle.occ_compare.specs.occ_accept.Accept.{refuses}
+use Rattle.occ_compare.specs.occ_accept.Order.{is_in, strict}
+use Rattle.occ_compare.specs.occ_node.Offers.{next_in}
+use Rattle.occ_compare.specs.occ_node.declared.node.NodeId.{NodeId}
 use Rattle.occ_compare.specs.Orders.{print_cmp, list_cmp, IsListOf, has_set}
 use Rattle.occ_compare.specs.Places.{assignment_at}
 use Rattle.occ_nform_table.specs.Behaviours.{next_row}

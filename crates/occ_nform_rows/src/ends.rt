@@ -1,18 +1,16 @@
 ghost use Rattle.std.specs.Prelude.{◌≡◌, ◌≤◌, ℕ, true, map, IfOk};
 ghost use Rattle.std.specs.List.Sorted.{IsPermutation, IsSorted};
 ghost use Rattle.std.specs.Ordering.{nat_cmp};
-ghost use Rattle.occ_accept.specs.Order.{strict};
-ghost use Rattle.occ_dd.specs.Store.{IsKnown, depth};
+ghost use Rattle.occ_compare.specs.occ_accept.Order.{strict};
+ghost use Rattle.occ_compare.specs.occ_dd.Store.{IsKnown, depth};
 ghost use Rattle.occ_nform_rows.specs.Ends.{byte_state_at, has_number};
 ghost use Rattle.occ_nform_rows.specs.Lists.{AreEnds};
 ghost use Rattle.occ_syntax.specs.Counts.{bits_of_scope};
 
 use crate::Lister;
 use crate::members::Cube;
-use occ_base::Memory;
-use occ_behaviour::interface_bits;
-use occ_dd::{SetId, Store};
-use occ_nform_table::States;
+use occ_compare::{SetId, Store};
+use occ_nform_table::{Memory, States, interface_bits};
 
 // The same numbers, none of which is less than the one before it.
 fn sorted(mut numbers: Vec<u32>) -> Vec<u32>

@@ -11,3 +11,8 @@ mod row;
 mod sets;
 
 pub use lister::Lister;
+pub use occ_compare::{NodeId, Root, World, assignment};
+pub use occ_nform_table::{
+    BaseNames as Names, Dir, Event, Memory, Name, RowNumbers, State, Table, TableRow, TableRows,
+    Width, interface_bits, push_state, row_text,
+};

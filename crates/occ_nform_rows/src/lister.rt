@@ -2,7 +2,7 @@ ghost use Rattle.std.specs.Prelude.{◌≡◌, ◌≤◌, true};
 ghost use Rattle.occ_syntax.specs.Counts.{bits_of_scope};
 ghost use Rattle.occ_syntax.specs.Types.{scope_kept};
 
-use occ_base::Name;
+use occ_nform_table::Name;
 use occ_syntax::Kind;
 use std::alloc::Global;
 

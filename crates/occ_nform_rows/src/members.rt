@@ -1,12 +1,12 @@
 ghost use Rattle.std.specs.Prelude.{◌≡◌, ◌≤◌, ◌<◌, ◌+◌, ◌-◌, ◌^◌, ◌++◌, OnOk};
 ghost use Rattle.std.specs.Bool.{OnTrue};
-ghost use Rattle.occ_dd.specs.Store.{IsKnown, IsEmpty, depth, has};
+ghost use Rattle.occ_compare.specs.occ_dd.Store.{IsKnown, IsEmpty, depth, has};
 ghost use Rattle.occ_nform_rows.specs.Ends.{AreHalves, places_of};
 
 use crate::Lister;
 use crate::places::size;
-use occ_base::Memory;
-use occ_dd::{SetId, Store};
+use occ_compare::{SetId, Store};
+use occ_nform_table::Memory;
 
 // The assignments that begin with `first`: so many of the lowest bits are free in them, and these are 0 in the first.
 #[derive(Clone, Copy)]

@@ -1,12 +1,10 @@
 ghost use Rattle.std.specs.Prelude.{◌≡◌, ◌<◌, ◌++◌, [], true, length, MatchOption, OnOk, IfOk};
-ghost use Rattle.occ_accept.specs.Order.{strict};
+ghost use Rattle.occ_compare.specs.occ_accept.Order.{strict};
 ghost use Rattle.occ_nform_rows.specs.Lists.{AreOffers, with_number};
-ghost use Rattle.occ_node.specs.Offers.{are_below, offer_cmp};
+ghost use Rattle.occ_compare.specs.occ_node.Offers.{are_below, offer_cmp};
 
-use occ_base::{Event, Memory, Name};
-use occ_compare::in_order;
-use occ_nform_table::TableOffers;
-use occ_node::{NodeId, Offers};
+use occ_compare::{NodeId, Offers, in_order};
+use occ_nform_table::{Event, Memory, Name, TableOffers};
 use occ_syntax::Kind;
 use std::alloc::Global;
 

@@ -3,8 +3,7 @@ ghost use Rattle.occ_compare.specs.Places.{number_in};
 ghost use Rattle.occ_nform_rows.specs.Ends.{byte_state_at};
 
 use crate::Lister;
-use occ_base::{Memory, State};
-use occ_behaviour::interface_bits;
+use occ_nform_table::{Memory, State, interface_bits};
 use occ_syntax::Kind;
 
 // How many values so many bits have.

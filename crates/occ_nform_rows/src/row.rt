@@ -1,15 +1,14 @@
 ghost use Rattle.std.specs.Prelude.{◌≡◌, true, length, IfOk};
 ghost use Rattle.occ_compare.specs.Interface.{IsWithin};
 ghost use Rattle.occ_nform_rows.specs.Listed.{IsListed};
-ghost use Rattle.occ_node.specs.Offers.{are_below};
-ghost use Rattle.occ_node.specs.World.{IsNode, row_of};
+ghost use Rattle.occ_compare.specs.occ_node.Offers.{are_below};
+ghost use Rattle.occ_compare.specs.occ_node.World.{IsNode, row_of};
 
 use crate::Lister;
 use crate::offers::listed_offers;
 use crate::sets::listed_sets;
-use occ_base::Memory;
-use occ_nform_table::TableRow;
-use occ_node::{NodeId, World};
+use occ_compare::{NodeId, World};
+use occ_nform_table::{Memory, TableRow};
 
 impl Lister<'_> {
     /// The row of a table that a node is: its ends as states, its acceptances and its offers, each list in the order of the

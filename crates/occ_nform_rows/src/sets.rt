@@ -1,12 +1,10 @@
 ghost use Rattle.std.specs.Prelude.{◌≡◌, IfOk};
-ghost use Rattle.occ_accept.specs.Accept.{IsAntichain};
+ghost use Rattle.occ_compare.specs.occ_accept.Accept.{IsAntichain};
 ghost use Rattle.occ_compare.specs.Orders.{IsListOf};
 ghost use Rattle.occ_nform_rows.specs.Lists.{AreLists, AreSets, IsInOrder};
 
-use occ_accept::AcceptSet;
-use occ_base::{Events, Memory, Name};
-use occ_compare::{in_order, list_order, listed};
-use occ_nform_table::EventSets;
+use occ_compare::{AcceptSet, in_order, list_order, listed};
+use occ_nform_table::{BaseEvents as Events, EventSets, Memory, Name};
 use occ_syntax::Kind;
 use std::alloc::Global;
 

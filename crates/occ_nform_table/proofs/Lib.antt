@@ -1,2 +1,32 @@
 pub mod Named
 pub mod Powers
+pub mod ReadWords
+pub mod ReadNumerals
+pub mod ReadStates
+pub mod ReadEvents
+pub mod ReadParams
+pub mod Names
+pub mod Sections
+pub mod Header
+pub mod Whole
+pub mod WrittenWords
+pub mod WrittenNumerals
+pub mod Lines
+pub mod TextNamed
+pub mod WrittenStates
+pub mod WrittenEvents
+pub mod TextRows
+pub mod WrittenParams
+pub mod PlaceNames
+pub mod TextTables
+pub mod Lists
+pub mod Orders
+pub mod Events
+pub mod States
+pub mod Sets
+pub mod Facts
+pub mod Rows
+pub mod Tables
+pub mod Unique
+pub use Rattle.occ_lex.proofs.from_base as from_base
+pub use Rattle.occ_lex.proofs as from_lex

@@ -1,8 +1,8 @@
 -- The behaviours of the rows of a table.
 use Rattle.std.specs.Prelude.{ℕ, ◌==◌, ◌≡◌, ◌↔◌, get_or, Bool, true, false, not, ◌&&◌, if◌then◌else◌, List, [], ◌∷◌, length, slice_get, Option, None, Some}
 use Rattle.std.specs.List.{list_any, list_all}
-use Rattle.occ_base.specs.declared.event.Event.{Event}
-use Rattle.occ_base.specs.declared.names.Name.{Name}
+use Rattle.occ_lex.specs.occ_base.declared.event.Event.{Event}
+use Rattle.occ_lex.specs.occ_base.declared.names.Name.{Name}
 use Rattle.occ_syntax.specs.declared.scope.Kind.{Kind}
 use Rattle.occ_syntax.specs.Scopes.{EventSet, environment, in_interface, same_event, values}
 use Rattle.occ_syntax.specs.Meaning.{fails, ends}

@@ -1,8 +1,8 @@
 -- What is wrong with a table whose lines have their forms.
 use Rattle.std.specs.Prelude.{ℕ, zero, suc, ◌+◌, ◌==◌, Bool, true, false, not, ◌&&◌, ◌||◌, nat_lt, if◌then◌else◌, List, [], ◌∷◌, ◌++◌, length, get_or, max, codes, decimal, Option, None, Some}
 use Rattle.std.specs.List.{list_all, list_any}
-use Rattle.occ_base.specs.declared.event.Event.{Event}
-use Rattle.occ_base.specs.declared.names.Name.{Name}
+use Rattle.occ_lex.specs.occ_base.declared.event.Event.{Event}
+use Rattle.occ_lex.specs.occ_base.declared.names.Name.{Name}
 use Rattle.occ_syntax.specs.declared.scope.Kind.{Kind}
 use Rattle.occ_behaviour.specs.Texts.{state_text, event_text, set_text}
 use Rattle.occ_nform_table.specs.declared.table.TableRow.{TableRow}

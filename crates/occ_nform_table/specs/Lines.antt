@@ -2,12 +2,12 @@
 use Rattle.std.specs.Prelude.{ℕ, ◌+◌, ◌*◌, ◌-◌, ◌^◌, ◌≡◌, ◌<◌, ◌==◌, Bool, true, false, not, ◌&&◌, nat_lt, nat_le, if◌then◌else◌, List, [], ◌∷◌, ◌++◌, length, slice_get, unwrap_or, Option, Some, None, codes}
 use Rattle.std.specs.List.{list_any, AllByRecursion}
 use Rattle.std.specs.Str.{bytes_eq}
-use Rattle.occ_base.specs.declared.event.Dir.TheVariants.{Input, Output}
-use Rattle.occ_base.specs.declared.event.Event.{Event}
-use Rattle.occ_base.specs.declared.names.Name.{Name}
-use Rattle.occ_base.specs.declared.width.Width.{Width}
-use Rattle.occ_base.specs.declared.width.Width.TheVariants.{Bool as Truth, Word}
-use Rattle.occ_base.specs.Width.{bits_of, IsWidth}
+use Rattle.occ_lex.specs.occ_base.declared.event.Dir.TheVariants.{Input, Output}
+use Rattle.occ_lex.specs.occ_base.declared.event.Event.{Event}
+use Rattle.occ_lex.specs.occ_base.declared.names.Name.{Name}
+use Rattle.occ_lex.specs.occ_base.declared.width.Width.{Width}
+use Rattle.occ_lex.specs.occ_base.declared.width.Width.TheVariants.{Bool as Truth, Word}
+use Rattle.occ_lex.specs.occ_base.Width.{bits_of, IsWidth}
 use Rattle.occ_lex.specs.declared.token.TokenKind.{TokenKind}
 use Rattle.occ_lex.specs.declared.token.TokenKind.TheVariants as token
 use Rattle.occ_lex.specs.Spelling.{kind_of}

@@ -1,8 +1,8 @@
 -- The lines of a row, and the names that they need.
 use Rattle.std.specs.Prelude.{ℕ, ◌<◌, ◌++◌, List, length, codes, decimal}
 use Rattle.std.specs.List.{All}
-use Rattle.occ_base.specs.declared.event.Event.{Event}
-use Rattle.occ_base.specs.declared.names.Name.{Name}
+use Rattle.occ_lex.specs.occ_base.declared.event.Event.{Event}
+use Rattle.occ_lex.specs.occ_base.declared.names.Name.{Name}
 use Rattle.occ_behaviour.specs.Members.{AreNamed}
 use Rattle.occ_behaviour.specs.Texts.{state_text, event_text, set_text}
 use Rattle.occ_nform_table.specs.declared.table.TableRow.{TableRow}

@@ -1,8 +1,8 @@
 -- Which tables are normal: those that a normal text is read as.
 use Rattle.std.specs.Prelude.{ℕ, suc, ◌+◌, ◌<◌, ◌≤◌, ◌^◌, ◌≡◌, Bool, true, false, ◌&&◌, nat_lt, List, [], ◌∷◌, ◌++◌, length, Option, None, Some}
 use Rattle.std.specs.List.{list_all, AllByRecursion}
-use Rattle.occ_base.specs.declared.event.Event.{Event}
-use Rattle.occ_base.specs.declared.names.Name.{Name}
+use Rattle.occ_lex.specs.occ_base.declared.event.Event.{Event}
+use Rattle.occ_lex.specs.occ_base.declared.names.Name.{Name}
 use Rattle.occ_syntax.specs.declared.scope.Kind.{Kind}
 use Rattle.occ_syntax.specs.declared.scope.Kind.TheVariants.{Var, Chan}
 use Rattle.occ_syntax.specs.Counts.{bits_of_scope}

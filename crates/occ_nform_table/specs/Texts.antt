@@ -1,10 +1,10 @@
 -- How a table is written as a normal text.
 use Rattle.std.specs.Prelude.{ℕ, ◌+◌, ◌/◌, ◌%◌, ◌^◌, List, [], ◌∷◌, ◌++◌, Option, None, Some, codes, decimal}
-use Rattle.occ_base.specs.declared.event.Dir.{Dir}
-use Rattle.occ_base.specs.declared.names.Name.{Name}
-use Rattle.occ_base.specs.declared.width.Width.{Width}
-use Rattle.occ_base.specs.declared.width.Width.TheVariants.{Bool as Truth, Word}
-use Rattle.occ_base.specs.Width.{bits_of}
+use Rattle.occ_lex.specs.occ_base.declared.event.Dir.{Dir}
+use Rattle.occ_lex.specs.occ_base.declared.names.Name.{Name}
+use Rattle.occ_lex.specs.occ_base.declared.width.Width.{Width}
+use Rattle.occ_lex.specs.occ_base.declared.width.Width.TheVariants.{Bool as Truth, Word}
+use Rattle.occ_lex.specs.occ_base.Width.{bits_of}
 use Rattle.occ_syntax.specs.declared.scope.Kind.{Kind}
 use Rattle.occ_syntax.specs.declared.scope.Kind.TheVariants.{Var, Chan}
 use Rattle.occ_syntax.specs.Counts.{bits_of_scope}

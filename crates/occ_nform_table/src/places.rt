@@ -2,8 +2,8 @@ ghost use Rattle.std.specs.Prelude.{◌≡◌, ◌+◌, ◌*◌, ◌^◌, ◌<�
 ghost use Rattle.occ_syntax.specs.Counts.{bits_of_scope};
 ghost use Rattle.occ_nform_table.specs.Lines.{rank, state_place};
 
-use occ_base::{Event, Name};
 use occ_behaviour::{interface_bits, place_in};
+use occ_lex::{Event, Name};
 use occ_syntax::Kind;
 
 /// The place of an event in the order of events.

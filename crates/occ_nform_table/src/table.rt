@@ -1,4 +1,4 @@
-use occ_base::{Event, Events, List, Memory, State};
+use occ_lex::{Event, Events, List, Memory, State};
 use occ_syntax::Scope;
 use thiserror::Error;
 

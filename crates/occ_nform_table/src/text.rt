@@ -6,8 +6,8 @@ ghost use Rattle.occ_nform_table.specs.Rows.{end_line, accept_line, offer_line, 
 
 use crate::TableRow;
 use itoa::Buffer;
-use occ_base::{Event, Events, Memory, Name, Names, State};
 use occ_behaviour::{push_event, push_set, push_state};
+use occ_lex::{Event, Events, Memory, Name, Names, State};
 use std::alloc::Global;
 
 /// The text of a row: the lines under its ROW line. The channels of its events have names.

@@ -1,9 +1,9 @@
 use Rattle.std.proofs.Common.{◌≡◌, ◌<◌, ◌≤◌, ◌^◌, ℕ, Bool, true, false, List, [], ◌∷◌, Some, None, nat_lt, ⊎_elim, refl, sym, ap, ◌∙◌, subst, arith}
-use Rattle.occ_base.specs.declared.event.Event.{Event}
-use Rattle.occ_dd.specs.Store.{IsKnown, Keeps, has}
-use Rattle.occ_dd.specs.declared.set.SetId.{SetId}
-use Rattle.occ_dd.proofs.Callers.{keeps_refl, keeps_trans, known-keeps}
-use Rattle.occ_dd.specs.declared.store.Store.{Store}
+use Rattle.occ_accept.specs.occ_base.declared.event.Event.{Event}
+use Rattle.occ_mdd.specs.occ_dd.Store.{IsKnown, Keeps, has}
+use Rattle.occ_mdd.specs.occ_dd.declared.set.SetId.{SetId}
+use Rattle.occ_mdd.proofs.from_dd.Callers.{keeps_refl, keeps_trans, known-keeps}
+use Rattle.occ_mdd.specs.occ_dd.declared.store.Store.{Store}
 use Rattle.occ_accept.specs.Accept.{in_set, in_some, misses, refuses}
 use Rattle.occ_accept.specs.Order.{strict}
 use Rattle.occ_accept.proofs.Strict.{all_at, all_each, any_at, any_one}

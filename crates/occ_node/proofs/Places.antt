@@ -6,9 +6,9 @@ use Rattle.std.specs.Cmp.{tied_back, alike_right, eq_by_cmp_equiv}
 use Rattle.std.specs.Ordering.{is_lt, is_eq, eq_by_cmp, ordering_reverse}
 use Rattle.std.specs.declared.cmp.Ordering.{Ordering}
 use Rattle.std.specs.declared.cmp.Ordering.TheVariants.{Less, Equal}
-use Rattle.occ_base.specs.declared.event.Event.{Event}
-use Rattle.occ_base.specs.contracts.event.EventOrd.TheImpl.{ghosts as event_ord}
-use Rattle.occ_base.specs.contracts.event.EventPartialEq.TheImpl.{ghosts as event_eq}
+use Rattle.occ_accept.specs.occ_base.declared.event.Event.{Event}
+use Rattle.occ_accept.specs.occ_base.contracts.event.EventOrd.TheImpl.{ghosts as event_ord}
+use Rattle.occ_accept.specs.occ_base.contracts.event.EventPartialEq.TheImpl.{ghosts as event_eq}
 use Rattle.occ_accept.specs.Order.{event_cmp, strict}
 use Rattle.occ_accept.specs.Accept.{in_set}
 use Rattle.occ_accept.proofs.Strict.{less_is, any_same}

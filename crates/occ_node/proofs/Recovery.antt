@@ -1,9 +1,9 @@
 use Rattle.std.proofs.Common.{◌≡◌, ◌<◌, ◌^◌, ℕ, zero, suc, Bool, true, false, not, ◌||◌, List, [], ◌∷◌, Option, Some, None, is_some, refl, sym, ap, ◌∙◌, inl, inr, ⊎_elim, arith}
 use Rattle.std.proofs.lemmas.Bool.{cases_Bool, both_ways, false≢true}
-use Rattle.occ_base.specs.declared.event.Event.{Event}
-use Rattle.occ_dd.specs.Store.{has}
-use Rattle.occ_dd.proofs.Sets.{canonical_sets, empty_set}
-use Rattle.occ_dd.proofs.Callers.{member-other}
+use Rattle.occ_accept.specs.occ_base.declared.event.Event.{Event}
+use Rattle.occ_mdd.specs.occ_dd.Store.{has}
+use Rattle.occ_mdd.proofs.from_dd.Sets.{canonical_sets, empty_set}
+use Rattle.occ_mdd.proofs.from_dd.Callers.{member-other}
 use Rattle.occ_accept.specs.Accept.{in_set, is_part, misses, refuses}
 use Rattle.occ_accept.proofs.Strict.{any_same}
 use Rattle.occ_accept.proofs.Chains.{misses_outside, same_refusals}

@@ -7,11 +7,11 @@ use Rattle.std.specs.Cmp.Lexicographic.{pointwise}
 use Rattle.std.specs.Ordering.{is_lt, eq_by_cmp, ordering_reverse}
 use Rattle.std.specs.declared.cmp.Ordering.{Ordering}
 use Rattle.std.specs.declared.cmp.Ordering.TheVariants.{Less, Equal, Greater}
-use Rattle.occ_base.specs.declared.event.Event.{Event}
-use Rattle.occ_base.specs.contracts.event.EventPartialEq.TheImpl.{ghosts as event_eq}
-use Rattle.occ_dd.specs.Store.{Keeps, has}
-use Rattle.occ_dd.specs.declared.store.Store.{Store}
-use Rattle.occ_dd.proofs.Callers.{known-keeps}
+use Rattle.occ_accept.specs.occ_base.declared.event.Event.{Event}
+use Rattle.occ_accept.specs.occ_base.contracts.event.EventPartialEq.TheImpl.{ghosts as event_eq}
+use Rattle.occ_mdd.specs.occ_dd.Store.{Keeps, has}
+use Rattle.occ_mdd.specs.occ_dd.declared.store.Store.{Store}
+use Rattle.occ_mdd.proofs.from_dd.Callers.{known-keeps}
 use Rattle.occ_accept.specs.Order.{event_cmp, strict}
 use Rattle.occ_accept.specs.Accept.{refuses}
 use Rattle.occ_accept.proofs.Strict.{less-not_equal, less_is, tied, tied_same, all_more}

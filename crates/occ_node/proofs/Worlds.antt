@@ -1,5 +1,5 @@
 use Rattle.std.proofs.Common.{◌≡◌, ◌<◌, ℕ, Some, length, slice_get, refl, sym}
-use Rattle.occ_dd.specs.Store.{Keeps}
+use Rattle.occ_mdd.specs.occ_dd.Store.{Keeps}
 use Rattle.occ_accept.specs.Accept.{IsAntichain}
 use Rattle.occ_node.specs.Rows.{IsRow, row_at}
 use Rattle.occ_node.specs.World.{nodes_of, IsNode, row_of, fails, ends, Grows, Leads, IsFit, IsMade}

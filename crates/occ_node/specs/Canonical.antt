@@ -1,6 +1,6 @@
 use Rattle.std.specs.Prelude.{ℕ, ◌<◌, ◌≡◌, ◌⊎◌, ◌↔◌, ◌^◌, Bool, true, false, not, List, [], ◌∷◌}
 use Rattle.std.specs.List.{list_any}
-use Rattle.occ_base.specs.declared.event.Event.{Event}
+use Rattle.occ_accept.specs.occ_base.declared.event.Event.{Event}
 use Rattle.occ_accept.specs.Accept.{in_set, is_part}
 use Rattle.occ_node.specs.Offers.{is_offered}
 use Rattle.occ_node.specs.World.{IsNode, row_of, fails, ends}

@@ -2,7 +2,7 @@ use Rattle.std.specs.Prelude.{ℕ, Bool, List, [], ◌∷◌, Option, Some, None
 use Rattle.std.specs.List.{list_all}
 use Rattle.std.specs.Ordering.{eq_by_cmp, on}
 use Rattle.std.specs.declared.cmp.Ordering.{Ordering}
-use Rattle.occ_base.specs.declared.event.Event.{Event}
+use Rattle.occ_accept.specs.occ_base.declared.event.Event.{Event}
 use Rattle.occ_accept.specs.Order.{event_cmp}
 use Rattle.occ_node.specs.declared.node.NodeId.{NodeId}
 

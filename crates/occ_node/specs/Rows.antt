@@ -1,7 +1,7 @@
 use Rattle.std.specs.Prelude.{ℕ, ◌<◌, ◌≡◌, ◌^◌, ◌⊎◌, ◌++◌, Bool, true, false, List, [], ◌∷◌, Option, Some, None, slice_get, slice_index_or}
-use Rattle.occ_base.specs.declared.event.Event.{Event}
-use Rattle.occ_dd.specs.Store.{IsKnown, has}
-use Rattle.occ_dd.specs.declared.store.Store.{Store}
+use Rattle.occ_accept.specs.occ_base.declared.event.Event.{Event}
+use Rattle.occ_mdd.specs.occ_dd.Store.{IsKnown, has}
+use Rattle.occ_mdd.specs.occ_dd.declared.store.Store.{Store}
 use Rattle.occ_accept.specs.Order.{strict}
 use Rattle.occ_accept.specs.Accept.{IsAntichain, refuses}
 use Rattle.occ_node.specs.Offers.{offer_cmp, next_in, are_below, are_offered}

@@ -1,6 +1,6 @@
 use Rattle.std.specs.Prelude.{ℕ, ◌<◌, ◌≤◌, ◌≡◌, Bool, true, List, [], ◌∷◌, length}
-use Rattle.occ_base.specs.declared.event.Event.{Event}
-use Rattle.occ_dd.specs.Store.{IsKnown, Keeps, has}
+use Rattle.occ_accept.specs.occ_base.declared.event.Event.{Event}
+use Rattle.occ_mdd.specs.occ_dd.Store.{IsKnown, Keeps, has}
 use Rattle.occ_accept.specs.Order.{strict}
 use Rattle.occ_accept.specs.Accept.{refuses}
 use Rattle.occ_node.specs.Offers.{offer_cmp, next_in, are_below, are_offered}

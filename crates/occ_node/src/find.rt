@@ -4,8 +4,7 @@ ghost use Rattle.occ_accept.specs.Accept.{in_set, misses, refuses};
 ghost use Rattle.occ_node.specs.Offers.{next_in, offer_cmp};
 
 use crate::NodeId;
-use occ_accept::AcceptSet;
-use occ_base::Event;
+use occ_accept::{AcceptSet, Event};
 
 // The node that is offered at an event, among offers that increase strictly.
 pub(crate) fn find(offers: &[(Event, NodeId)], event: Event) -> Option<NodeId>

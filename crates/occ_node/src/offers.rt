@@ -1,13 +1,12 @@
 ghost use Rattle.std.specs.Prelude.{◌≡◌, [], ◌∷◌, ◌++◌, true, OnOk, OnErr, IfOk};
 ghost use Rattle.occ_accept.specs.Order.{strict};
 ghost use Rattle.occ_accept.specs.Accept.{in_set};
-ghost use Rattle.occ_base.specs.declared.event.Event.{Event};
+ghost use Rattle.occ_accept.specs.occ_base.declared.event.Event.{Event};
 ghost use Rattle.occ_node.specs.Offers.{is_offered, next_in, offer_cmp};
 
 use crate::NodeId;
 use crate::find::find;
-use occ_accept::AcceptSet;
-use occ_base::{Event, Memory};
+use occ_accept::{AcceptSet, Event, Memory};
 use std::alloc::Global;
 use std::marker::Model;
 
@@ -19,7 +18,7 @@ pub struct Offers {
 
 impl Model for Offers {
     ghost use Rattle.std.specs.Prelude.{List};
-    ghost use Rattle.occ_base.specs.declared.event.Event.{Event};
+    ghost use Rattle.occ_accept.specs.occ_base.declared.event.Event.{Event};
     ghost use Rattle.occ_node.specs.declared.node.NodeId.{NodeId};
 
     ghost Value = { List (Event × NodeId) };
@@ -37,7 +36,7 @@ impl Offers {
         }
     }
 
-    /// Adds an offer at the end. After want of memory the list is as before.
+    /// Adds an offer at the end. Where memory runs out, the list is as before.
     pub fn push(&mut self, offer: (Event, NodeId)) -> Result<(), Memory>
         ensures ok { OnOk result (self.new ≡ self.old ++ offer ∷ []) }
         ensures err { OnErr result (self.new ≡ self.old) }

@@ -1,9 +1,8 @@
 ghost use Rattle.std.specs.Prelude.{◌≡◌, IfOk};
 
 use crate::Offers;
-use occ_accept::Antichain;
-use occ_base::Memory;
-use occ_dd::SetId;
+use occ_accept::{Antichain, Memory};
+use occ_mdd::SetId;
 use std::alloc::Global;
 
 /// What a process can do next: it can have ended in an assignment of its set of ends, it can be stable

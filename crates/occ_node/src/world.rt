@@ -6,13 +6,12 @@ ghost use Rattle.occ_node.specs.Rows.{AreRows, Interns, IsRow};
 use crate::find::{can_refuse, find};
 use crate::{NodeId, Row};
 use indexmap::IndexSet;
-use occ_base::{Event, Memory};
-use occ_dd::{SetId, Store};
-use occ_mdd::Maps;
+use occ_accept::{Event, Memory};
+use occ_mdd::{Maps, SetId, Store};
 use std::alloc::Global;
 
 /// Nodes, which stand for behaviours: the failures and ends of processes (Roscoe 1985). A node is known
-/// by its number, keeps its behaviours whatever is made later, also after want of memory, and has the
+/// by its number, keeps its behaviours whatever is made later, also where memory runs out, and has the
 /// number that every node of its behaviours has.
 #[derive(Drop)]
 pub struct World {
@@ -34,7 +33,7 @@ fn intern(rows: &mut IndexSet<Row>, row: Row) -> Result<usize, Memory>
 }
 
 impl World {
-    ghost use Rattle.occ_dd.specs.Store.{IsSet, sets_of};
+    ghost use Rattle.occ_mdd.specs.occ_dd.Store.{IsSet, sets_of};
     ghost use Rattle.occ_mdd.specs.Maps.{maps_of};
     ghost use Rattle.occ_node.specs.World.{Grows, IsFit, IsMade, IsNode, Leads, nodes_of, row_of, fails, ends};
 
@@ -65,7 +64,7 @@ impl World {
         self.store.empty()
     }
 
-    /// The node of a row: the one that has it, or a new one. After want of memory all nodes are as before.
+    /// The node of a row: the one that has it, or a new one. Where memory runs out, all nodes are as before.
     pub fn make(&mut self, row: Row) -> Result<NodeId, Memory>
         requires { IsFit self.old row }
         ensures leads { Leads self.old self.new }

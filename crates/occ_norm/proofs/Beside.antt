@@ -2,13 +2,13 @@
 use Rattle.std.proofs.Common.{◌≡◌, ℕ, ◌+◌, ◌<◌, ◌≤◌, true, List, [], ◌∷◌, ◌++◌, length, get_or, ⊎_elim, sym, ap, ◌∙◌, subst, arith}
 use Rattle.std.proofs.lemmas.Bool.{cases_lt}
 use Rattle.std.proofs.lemmas.List.{get_or_append_left, get_or_push, length-append}
-use Rattle.occ_base.specs.declared.names.Name.{Name}
-use Rattle.occ_base.specs.declared.width.Width.{Width}
-use Rattle.occ_mdd.specs.declared.map.MapId.{MapId}
-use Rattle.occ_node.specs.declared.world.World.{World}
-use Rattle.occ_follow.specs.Sequence.{HasNodes}
-use Rattle.occ_norm_maps.specs.Maps.{Extends}
-use Rattle.occ_norm_maps.proofs.Worlds.{has_nodes-extends}
+use Rattle.occ_compare.specs.occ_base.declared.names.Name.{Name}
+use Rattle.occ_compare.specs.occ_base.declared.width.Width.{Width}
+use Rattle.occ_compare.specs.occ_mdd.declared.map.MapId.{MapId}
+use Rattle.occ_compare.specs.occ_node.declared.world.World.{World}
+use Rattle.occ_norm_alt.specs.occ_follow.Sequence.{HasNodes}
+use Rattle.occ_norm_alt.specs.occ_norm_frame.Maps.{Extends}
+use Rattle.occ_norm_alt.proofs.from_norm_frame.Worlds.{has_nodes-extends}
 use Rattle.occ_syntax.specs.Scopes.{Environment}
 use Rattle.occ_syntax.specs.Tree.{par}
 use Rattle.occ_syntax.specs.Types.{all_types_kept}
@@ -16,10 +16,10 @@ use Rattle.occ_syntax.specs.Usage.{AreSeparate}
 use Rattle.occ_syntax.specs.View.{tree, trees}
 use Rattle.occ_syntax.specs.declared.proc.Proc.{Proc, Skip}
 use Rattle.occ_syntax.specs.declared.scope.Kind.{Kind}
-use Rattle.occ_norm_ending.specs.Alone.{IsPart, except}
-use Rattle.occ_norm_frame.specs.Placed.{IsAround}
-use Rattle.occ_norm_frame.specs.declared.frame.Frame.{Frame}
-use Rattle.occ_norm_ending.proofs.Alone.{alone_later}
+use Rattle.occ_norm_alt.specs.occ_norm_frame.Alone.{IsPart, except}
+use Rattle.occ_norm_alt.specs.occ_norm_frame.Placed.{IsAround}
+use Rattle.occ_norm_alt.specs.occ_norm_frame.declared.frame.Frame.{Frame}
+use Rattle.occ_norm_alt.proofs.from_norm_frame.Alone.{alone_later}
 use Rattle.occ_norm_par.specs.Sides.{AllWritten, AreUsers, bits_in, closed_in}
 use Rattle.occ_norm_par.specs.Joined.{AreOfParts, HaveNodes, IsJoined, no_map}
 use Rattle.occ_norm_par.proofs.Using.{users_spread}

@@ -1,17 +1,17 @@
 -- The sets of states round some parts of a SEQ in a row.
 use Rattle.std.proofs.Common.{◌≡◌, ◌+◌, ◌<◌, ◌≤◌, ◌∙◌, ℕ, List, get_or, length, take, drop, refl, sym, ap, subst, arith}
 use Rattle.std.proofs.lemmas.List.{get_or-drop, get_or-take, length-drop, length-take-le}
-use Rattle.occ_base.specs.declared.names.Name.{Name}
-use Rattle.occ_base.specs.declared.width.Width.{Width}
-use Rattle.occ_dd.specs.declared.set.SetId.{SetId}
-use Rattle.occ_dd.specs.declared.store.Store.{Store}
+use Rattle.occ_compare.specs.occ_base.declared.names.Name.{Name}
+use Rattle.occ_compare.specs.occ_base.declared.width.Width.{Width}
+use Rattle.occ_compare.specs.occ_dd.declared.set.SetId.{SetId}
+use Rattle.occ_compare.specs.occ_dd.declared.store.Store.{Store}
 use Rattle.occ_syntax.specs.Tree.{seq}
 use Rattle.occ_syntax.specs.View.{tree, trees}
 use Rattle.occ_syntax.specs.declared.proc.Proc.{Proc, Skip}
 use Rattle.occ_syntax.specs.declared.scope.Kind.{Kind}
-use Rattle.occ_norm_frame.specs.Placed.{IsFrame}
-use Rattle.occ_norm_reached.specs.States.{AreBetween, AreStates, EndsIn, set_at}
-use Rattle.occ_norm_reached.proofs.Reaching.{seq_ends}
+use Rattle.occ_norm_alt.specs.occ_norm_frame.Placed.{IsFrame}
+use Rattle.occ_norm_par.specs.States.{AreBetween, AreStates, EndsIn, set_at}
+use Rattle.occ_norm_par.proofs.Reaching.{seq_ends}
 
 -- some elements in a row
 at_between : {A : Type 0} (xs : List A) (i j k : ℕ) (d : A) → i + k < j → get_or (drop i (take j xs)) k d ≡ get_or xs (i + k) d

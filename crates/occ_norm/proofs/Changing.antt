@@ -3,8 +3,8 @@ use Rattle.std.proofs.Common.{◌≡◌, ◌<◌, ◌^◌, ◌+◌, ◌%◌, ◌
 use Rattle.std.proofs.lemmas.Nat.Bits.{bit_at_and, bit_at_xor, same_from_bits}
 use Rattle.std.specs.Int.{bit_at}
 use Rattle.std.specs.Int.Bits.{and_lt, xor_assoc, xor_lt}
-use Rattle.occ_diagram.proofs.Bits.{bit_cases}
-use Rattle.occ_norm_frame.specs.After.{change_of}
+use Rattle.occ_compare.proofs.from_dd.Bits.{bit_cases}
+use Rattle.occ_norm_alt.specs.occ_norm_frame.After.{change_of}
 
 pub bit_of_change : (keep x y i : ℕ) → bit_at (change_of keep x y) i ≡ min ((bit_at x i + bit_at y i) % 2) (bit_at keep i)
 bit_of_change keep x y i = bit_at_and (bit_xor x y) keep i ∙ ap (λ b. min b (bit_at keep i)) (bit_at_xor x y i)

@@ -1,10 +1,10 @@
 -- Declarations one by one, from outside in.
 use Rattle.std.proofs.Common.{◌≡◌, ◌<◌, ◌≤◌, ◌^◌, ◌/◌, ◌%◌, ◌+◌, ◌++◌, ◌==◌, ℕ, Bool, true, false, cond, List, [], ◌∷◌, Option, Some, None, is_none, refl, sym, ap, ◌∙◌, subst, arith}
 use Rattle.std.proofs.lemmas.Bool.{and_parts, eqb-true}
-use Rattle.occ_base.specs.declared.names.Name.{Name}
-use Rattle.occ_base.specs.declared.width.Width.{Width}
-use Rattle.occ_base.specs.Width.{bits_of}
-use Rattle.occ_bits.specs.Layout.{state_of}
+use Rattle.occ_compare.specs.occ_base.declared.names.Name.{Name}
+use Rattle.occ_compare.specs.occ_base.declared.width.Width.{Width}
+use Rattle.occ_compare.specs.occ_base.Width.{bits_of}
+use Rattle.occ_compare.specs.occ_bits.Layout.{state_of}
 use Rattle.occ_syntax.specs.declared.scope.Kind.{Kind}
 use Rattle.occ_syntax.specs.declared.scope.Kind.TheVariants.{Var, Chan}
 use Rattle.occ_syntax.specs.Counts.{bits_of_kind, bits_of_scope}
@@ -12,13 +12,13 @@ use Rattle.occ_syntax.specs.Declarations.{declaring}
 use Rattle.occ_syntax.specs.Scopes.{Environment, environment, variable_kind, variable_width, with_name, with_value}
 use Rattle.occ_syntax.specs.Tree.{Tree}
 use Rattle.occ_syntax.specs.Types.{can_declare, is_width, types_kept}
-use Rattle.occ_usage.proofs.Scoped.{environment-push}
-use Rattle.occ_mdd.specs.declared.map.MapId.{MapId}
-use Rattle.occ_node.specs.declared.world.World.{World}
-use Rattle.occ_norm_frame.specs.After.{AgreeBelow, IsOver}
-use Rattle.occ_norm_frame.specs.Placed.{IsAround, IsFrame, closed_by, entered}
-use Rattle.occ_norm_frame.proofs.After.{state_back, state_below}
-use Rattle.occ_norm_frame.proofs.Bits.{pow_more}
+use Rattle.occ_norm_alt.proofs.from_usage.Scoped.{environment-push}
+use Rattle.occ_compare.specs.occ_mdd.declared.map.MapId.{MapId}
+use Rattle.occ_compare.specs.occ_node.declared.world.World.{World}
+use Rattle.occ_norm_alt.specs.occ_norm_frame.After.{AgreeBelow, IsOver}
+use Rattle.occ_norm_alt.specs.occ_norm_frame.Placed.{IsAround, IsFrame, closed_by, entered}
+use Rattle.occ_norm_alt.proofs.from_norm_frame.After.{state_back, state_below}
+use Rattle.occ_norm_alt.proofs.from_norm_frame.FrameBits.{pow_more}
 use Rattle.occ_norm.proofs.Laying.{IsFresh, fresh_laid, fresh_state, laid-push, state-push}
 use Rattle.occ_norm.proofs.Opening.{IsAfterOpen, channel_from, variable_from}
 use Rattle.occ_norm.proofs.Steps.{reaches_in}

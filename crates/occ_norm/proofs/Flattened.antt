@@ -1,12 +1,12 @@
 -- A program and the same with flat PARs have the same map.
 use Rattle.std.proofs.Common.{◌≡◌, true, List, Option, Some, subst}
 use Rattle.std.specs.Option.{IfSome}
-use Rattle.occ_base.specs.declared.names.Name.{Name}
-use Rattle.occ_norm_flatten.specs.Flat.{IsFlat}
-use Rattle.occ_mdd.specs.declared.map.MapId.{MapId}
-use Rattle.occ_node.specs.declared.world.World.{World}
+use Rattle.occ_compare.specs.occ_base.declared.names.Name.{Name}
+use Rattle.occ_norm_assign.specs.occ_norm_arrange.Flat.{IsFlat}
+use Rattle.occ_compare.specs.occ_mdd.declared.map.MapId.{MapId}
+use Rattle.occ_compare.specs.occ_node.declared.world.World.{World}
 use Rattle.occ_norm.specs.Root.{IsRoot}
-use Rattle.occ_bits.specs.Layout.{laid_out, state_of}
+use Rattle.occ_compare.specs.occ_bits.Layout.{laid_out, state_of}
 use Rattle.occ_syntax.specs.Meaning.{ended, refusing}
 use Rattle.occ_syntax.specs.Scopes.{environment}
 use Rattle.occ_syntax.specs.Tree.{Tree}

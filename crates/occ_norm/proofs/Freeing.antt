@@ -3,15 +3,15 @@ use Rattle.std.proofs.Common.{◌≡◌, ◌<◌, ◌≤◌, ◌+◌, ◌^◌, �
 use Rattle.std.proofs.lemmas.Nat.{pow_pos}
 use Rattle.std.proofs.Math.Nat.{mod-lt}
 use Rattle.std.specs.Int.{bit_at}
-use Rattle.occ_bits.proofs.Arithmetic.{low_bit, higher_bit}
-use Rattle.occ_mdd.specs.declared.map.MapId.{MapId}
-use Rattle.occ_node.specs.World.{fails, ends}
-use Rattle.occ_node.specs.declared.node.NodeId.{NodeId}
-use Rattle.occ_node.specs.declared.world.World.{World}
-use Rattle.occ_follow.specs.Sequence.{HasNodes}
-use Rattle.occ_norm_frame.specs.After.{AgreeBelow, IsOver}
-use Rattle.occ_norm_frame.specs.Changes.{AgreeOutside, IsFreed, Somewhere}
-use Rattle.occ_norm_frame.proofs.After.{over_by}
+use Rattle.occ_compare.proofs.from_bits.Arithmetic.{low_bit, higher_bit}
+use Rattle.occ_compare.specs.occ_mdd.declared.map.MapId.{MapId}
+use Rattle.occ_compare.specs.occ_node.World.{fails, ends}
+use Rattle.occ_compare.specs.occ_node.declared.node.NodeId.{NodeId}
+use Rattle.occ_compare.specs.occ_node.declared.world.World.{World}
+use Rattle.occ_norm_alt.specs.occ_follow.Sequence.{HasNodes}
+use Rattle.occ_norm_alt.specs.occ_norm_frame.After.{AgreeBelow, IsOver}
+use Rattle.occ_norm_alt.specs.occ_norm_frame.Changes.{AgreeOutside, IsFreed, Somewhere}
+use Rattle.occ_norm_alt.proofs.from_norm_frame.After.{over_by}
 use Rattle.occ_norm.proofs.Laying.{placed, placed_agrees, placed_lt, placed_value}
 
 module _ (w : World) (first end : ℕ) (map r : MapId) (order : first ≤ end) (few : end ≤ 24) (over : IsOver w end map) (freed : IsFreed w first end map r) (has : HasNodes w r) where

@@ -1,23 +1,23 @@
 -- Maps of a part and of what follows it that are right at some assignments alone.
 use Rattle.std.proofs.Common.{◌≡◌, ◌<◌, ◌^◌, ◌↔◌, inl, inr, ⊎_elim, ℕ, Bool, true, false, List, Some, MatchBool, cond, refl, sym, ap, ◌∙◌, subst, bit_xor}
-use Rattle.occ_base.specs.declared.event.Event.{Event}
-use Rattle.occ_base.specs.declared.names.Name.{Name}
-use Rattle.occ_base.specs.declared.width.Width.{Width}
-use Rattle.occ_bits.specs.Layout.{state_of}
+use Rattle.occ_compare.specs.occ_base.declared.event.Event.{Event}
+use Rattle.occ_compare.specs.occ_base.declared.names.Name.{Name}
+use Rattle.occ_compare.specs.occ_base.declared.width.Width.{Width}
+use Rattle.occ_compare.specs.occ_bits.Layout.{state_of}
 use Rattle.occ_syntax.specs.Meaning.{Outcome, meaning, refusing}
 use Rattle.occ_syntax.specs.Scopes.{Environment}
 use Rattle.occ_syntax.specs.Eval.{is_true}
 use Rattle.occ_syntax.specs.Tree.{Exp, Tree, Cases, and_case, select}
-use Rattle.occ_mdd.specs.Maps.{value}
-use Rattle.occ_mdd.specs.declared.map.MapId.{MapId}
-use Rattle.occ_node.specs.World.{IsNode, fails, ends}
-use Rattle.occ_node.specs.declared.node.NodeId.{NodeId}
-use Rattle.occ_node.specs.declared.world.World.{World}
-use Rattle.occ_follow.specs.Sequence.{HasNodes}
-use Rattle.occ_norm_maps.specs.Maps.{Extends}
-use Rattle.occ_norm_frame.specs.After.{IsAfter, QuietlyFails, Resumes, change_of}
-use Rattle.occ_norm_frame.proofs.After.{map_node, value_is, value_was}
-use Rattle.occ_weave.specs.Weave.{off_channels}
+use Rattle.occ_compare.specs.occ_mdd.Maps.{value}
+use Rattle.occ_compare.specs.occ_mdd.declared.map.MapId.{MapId}
+use Rattle.occ_compare.specs.occ_node.World.{IsNode, fails, ends}
+use Rattle.occ_compare.specs.occ_node.declared.node.NodeId.{NodeId}
+use Rattle.occ_compare.specs.occ_node.declared.world.World.{World}
+use Rattle.occ_norm_alt.specs.occ_follow.Sequence.{HasNodes}
+use Rattle.occ_norm_alt.specs.occ_norm_frame.Maps.{Extends}
+use Rattle.occ_norm_alt.specs.occ_norm_frame.After.{IsAfter, QuietlyFails, Resumes, change_of}
+use Rattle.occ_norm_alt.proofs.from_norm_frame.After.{map_node, value_is, value_was}
+use Rattle.occ_norm_alt.specs.occ_weave.Weave.{off_channels}
 use Rattle.occ_norm.specs.From.{IsAfterFrom}
 use Rattle.occ_norm.proofs.Simple.{resumes_as}
 

@@ -6,16 +6,16 @@ use Rattle.std.proofs.lemmas.Nat.Bits.{bit_at_cat_high, bit_at_cat_low, same_fro
 use Rattle.std.proofs.Math.Nat.{mod-lt}
 use Rattle.std.specs.Int.{bit_at}
 use mathlib.Core.Path.{fun_ext}
-use Rattle.occ_base.specs.declared.names.Name.{Name}
-use Rattle.occ_base.specs.declared.width.Width.{Width}
-use Rattle.occ_base.specs.Width.{bits_of}
-use Rattle.occ_bits.specs.Layout.{laid_out, state_of}
-use Rattle.occ_bits.proofs.Arithmetic.{higher_bit, low_bit}
+use Rattle.occ_compare.specs.occ_base.declared.names.Name.{Name}
+use Rattle.occ_compare.specs.occ_base.declared.width.Width.{Width}
+use Rattle.occ_compare.specs.occ_base.Width.{bits_of}
+use Rattle.occ_compare.specs.occ_bits.Layout.{laid_out, state_of}
+use Rattle.occ_compare.proofs.from_bits.Arithmetic.{higher_bit, low_bit}
 use Rattle.occ_syntax.specs.declared.scope.Kind.{Kind}
 use Rattle.occ_syntax.specs.declared.scope.Kind.TheVariants.{Var, Chan}
 use Rattle.occ_syntax.specs.Counts.{bits_of_scope}
 use Rattle.occ_syntax.specs.Scopes.{Values, environment, with_value}
-use Rattle.occ_norm_frame.specs.Changes.{AgreeOutside}
+use Rattle.occ_norm_alt.specs.occ_norm_frame.Changes.{AgreeOutside}
 
 -- ---- the layout with one variable more
 pub laid-push : (first : ℕ) (vars : List (Name × Kind)) (x : Name) (wd : Width) → laid_out first (vars ++ (x, Var wd) ∷ []) ≡ laid_out first vars ++ (x, wd, first + bits_of_scope vars) ∷ []

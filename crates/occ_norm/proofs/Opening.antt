@@ -8,23 +8,23 @@ use Rattle.std.proofs.Math.Nat.{mod-lt}
 use Rattle.std.specs.Int.{bit_at}
 use Rattle.std.specs.List.{list_all}
 use mathlib.Core.Path.{fun_ext}
-use Rattle.occ_base.specs.declared.event.Event.{Event}
-use Rattle.occ_base.specs.declared.names.Name.{Name}
-use Rattle.occ_base.specs.declared.width.Width.{Width}
-use Rattle.occ_base.specs.Width.{bits_of}
-use Rattle.occ_bits.specs.Layout.{state_of}
+use Rattle.occ_compare.specs.occ_base.declared.event.Event.{Event}
+use Rattle.occ_compare.specs.occ_base.declared.names.Name.{Name}
+use Rattle.occ_compare.specs.occ_base.declared.width.Width.{Width}
+use Rattle.occ_compare.specs.occ_base.Width.{bits_of}
+use Rattle.occ_compare.specs.occ_bits.Layout.{state_of}
 use Rattle.occ_syntax.specs.declared.scope.Kind.TheVariants.{Var, Chan}
 use Rattle.occ_syntax.specs.Meaning.{WithChannel, WithVariable, at_end, at_rest, ended, is_silent, meaning, off_channel, refusing, fails as part_fails, ends as part_ends}
 use Rattle.occ_syntax.specs.Scopes.{Environment, with_name, with_value}
 use Rattle.occ_syntax.specs.Tree.{Tree, connect, declare}
-use Rattle.occ_mdd.specs.Maps.{value}
-use Rattle.occ_mdd.specs.declared.map.MapId.{MapId}
-use Rattle.occ_node.specs.World.{fails, ends}
-use Rattle.occ_node.specs.declared.node.NodeId.{NodeId}
-use Rattle.occ_node.specs.declared.world.World.{World}
-use Rattle.occ_weave.specs.Weave.{is_open, is_silent_on, off_channels}
-use Rattle.occ_norm_frame.specs.After.{AgreeBelow, IsOver, QuietlyFails, Resumes, change_of}
-use Rattle.occ_norm_frame.specs.Changes.{AgreeOutside, IsFreed, Somewhere}
+use Rattle.occ_compare.specs.occ_mdd.Maps.{value}
+use Rattle.occ_compare.specs.occ_mdd.declared.map.MapId.{MapId}
+use Rattle.occ_compare.specs.occ_node.World.{fails, ends}
+use Rattle.occ_compare.specs.occ_node.declared.node.NodeId.{NodeId}
+use Rattle.occ_compare.specs.occ_node.declared.world.World.{World}
+use Rattle.occ_norm_alt.specs.occ_weave.Weave.{is_open, is_silent_on, off_channels}
+use Rattle.occ_norm_alt.specs.occ_norm_frame.After.{AgreeBelow, IsOver, QuietlyFails, Resumes, change_of}
+use Rattle.occ_norm_alt.specs.occ_norm_frame.Changes.{AgreeOutside, IsFreed, Somewhere}
 use Rattle.occ_norm.specs.From.{IsAfterFrom}
 use Rattle.occ_norm.proofs.Laying.{placed, placed_agrees, placed_lt, placed_value, value_dropped}
 use Rattle.occ_norm.proofs.Sequences.{Reaches}

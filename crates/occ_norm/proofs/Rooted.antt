@@ -7,10 +7,10 @@ use Rattle.std.proofs.Math.Nat.{mod-lt}
 use Rattle.std.specs.List.{list_all}
 use Rattle.std.specs.Option.{IsSomeAnd}
 use mathlib.Core.Path.{fun_ext}
-use Rattle.occ_base.specs.declared.event.Event.{Event}
-use Rattle.occ_base.specs.declared.names.Name.{Name}
-use Rattle.occ_base.specs.declared.width.Width.{Width}
-use Rattle.occ_base.specs.Width.{bits_of}
+use Rattle.occ_compare.specs.occ_base.declared.event.Event.{Event}
+use Rattle.occ_compare.specs.occ_base.declared.names.Name.{Name}
+use Rattle.occ_compare.specs.occ_base.declared.width.Width.{Width}
+use Rattle.occ_compare.specs.occ_base.Width.{bits_of}
 use Rattle.occ_syntax.specs.declared.scope.Kind.{Kind}
 use Rattle.occ_syntax.specs.declared.scope.Kind.TheVariants.{Var, Chan}
 use Rattle.occ_syntax.specs.Counts.{bits_of_scope}
@@ -18,33 +18,33 @@ use Rattle.occ_syntax.specs.Meaning.{ended, refusing, fails as part_fails, ends 
 use Rattle.occ_syntax.specs.Scopes.{EventSet, IsState, Trace, Values, among, environment, in_interface, values, variable_width, with_value}
 use Rattle.occ_syntax.specs.Tree.{Tree}
 use Rattle.occ_syntax.specs.Types.{scope_kept, types_kept}
-use Rattle.occ_meaning.specs.Foundation.{AreWithin}
-use Rattle.occ_meaning.proofs.Interface.{part_in_interface}
-use Rattle.occ_bits.specs.Layout.{assignment_of, environment_in, entry_of, laid_out, state_of, scope_in}
-use Rattle.occ_bits.proofs.Laid.{found_width, laid_bits, laid_width, layout_of, missing}
-use Rattle.occ_bits.proofs.Arithmetic.{low_bit}
-use Rattle.occ_mdd.specs.Maps.{value}
-use Rattle.occ_mdd.specs.declared.map.MapId.{MapId}
-use Rattle.occ_node.specs.Canonical.{HasTrace}
-use Rattle.occ_node.specs.World.{IsNode, ends}
-use Rattle.occ_node.specs.declared.node.NodeId.{NodeId}
-use Rattle.occ_node.specs.declared.world.World.{World}
-use Rattle.occ_behaviour.specs.declared.behaviour.Behaviour.{Behaviour}
-use Rattle.occ_behaviour.specs.declared.behaviour.Last.{Last}
-use Rattle.occ_behaviour.specs.declared.behaviour.Last.TheVariants.{Refuses, Ends}
-use Rattle.occ_behaviour.specs.Members.{Stands as StandsIn}
-use Rattle.occ_behaviour.specs.States.{is_state}
+use Rattle.occ_compare.specs.occ_meaning.Foundation.{AreWithin}
+use Rattle.occ_compare.proofs.from_meaning.Interface.{part_in_interface}
+use Rattle.occ_compare.specs.occ_bits.Layout.{assignment_of, environment_in, entry_of, laid_out, state_of, scope_in}
+use Rattle.occ_compare.proofs.from_bits.Laid.{found_width, laid_bits, laid_width, layout_of, missing}
+use Rattle.occ_compare.proofs.from_bits.Arithmetic.{low_bit}
+use Rattle.occ_compare.specs.occ_mdd.Maps.{value}
+use Rattle.occ_compare.specs.occ_mdd.declared.map.MapId.{MapId}
+use Rattle.occ_compare.specs.occ_node.Canonical.{HasTrace}
+use Rattle.occ_compare.specs.occ_node.World.{IsNode, ends}
+use Rattle.occ_compare.specs.occ_node.declared.node.NodeId.{NodeId}
+use Rattle.occ_compare.specs.occ_node.declared.world.World.{World}
+use Rattle.occ_compare.specs.occ_behaviour.declared.behaviour.Behaviour.{Behaviour}
+use Rattle.occ_compare.specs.occ_behaviour.declared.behaviour.Last.{Last}
+use Rattle.occ_compare.specs.occ_behaviour.declared.behaviour.Last.TheVariants.{Refuses, Ends}
+use Rattle.occ_compare.specs.occ_behaviour.Members.{Stands as StandsIn}
+use Rattle.occ_compare.specs.occ_behaviour.States.{is_state}
 use Rattle.occ_compare.specs.Interface.{HasNodes as HasAllNodes, IsOfInterface}
 use Rattle.occ_compare.specs.Places.{state_at, values_at}
-use Rattle.occ_norm_maps.specs.Maps.{Extends}
+use Rattle.occ_norm_alt.specs.occ_norm_frame.Maps.{Extends}
 use Rattle.occ_compare.specs.Verdicts.{Stands}
-use Rattle.occ_norm_frame.specs.After.{AgreeBelow}
-use Rattle.occ_norm_frame.specs.Placed.{IsFrame}
-use Rattle.occ_bits.proofs.States.{are_states, state_fits}
-use Rattle.occ_norm_frame.proofs.After.{map_node, over-extends, same_truth, state_below, value_was, zero_off}
-use Rattle.occ_norm_frame.proofs.Bits.{pow_more}
+use Rattle.occ_norm_alt.specs.occ_norm_frame.After.{AgreeBelow}
+use Rattle.occ_norm_alt.specs.occ_norm_frame.Placed.{IsFrame}
+use Rattle.occ_compare.proofs.from_bits.States.{are_states, state_fits}
+use Rattle.occ_norm_alt.proofs.from_norm_frame.After.{map_node, over-extends, same_truth, state_below, value_was, zero_off}
+use Rattle.occ_norm_alt.proofs.from_norm_frame.FrameBits.{pow_more}
 use Rattle.occ_norm.specs.Root.{IsRoot}
-use Rattle.occ_meaning.proofs.Overlay.{over}
+use Rattle.occ_compare.proofs.from_meaning.Overlay.{over}
 
 -- ---- states as lists and as values
 pub values_state : (layout : List (Name × Width × ℕ)) (x : ℕ) → values (values_at layout x) ≡ state_of layout x

@@ -4,30 +4,30 @@ use Rattle.std.proofs.lemmas.Nat.{xor_lt}
 use Rattle.std.proofs.lemmas.Nat.Bits.{bit_at-lt, bit_at_xor}
 use Rattle.std.specs.Int.{bit_at}
 use Rattle.std.specs.Int.Bits.{bit_and, bit_xor}
-use Rattle.occ_base.specs.declared.event.Event.{Event}
-use Rattle.occ_base.specs.declared.names.Name.{Name}
-use Rattle.occ_base.specs.declared.width.Width.{Width}
-use Rattle.occ_bits.specs.Layout.{laid_out, state_of}
+use Rattle.occ_compare.specs.occ_base.declared.event.Event.{Event}
+use Rattle.occ_compare.specs.occ_base.declared.names.Name.{Name}
+use Rattle.occ_compare.specs.occ_base.declared.width.Width.{Width}
+use Rattle.occ_compare.specs.occ_bits.Layout.{laid_out, state_of}
 use Rattle.occ_syntax.specs.declared.scope.Kind.{Kind}
 use Rattle.occ_syntax.specs.Meaning.{fails as part_fails, ends as part_ends}
 use Rattle.occ_syntax.specs.Scopes.{environment}
 use Rattle.occ_syntax.specs.Tree.{Tree}
 use Rattle.occ_syntax.specs.Types.{types_kept}
-use Rattle.occ_mdd.specs.Maps.{value}
-use Rattle.occ_mdd.specs.declared.map.MapId.{MapId}
-use Rattle.occ_node.specs.World.{fails, ends}
-use Rattle.occ_node.specs.declared.node.NodeId.{NodeId}
-use Rattle.occ_node.specs.declared.world.World.{World}
-use Rattle.occ_follow.specs.Sequence.{HasNodes}
-use Rattle.occ_weave.specs.Weave.{is_silent_on}
-use Rattle.occ_norm_frame.specs.After.{AgreeBelow, IsAfter}
-use Rattle.occ_norm_ending.specs.Alone.{IsEnding, IsPart}
-use Rattle.occ_norm_frame.specs.Changes.{IsChanged}
-use Rattle.occ_norm_frame.specs.Placed.{IsAround, IsFrame}
-use Rattle.occ_norm_ending.proofs.Alone.{alone_from, and_below}
+use Rattle.occ_compare.specs.occ_mdd.Maps.{value}
+use Rattle.occ_compare.specs.occ_mdd.declared.map.MapId.{MapId}
+use Rattle.occ_compare.specs.occ_node.World.{fails, ends}
+use Rattle.occ_compare.specs.occ_node.declared.node.NodeId.{NodeId}
+use Rattle.occ_compare.specs.occ_node.declared.world.World.{World}
+use Rattle.occ_norm_alt.specs.occ_follow.Sequence.{HasNodes}
+use Rattle.occ_norm_alt.specs.occ_weave.Weave.{is_silent_on}
+use Rattle.occ_norm_alt.specs.occ_norm_frame.After.{AgreeBelow, IsAfter}
+use Rattle.occ_norm_alt.specs.occ_norm_frame.Alone.{IsEnding, IsPart}
+use Rattle.occ_norm_alt.specs.occ_norm_frame.Changes.{IsChanged}
+use Rattle.occ_norm_alt.specs.occ_norm_frame.Placed.{IsAround, IsFrame}
+use Rattle.occ_norm_alt.proofs.from_norm_frame.Alone.{alone_from, and_below}
 use Rattle.occ_norm.specs.Parts.{IsAfterIn}
-use Rattle.occ_node.proofs.Recovery.{canonical}
-use Rattle.occ_norm_frame.proofs.After.{map_node, same_truth, state_below}
+use Rattle.occ_compare.proofs.from_node.Recovery.{canonical}
+use Rattle.occ_norm_alt.proofs.from_norm_frame.After.{map_node, same_truth, state_below}
 use Rattle.occ_norm.specs.Root.{IsRoot}
 
 -- ---- without closed channels

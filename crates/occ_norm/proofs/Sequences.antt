@@ -2,21 +2,21 @@
 use Rattle.std.proofs.Common.{◌≡◌, ◌<◌, ◌^◌, ◌⊎◌, ◌++◌, ⊎_elim, inl, inr, ℕ, Bool, true, List, Some, refl, sym, ap, ◌∙◌, subst, append_assoc, bit_xor}
 use Rattle.std.proofs.lemmas.Bool.{and_parts, and_from}
 use Rattle.std.proofs.lemmas.List.Folds.{list_all-append}
-use Rattle.occ_base.specs.declared.event.Event.{Event}
-use Rattle.occ_base.specs.declared.names.Name.{Name}
-use Rattle.occ_base.specs.declared.width.Width.{Width}
+use Rattle.occ_compare.specs.occ_base.declared.event.Event.{Event}
+use Rattle.occ_compare.specs.occ_base.declared.names.Name.{Name}
+use Rattle.occ_compare.specs.occ_base.declared.width.Width.{Width}
 use Rattle.occ_syntax.specs.Meaning.{Followed, ended, refusing, in_first, in_second, in_turn, meaning, fails as part_fails, ends as part_ends}
 use Rattle.occ_syntax.specs.Scopes.{Environment, Values}
 use Rattle.occ_syntax.specs.Tree.{Tree, Trees, seq, and_tree}
-use Rattle.occ_bits.specs.Layout.{state_of}
-use Rattle.occ_mdd.specs.Maps.{value}
-use Rattle.occ_mdd.specs.declared.map.MapId.{MapId}
-use Rattle.occ_node.specs.World.{fails, ends}
-use Rattle.occ_node.specs.declared.node.NodeId.{NodeId}
-use Rattle.occ_node.specs.declared.world.World.{World}
-use Rattle.occ_follow.specs.Sequence.{HasNodes}
-use Rattle.occ_weave.specs.Weave.{is_open, is_silent_on, off_channels}
-use Rattle.occ_norm_frame.specs.After.{QuietlyFails, Resumes, change_of}
+use Rattle.occ_compare.specs.occ_bits.Layout.{state_of}
+use Rattle.occ_compare.specs.occ_mdd.Maps.{value}
+use Rattle.occ_compare.specs.occ_mdd.declared.map.MapId.{MapId}
+use Rattle.occ_compare.specs.occ_node.World.{fails, ends}
+use Rattle.occ_compare.specs.occ_node.declared.node.NodeId.{NodeId}
+use Rattle.occ_compare.specs.occ_node.declared.world.World.{World}
+use Rattle.occ_norm_alt.specs.occ_follow.Sequence.{HasNodes}
+use Rattle.occ_norm_alt.specs.occ_weave.Weave.{is_open, is_silent_on, off_channels}
+use Rattle.occ_norm_alt.specs.occ_norm_frame.After.{QuietlyFails, Resumes, change_of}
 use Rattle.occ_norm.specs.From.{IsAfterFrom}
 use Rattle.occ_norm.proofs.Changing.{change_lt, change_twice}
 

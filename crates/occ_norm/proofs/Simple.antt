@@ -5,21 +5,21 @@ use Rattle.std.proofs.lemmas.Nat.Bits.{bit_at-zero, bit_at_above, same_from_bits
 use Rattle.std.proofs.lemmas.Option.{same_Some}
 use Rattle.std.specs.Int.{bit_at}
 use Rattle.std.specs.Int.Bits.{xor_zero_r}
-use Rattle.occ_base.specs.declared.event.Event.{Event}
-use Rattle.occ_base.specs.declared.names.Name.{Name}
-use Rattle.occ_base.specs.declared.width.Width.{Width}
-use Rattle.occ_bits.specs.Layout.{state_of}
+use Rattle.occ_compare.specs.occ_base.declared.event.Event.{Event}
+use Rattle.occ_compare.specs.occ_base.declared.names.Name.{Name}
+use Rattle.occ_compare.specs.occ_base.declared.width.Width.{Width}
+use Rattle.occ_compare.specs.occ_bits.Layout.{state_of}
 use Rattle.occ_syntax.specs.Meaning.{Outcome, Stopped, stopped, ended, refusing, meaning, ends as part_ends}
 use Rattle.occ_syntax.specs.Scopes.{Environment, Values}
 use Rattle.occ_syntax.specs.Tree.{Tree}
-use Rattle.occ_mdd.specs.Maps.{value}
-use Rattle.occ_mdd.specs.declared.map.MapId.{MapId}
-use Rattle.occ_node.specs.World.{fails, ends}
-use Rattle.occ_node.specs.declared.node.NodeId.{NodeId}
-use Rattle.occ_node.specs.declared.world.World.{World}
-use Rattle.occ_norm_maps.specs.Maps.{IsStop}
-use Rattle.occ_weave.specs.Weave.{off_channels}
-use Rattle.occ_norm_frame.specs.After.{AgreeBelow, IsAfter, IsOver, QuietlyFails, Resumes, change_of}
+use Rattle.occ_compare.specs.occ_mdd.Maps.{value}
+use Rattle.occ_compare.specs.occ_mdd.declared.map.MapId.{MapId}
+use Rattle.occ_compare.specs.occ_node.World.{fails, ends}
+use Rattle.occ_compare.specs.occ_node.declared.node.NodeId.{NodeId}
+use Rattle.occ_compare.specs.occ_node.declared.world.World.{World}
+use Rattle.occ_norm_alt.specs.occ_norm_frame.Maps.{IsStop}
+use Rattle.occ_norm_alt.specs.occ_weave.Weave.{off_channels}
+use Rattle.occ_norm_alt.specs.occ_norm_frame.After.{AgreeBelow, IsAfter, IsOver, QuietlyFails, Resumes, change_of}
 use Rattle.occ_norm.proofs.Changing.{bit_of_change}
 
 -- states of the layout tell its bits

@@ -2,31 +2,31 @@
 use Rattle.std.proofs.Common.{◌≡◌, ◌<◌, ◌≤◌, ◌^◌, ◌&&◌, ℕ, Bool, true, false, List, Result, Ok, Err, IfOk, bit_or, cond, refl, sym, ap, ◌∙◌, subst, arith}
 use Rattle.std.proofs.lemmas.Bool.{and_from, and_parts}
 use Rattle.std.proofs.lemmas.Nat.{or_lt}
-use Rattle.occ_base.specs.declared.names.Name.{Name}
-use Rattle.occ_base.specs.declared.width.Width.{Width}
-use Rattle.occ_bits.specs.Layout.{state_of}
+use Rattle.occ_compare.specs.occ_base.declared.names.Name.{Name}
+use Rattle.occ_compare.specs.occ_base.declared.width.Width.{Width}
+use Rattle.occ_compare.specs.occ_bits.Layout.{state_of}
 use Rattle.occ_syntax.specs.declared.scope.Kind.{Kind}
 use Rattle.occ_syntax.specs.Eval.{is_true}
 use Rattle.occ_syntax.specs.Scopes.{Environment}
 use Rattle.occ_syntax.specs.Tree.{Exp, Tree, Trees, Cases, skip, stop, seq, par, select, no_tree, and_tree, no_case, and_case}
 use Rattle.occ_syntax.specs.Types.{all_types_kept, cases_kept, is_condition, types_kept}
-use Rattle.occ_mdd.specs.Maps.{value}
-use Rattle.occ_mdd.specs.declared.map.MapId.{MapId}
-use Rattle.occ_node.specs.declared.world.World.{World}
-use Rattle.occ_follow.specs.Sequence.{HasNodes}
-use Rattle.occ_norm_maps.specs.Maps.{Extends, IsStop}
-use Rattle.occ_norm_frame.specs.After.{AgreeBelow, IsOver}
-use Rattle.occ_norm_frame.specs.Placed.{Fits, IsAround, IsFrame}
-use Rattle.occ_norm_frame.proofs.After.{after-extends, after-over, state_back, states_reached}
-use Rattle.occ_norm_frame.proofs.Bits.{pow_more}
-use Rattle.occ_meaning.proofs.Sequence.{all_of_followed, followed_all_of}
-use Rattle.occ_meaning.specs.Parallel.{all_of}
-use Rattle.occ_norm_maps.proofs.Worlds.{extends_trans, has_nodes-extends}
-use Rattle.occ_norm_transfer.proofs.Moving.{types_first}
-use Rattle.occ_dd.specs.Store.{IsKnown, has as is_member}
-use Rattle.occ_dd.specs.declared.set.SetId.{SetId}
-use Rattle.occ_dd.specs.declared.store.Store.{Store}
-use Rattle.occ_norm_reached.specs.States.{EndsIn}
+use Rattle.occ_compare.specs.occ_mdd.Maps.{value}
+use Rattle.occ_compare.specs.occ_mdd.declared.map.MapId.{MapId}
+use Rattle.occ_compare.specs.occ_node.declared.world.World.{World}
+use Rattle.occ_norm_alt.specs.occ_follow.Sequence.{HasNodes}
+use Rattle.occ_norm_alt.specs.occ_norm_frame.Maps.{Extends, IsStop}
+use Rattle.occ_norm_alt.specs.occ_norm_frame.After.{AgreeBelow, IsOver}
+use Rattle.occ_norm_alt.specs.occ_norm_frame.Placed.{Fits, IsAround, IsFrame}
+use Rattle.occ_norm_alt.proofs.from_norm_frame.After.{after-extends, after-over, state_back, states_reached}
+use Rattle.occ_norm_alt.proofs.from_norm_frame.FrameBits.{pow_more}
+use Rattle.occ_compare.proofs.from_meaning.Sequence.{all_of_followed, followed_all_of}
+use Rattle.occ_compare.specs.occ_meaning.Parallel.{all_of}
+use Rattle.occ_norm_alt.proofs.from_norm_frame.Worlds.{extends_trans, has_nodes-extends}
+use Rattle.occ_norm_assign.proofs.Moving.{types_first}
+use Rattle.occ_compare.specs.occ_dd.Store.{IsKnown, has as is_member}
+use Rattle.occ_compare.specs.occ_dd.declared.set.SetId.{SetId}
+use Rattle.occ_compare.specs.occ_dd.declared.store.Store.{Store}
+use Rattle.occ_norm_par.specs.States.{EndsIn}
 use Rattle.occ_norm.specs.Parts.{IsAfterIn}
 use Rattle.occ_norm.specs.From.{IsAfterFromIn}
 use Rattle.occ_norm.proofs.From.{after_alike, after_all, after_fewer, after_later, after_some, case_after}

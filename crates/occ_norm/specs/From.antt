@@ -1,23 +1,23 @@
 -- Maps of a part and of what follows it that are right in the states of a set.
 use Rattle.std.specs.Prelude.{ℕ, ◌<◌, ◌≡◌, ◌^◌, ◌↔◌, ◌⊎◌, Bool, true, List, Some, bit_xor}
-use Rattle.occ_base.specs.declared.event.Event.{Event}
-use Rattle.occ_base.specs.declared.names.Name.{Name}
-use Rattle.occ_base.specs.declared.width.Width.{Width}
-use Rattle.occ_dd.specs.Store.{has}
-use Rattle.occ_dd.specs.declared.set.SetId.{SetId}
+use Rattle.occ_compare.specs.occ_base.declared.event.Event.{Event}
+use Rattle.occ_compare.specs.occ_base.declared.names.Name.{Name}
+use Rattle.occ_compare.specs.occ_base.declared.width.Width.{Width}
+use Rattle.occ_compare.specs.occ_dd.Store.{has}
+use Rattle.occ_compare.specs.occ_dd.declared.set.SetId.{SetId}
 use Rattle.occ_syntax.specs.declared.scope.Kind.{Kind}
 use Rattle.occ_syntax.specs.Scopes.{Environment}
 use Rattle.occ_syntax.specs.Tree.{Tree}
 use Rattle.occ_syntax.specs.Types.{types_kept}
-use Rattle.occ_mdd.specs.Maps.{value}
-use Rattle.occ_mdd.specs.declared.map.MapId.{MapId}
-use Rattle.occ_node.specs.World.{fails, ends}
-use Rattle.occ_node.specs.declared.node.NodeId.{NodeId}
-use Rattle.occ_node.specs.declared.world.World.{World}
-use Rattle.occ_norm_frame.specs.After.{IsOver, QuietlyFails, Resumes, change_of}
-use Rattle.occ_norm_frame.specs.Placed.{IsAround}
-use Rattle.occ_norm_frame.specs.declared.frame.Frame.{Frame}
-use Rattle.occ_norm_reached.specs.States.{AreStates}
+use Rattle.occ_compare.specs.occ_mdd.Maps.{value}
+use Rattle.occ_compare.specs.occ_mdd.declared.map.MapId.{MapId}
+use Rattle.occ_compare.specs.occ_node.World.{fails, ends}
+use Rattle.occ_compare.specs.occ_node.declared.node.NodeId.{NodeId}
+use Rattle.occ_compare.specs.occ_node.declared.world.World.{World}
+use Rattle.occ_norm_alt.specs.occ_norm_frame.After.{IsOver, QuietlyFails, Resumes, change_of}
+use Rattle.occ_norm_alt.specs.occ_norm_frame.Placed.{IsAround}
+use Rattle.occ_norm_alt.specs.occ_norm_frame.declared.frame.Frame.{Frame}
+use Rattle.occ_norm_par.specs.States.{AreStates}
 use Rattle.occ_norm.specs.declared.after.Span.{Span}
 
 -- At the assignments that pass the test the map r is that of the part and then what the map `rest` has. Elsewhere nothing is said

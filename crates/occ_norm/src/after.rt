@@ -3,24 +3,19 @@ ghost use Rattle.occ_syntax.specs.Declarations.{is_declaration};
 ghost use Rattle.occ_syntax.specs.Tree.{alt, par, select, seq};
 ghost use Rattle.occ_syntax.specs.Usage.{AllKeepUsage, AreSeparate, BranchesKeepUsage, CasesKeepUsage, KeepsUsage};
 ghost use Rattle.occ_syntax.specs.View.{tree, trees, cases, branches};
-ghost use Rattle.occ_follow.specs.Sequence.{HasNodes};
-ghost use Rattle.occ_norm_maps.specs.Maps.{Extends};
-ghost use Rattle.occ_norm_frame.specs.After.{IsOver};
-ghost use Rattle.occ_norm_frame.specs.Placed.{Fits, FitAll, FitBranches, FitCases};
+ghost use Rattle.occ_norm_alt.specs.occ_follow.Sequence.{HasNodes};
+ghost use Rattle.occ_norm_alt.specs.occ_norm_frame.Maps.{Extends};
+ghost use Rattle.occ_norm_alt.specs.occ_norm_frame.After.{IsOver};
+ghost use Rattle.occ_norm_alt.specs.occ_norm_frame.Placed.{Fits, FitAll, FitBranches, FitCases};
 ghost use Rattle.occ_norm.specs.From.{IsFront, IsSpan};
 ghost use Rattle.occ_norm.specs.Parts.{IsAfterIn};
 
-use occ_base::Memory;
-use occ_dd::SetId;
-use occ_mdd::MapId;
-use occ_norm_alt::{Alternation, Alternative, Get, Put, input, output};
-use occ_norm_assign::{Assignment, assigned};
-use occ_norm_ending::ending;
-use occ_norm_frame::{Frame, freed, holds};
-use occ_norm_maps::Normaliser;
-use occ_norm_par::{Sides, side_frame};
-use occ_norm_reached::{all_states, limited, states_between, states_left};
-use occ_norm_transfer::straight;
+use occ_compare::{MapId, Memory, SetId};
+use occ_norm_alt::{
+    Alternation, Alternative, Frame, Get, Normaliser, Put, ending, freed, holds, input, output,
+};
+use occ_norm_assign::{Assignment, assigned, straight};
+use occ_norm_par::{Sides, all_states, limited, side_frame, states_between, states_left};
 use occ_syntax::{Expr, Guard, Proc};
 
 // The states in which a part begins, and the map of what follows it.
@@ -71,7 +66,7 @@ fn front(world: &mut Normaliser, frame: &Frame, part: &Proc, span: Span) -> Resu
     freed(world, frame.bits, inner.bits, map)
 }
 
-#[tactic(auto, unfolding(occ_syntax::specs::View::tree))]
+#[tactic(auto, unfolding(crate::specs::tree))]
 #[cycle(after)]
 fn undeclared(
     world: &mut Normaliser,

@@ -1,24 +1,19 @@
 ghost use Rattle.std.specs.Prelude.{◌≡◌, ◌≤◌, [], IfOk, IfSome};
-ghost use Rattle.occ_mdd.specs.Maps.{Keeps};
-ghost use Rattle.occ_node.specs.World.{Grows};
+ghost use Rattle.occ_compare.specs.occ_mdd.Maps.{Keeps};
+ghost use Rattle.occ_compare.specs.occ_node.World.{Grows};
 ghost use Rattle.occ_syntax.specs.Counts.{bits_of_scope, most_bits};
 ghost use Rattle.occ_syntax.specs.View.{tree};
-ghost use Rattle.occ_usage.specs.Accepted.{KeepsRules};
-ghost use Rattle.occ_norm_flatten.specs.Flat.{IsFlat};
-ghost use Rattle.occ_norm_maps.specs.Maps.{Extends};
+ghost use Rattle.occ_norm_alt.specs.occ_usage.Accepted.{KeepsRules};
+ghost use Rattle.occ_norm_assign.specs.occ_norm_arrange.Flat.{IsFlat};
+ghost use Rattle.occ_norm_alt.specs.occ_norm_frame.Maps.{Extends};
 ghost use Rattle.occ_norm.specs.Root.{IsRoot};
 
 use crate::after::after;
-use occ_base::Memory;
-use occ_mdd::MapId;
-use occ_node::{Root, World};
-use occ_norm_ending::{ending, except};
-use occ_norm_flatten::flattened;
-use occ_norm_frame::{Frame, rebased};
-use occ_norm_maps::Normaliser;
+use occ_compare::{MapId, Memory, Root, World};
+use occ_norm_alt::{Accepted, Frame, Normaliser, ending, except, keeps, rebased};
+use occ_norm_assign::flattened;
 use occ_norm_par::written_bits;
 use occ_syntax::{Proc, Program};
-use occ_usage::{Accepted, keeps};
 use std::alloc::Global;
 use std::mem;
 
@@ -88,8 +83,8 @@ fn flat_program(alloc: Global, program: &Program) -> Result<Option<Program>, Mem
 
 /// The behaviours of a program from each of its initial states: a map that has a node at every assignment of the bits of its
 /// parameters' variables, laid out from bit 0 in the order of the parameters, the low bit of each first. The node has exactly the
-/// failures and the ends of the program's body from that state; its ends are assignments of the same bits. After want of memory
-/// too, each node, set and map of the world keeps what it stands for.
+/// failures and the ends of the program's body from that state; its ends are assignments of the same bits. Also where memory
+/// runs out, each node, set and map of the world keeps what it stands for.
 // PARs inside one another are made one first, so that a chain of parts is put side by side half by half.
 pub fn normalise(alloc: Global, accepted: &Accepted, world: &mut World) -> Result<Root, Memory>
     ensures grows { Grows world.old world.new }

@@ -3,21 +3,21 @@ use Rattle.std.proofs.Common.{◌≡◌, ◌<◌, ◌^◌, ℕ, Bool, true, fals
 use Rattle.std.specs.Prelude.{◌↔◌, ◌⊎◌, bit_xor}
 use Rattle.std.proofs.lemmas.Bool.{false≢true, or_cases, or_left, or_right}
 use Rattle.std.proofs.lemmas.Option.{same_Some}
-use Rattle.occ_base.specs.declared.event.Event.{Event}
-use Rattle.occ_base.specs.declared.names.Name.{Name}
-use Rattle.occ_base.specs.declared.width.Width.{Width}
+use Rattle.occ_norm_frame.specs.occ_base.declared.event.Event.{Event}
+use Rattle.occ_norm_frame.specs.occ_base.declared.names.Name.{Name}
+use Rattle.occ_norm_frame.specs.occ_base.declared.width.Width.{Width}
 use Rattle.occ_syntax.specs.Meaning.{guards, refusing, stable}
 use Rattle.occ_syntax.specs.Scopes.{Environment}
 use Rattle.occ_syntax.specs.Tree.{Branches, alt, ready}
-use Rattle.occ_bits.specs.Layout.{state_of}
-use Rattle.occ_choice.specs.Joined.{maybe_fails, maybe_ends}
-use Rattle.occ_mdd.specs.declared.map.MapId.{MapId}
-use Rattle.occ_node.specs.World.{fails, ends}
-use Rattle.occ_node.specs.declared.node.NodeId.{NodeId}
-use Rattle.occ_node.specs.declared.world.World.{World}
-use Rattle.occ_node.proofs.Behaviours.{fails_cons, ends_cons}
-use Rattle.occ_weave.specs.Weave.{off_channels}
-use Rattle.occ_norm_maps.specs.Lifted.{Finished}
+use Rattle.occ_norm_frame.specs.occ_bits.Layout.{state_of}
+use Rattle.occ_norm_frame.specs.occ_choice.Joined.{maybe_fails, maybe_ends}
+use Rattle.occ_norm_frame.specs.occ_mdd.declared.map.MapId.{MapId}
+use Rattle.occ_norm_frame.specs.occ_node.World.{fails, ends}
+use Rattle.occ_norm_frame.specs.occ_node.declared.node.NodeId.{NodeId}
+use Rattle.occ_norm_frame.specs.occ_node.declared.world.World.{World}
+use Rattle.occ_norm_frame.proofs.from_node.Behaviours.{fails_cons, ends_cons}
+use Rattle.occ_norm_frame.specs.occ_weave.Weave.{off_channels}
+use Rattle.occ_norm_frame.specs.Lifted.{Finished}
 use Rattle.occ_norm_frame.specs.After.{QuietlyFails, Resumes, change_of}
 use Rattle.occ_norm_alt.specs.Alternation.{EachEnabled, EndsThen, FailsThen, IsReadyAt, IsWaitingAt, Settles, SomeEnabled}
 use Rattle.occ_norm_alt.specs.Offering.{Leads}

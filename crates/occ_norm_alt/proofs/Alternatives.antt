@@ -5,26 +5,26 @@ use Rattle.std.specs.Option.{IfSome}
 use Rattle.std.specs.Int.Bits.{bit_and, bit_xor, xor_self, xor_zero_r}
 use Rattle.std.proofs.lemmas.Bool.{false≢true}
 use Rattle.std.proofs.lemmas.Option.{same_Some}
-use Rattle.occ_base.specs.declared.event.Event.{Event}
-use Rattle.occ_base.specs.declared.names.Name.{Name}
-use Rattle.occ_base.specs.declared.width.Width.{Width}
+use Rattle.occ_norm_frame.specs.occ_base.declared.event.Event.{Event}
+use Rattle.occ_norm_frame.specs.occ_base.declared.names.Name.{Name}
+use Rattle.occ_norm_frame.specs.occ_base.declared.width.Width.{Width}
 use Rattle.occ_syntax.specs.declared.scope.Kind.{Kind}
 use Rattle.occ_syntax.specs.Meaning.{Outcome, ended, meaning, refusing}
 use Rattle.occ_syntax.specs.Scopes.{Environment, Trace, Values}
 use Rattle.occ_syntax.specs.Tree.{Branches, Exp, Tree, Waiting, alt, and_branch, input, no_branch, output, ready, receive, send, skip, truth}
-use Rattle.occ_bits.specs.Layout.{state_of}
-use Rattle.occ_mdd.specs.Maps.{value}
-use Rattle.occ_mdd.specs.declared.map.MapId.{MapId}
-use Rattle.occ_node.specs.World.{IsNode, fails, ends}
-use Rattle.occ_node.specs.declared.node.NodeId.{NodeId}
-use Rattle.occ_node.specs.declared.world.World.{World}
-use Rattle.occ_follow.specs.Sequence.{HasNodes}
-use Rattle.occ_weave.specs.Weave.{off_channels}
-use Rattle.occ_weave.proofs.Growth.{trans_iff, iff_of_same}
-use Rattle.occ_norm_maps.specs.Growth.{maybe_fails-grow, maybe_ends-grow}
-use Rattle.occ_norm_maps.specs.Lifted.{Finished}
-use Rattle.occ_norm_maps.specs.Maps.{Extends, Lifts, MayHaveNodes}
-use Rattle.occ_norm_maps.proofs.Worlds.{has_nodes-extends, may_have-extends}
+use Rattle.occ_norm_frame.specs.occ_bits.Layout.{state_of}
+use Rattle.occ_norm_frame.specs.occ_mdd.Maps.{value}
+use Rattle.occ_norm_frame.specs.occ_mdd.declared.map.MapId.{MapId}
+use Rattle.occ_norm_frame.specs.occ_node.World.{IsNode, fails, ends}
+use Rattle.occ_norm_frame.specs.occ_node.declared.node.NodeId.{NodeId}
+use Rattle.occ_norm_frame.specs.occ_node.declared.world.World.{World}
+use Rattle.occ_norm_frame.specs.occ_follow.Sequence.{HasNodes}
+use Rattle.occ_norm_frame.specs.occ_weave.Weave.{off_channels}
+use Rattle.occ_norm_frame.proofs.from_weave.Growth.{trans_iff, iff_of_same}
+use Rattle.occ_norm_frame.specs.Growth.{maybe_fails-grow, maybe_ends-grow}
+use Rattle.occ_norm_frame.specs.Lifted.{Finished}
+use Rattle.occ_norm_frame.specs.Maps.{Extends, Lifts, MayHaveNodes}
+use Rattle.occ_norm_frame.proofs.Worlds.{has_nodes-extends, may_have-extends}
 use Rattle.occ_norm_frame.specs.After.{IsAfter, IsOver, QuietlyFails, Resumes, change_of}
 use Rattle.occ_norm_frame.specs.Placed.{IsFrame}
 use Rattle.occ_norm_alt.specs.Alternation.{AreHeld, EndsThen, FailsThen, IsAlternation, IsReadyAt, IsWaitingAt, KnowsRest, Settles}

@@ -7,22 +7,22 @@ use Rattle.std.specs.Ordering.{eq_by_cmp}
 use Rattle.std.proofs.lemmas.Bool.{and_from, and_parts, both_ways, cases_Bool, false≢true, or_cases, or_left, or_right}
 use Rattle.std.proofs.lemmas.Nat.Bits.{bit_at_and, bit_at-zero, same_from_bits}
 use Rattle.std.proofs.lemmas.Option.{same_Some, slice_get-get_or}
-use Rattle.occ_base.specs.declared.event.Event.{Event}
-use Rattle.occ_base.specs.declared.names.Name.{Name}
-use Rattle.occ_accept.specs.Order.{event_cmp}
-use Rattle.occ_choice.specs.Branches.{IsAlt, branch_ends, branch_fails, inputs_from, is_unready}
-use Rattle.occ_follow.specs.Sequence.{HasNodes}
-use Rattle.occ_mdd.specs.Maps.{value}
-use Rattle.occ_mdd.specs.declared.map.MapId.{MapId}
-use Rattle.occ_node.specs.Canonical.{HasTrace}
-use Rattle.occ_node.specs.Offers.{is_offered}
-use Rattle.occ_node.specs.World.{IsNode, ends, fails, row_of}
-use Rattle.occ_node.specs.declared.node.NodeId.{NodeId}
-use Rattle.occ_node.specs.declared.world.World.{World}
+use Rattle.occ_norm_frame.specs.occ_base.declared.event.Event.{Event}
+use Rattle.occ_norm_frame.specs.occ_base.declared.names.Name.{Name}
+use Rattle.occ_norm_frame.specs.occ_accept.Order.{event_cmp}
+use Rattle.occ_norm_frame.specs.occ_choice.Branches.{IsAlt, branch_ends, branch_fails, inputs_from, is_unready}
+use Rattle.occ_norm_frame.specs.occ_follow.Sequence.{HasNodes}
+use Rattle.occ_norm_frame.specs.occ_mdd.Maps.{value}
+use Rattle.occ_norm_frame.specs.occ_mdd.declared.map.MapId.{MapId}
+use Rattle.occ_norm_frame.specs.occ_node.Canonical.{HasTrace}
+use Rattle.occ_norm_frame.specs.occ_node.Offers.{is_offered}
+use Rattle.occ_norm_frame.specs.occ_node.World.{IsNode, ends, fails, row_of}
+use Rattle.occ_norm_frame.specs.occ_node.declared.node.NodeId.{NodeId}
+use Rattle.occ_norm_frame.specs.occ_node.declared.world.World.{World}
 use Rattle.occ_norm_frame.proofs.After.{map_node}
-use Rattle.occ_norm_maps.specs.Growth.{node_grow}
-use Rattle.occ_norm_maps.specs.Maps.{Extends}
-use Rattle.occ_weave.proofs.Growth.{iff_of_same, trans_iff}
+use Rattle.occ_norm_frame.specs.Growth.{node_grow}
+use Rattle.occ_norm_frame.specs.Maps.{Extends}
+use Rattle.occ_norm_frame.proofs.from_weave.Growth.{iff_of_same, trans_iff}
 use Rattle.occ_norm_alt.specs.Inputs.{AreInputsAt, AreNexts, LeadsInput, TakesInput, digits_at, input_event, placed}
 use Rattle.occ_norm_alt.specs.Offering.{At}
 use Rattle.occ_norm_alt.proofs.Making.{event_iff}

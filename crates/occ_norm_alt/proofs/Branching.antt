@@ -2,18 +2,18 @@
 use Rattle.std.proofs.Common.{◌≡◌, ◌<◌, ◌^◌, ℕ, Bool, true, false, ◌&&◌, ◌++◌, List, [], ◌∷◌, MatchBool, refl, sym, ap, ◌∙◌, subst, inl, inr, ⊎_elim}
 use Rattle.std.specs.Prelude.{◌↔◌, ◌⊎◌}
 use Rattle.std.proofs.lemmas.Bool.{and_from, and_parts, cases_Bool, false≢true}
-use Rattle.occ_base.specs.declared.event.Event.{Event}
-use Rattle.occ_base.specs.declared.names.Name.{Name}
-use Rattle.occ_base.specs.declared.width.Width.{Width}
+use Rattle.occ_norm_frame.specs.occ_base.declared.event.Event.{Event}
+use Rattle.occ_norm_frame.specs.occ_base.declared.names.Name.{Name}
+use Rattle.occ_norm_frame.specs.occ_base.declared.width.Width.{Width}
 use Rattle.occ_syntax.specs.Eval.{is_true}
 use Rattle.occ_syntax.specs.Meaning.{After, Alternates, Guards, IsQuiet, Outcome, Taken, at_event, at_ready, ended, guards, meaning, refusing, stable, taken}
 use Rattle.occ_syntax.specs.Scopes.{Environment, EventSet, Trace, Values}
 use Rattle.occ_syntax.specs.Tree.{Branches, Tree, Waiting, alt, and_branch, no_branch, ready}
-use Rattle.occ_bits.specs.Layout.{state_of}
-use Rattle.occ_mdd.specs.declared.map.MapId.{MapId}
-use Rattle.occ_node.specs.declared.node.NodeId.{NodeId}
-use Rattle.occ_node.specs.declared.world.World.{World}
-use Rattle.occ_weave.specs.Weave.{is_open, is_silent_on, off_channels}
+use Rattle.occ_norm_frame.specs.occ_bits.Layout.{state_of}
+use Rattle.occ_norm_frame.specs.occ_mdd.declared.map.MapId.{MapId}
+use Rattle.occ_norm_frame.specs.occ_node.declared.node.NodeId.{NodeId}
+use Rattle.occ_norm_frame.specs.occ_node.declared.world.World.{World}
+use Rattle.occ_norm_frame.specs.occ_weave.Weave.{is_open, is_silent_on, off_channels}
 use Rattle.occ_norm_frame.specs.After.{QuietlyFails, Resumes}
 use Rattle.occ_norm_alt.specs.Alternation.{EachEnabled, Settles, SomeEnabled}
 use Rattle.occ_norm_alt.specs.Offering.{Leads, Takes}

@@ -7,22 +7,22 @@ use Rattle.std.proofs.lemmas.Bool.{cases_lt}
 use Rattle.std.proofs.lemmas.Nat.{div-add-mod', pow_pos}
 use Rattle.std.proofs.lemmas.Nat.Bits.{bit_at_above, bit_at-lt, bit_at-zero, same_from_bits}
 use Rattle.std.proofs.lemmas.Option.{same_Some}
-use Rattle.occ_base.specs.declared.event.Event.{Event}
-use Rattle.occ_base.specs.declared.names.Name.{Name}
-use Rattle.occ_bits.proofs.Arithmetic.{low_bit}
-use Rattle.occ_dd.specs.Store.{IsSet, has}
-use Rattle.occ_dd.specs.declared.set.SetId.{SetId}
-use Rattle.occ_diagram.specs.Assignment.{with_bit}
-use Rattle.occ_diagram.proofs.Bits.{bit_at-with_bit_other, bit_at-with_bit_same, bit_cases, with_bit_lt}
-use Rattle.occ_follow.specs.Sequence.{HasNodes}
-use Rattle.occ_mdd.specs.Maps.{IsMap, value}
-use Rattle.occ_mdd.specs.declared.map.MapId.{MapId}
-use Rattle.occ_node.specs.World.{ends, fails}
-use Rattle.occ_node.specs.declared.node.NodeId.{NodeId}
-use Rattle.occ_node.specs.declared.world.World.{World}
+use Rattle.occ_norm_frame.specs.occ_base.declared.event.Event.{Event}
+use Rattle.occ_norm_frame.specs.occ_base.declared.names.Name.{Name}
+use Rattle.occ_norm_frame.proofs.from_bits.Arithmetic.{low_bit}
+use Rattle.occ_norm_frame.specs.occ_dd.Store.{IsSet, has}
+use Rattle.occ_norm_frame.specs.occ_dd.declared.set.SetId.{SetId}
+use Rattle.occ_norm_frame.specs.occ_dd.Assignment.{with_bit}
+use Rattle.occ_norm_frame.proofs.from_dd.Bits.{bit_at-with_bit_other, bit_at-with_bit_same, bit_cases, with_bit_lt}
+use Rattle.occ_norm_frame.specs.occ_follow.Sequence.{HasNodes}
+use Rattle.occ_norm_frame.specs.occ_mdd.Maps.{IsMap, value}
+use Rattle.occ_norm_frame.specs.occ_mdd.declared.map.MapId.{MapId}
+use Rattle.occ_norm_frame.specs.occ_node.World.{ends, fails}
+use Rattle.occ_norm_frame.specs.occ_node.declared.node.NodeId.{NodeId}
+use Rattle.occ_norm_frame.specs.occ_node.declared.world.World.{World}
 use Rattle.occ_norm_frame.specs.After.{IsOver}
-use Rattle.occ_norm_maps.specs.Maps.{Extends}
-use Rattle.occ_norm_maps.proofs.Worlds.{has_nodes-extends}
+use Rattle.occ_norm_frame.specs.Maps.{Extends}
+use Rattle.occ_norm_frame.proofs.Worlds.{has_nodes-extends}
 use Rattle.occ_norm_alt.specs.Inputs.{Agrees, AreInputs, AreInputsAt, AreRows, LeadsInput, digits_at, placed}
 use Rattle.occ_norm_alt.specs.Offering.{At}
 use Rattle.occ_norm_alt.proofs.Making.{offering_grow, offering_same}

@@ -7,31 +7,31 @@ use Rattle.std.specs.List.{list_all}
 use Rattle.std.proofs.lemmas.List.{take_all}
 use Rattle.std.proofs.lemmas.Nat.{and_le_l}
 use Rattle.std.proofs.lemmas.Bool.{false≢true}
-use Rattle.occ_base.specs.declared.names.Name.{Name}
-use Rattle.occ_base.specs.declared.width.Width.{Width}
-use Rattle.occ_base.specs.Width.{bits_of}
+use Rattle.occ_norm_frame.specs.occ_base.declared.names.Name.{Name}
+use Rattle.occ_norm_frame.specs.occ_base.declared.width.Width.{Width}
+use Rattle.occ_norm_frame.specs.occ_base.Width.{bits_of}
 use Rattle.occ_syntax.specs.Eval.{eval}
 use Rattle.occ_syntax.specs.Scopes.{Environment}
 use Rattle.occ_syntax.specs.Tree.{Exp, input, output, receive, send}
 use Rattle.occ_syntax.specs.Types.{types_kept}
-use Rattle.occ_bits.specs.Layout.{entry_of, environment_in, state_of}
-use Rattle.occ_bits.specs.Words.{IsValue, number_at}
-use Rattle.occ_dd.specs.declared.set.SetId.{SetId}
-use Rattle.occ_dd.specs.declared.store.Store.{Store}
-use Rattle.occ_bits.proofs.Laid.{found_within}
-use Rattle.occ_bits.proofs.Parts.{value_same}
-use Rattle.occ_mdd.specs.declared.map.MapId.{MapId}
-use Rattle.occ_node.specs.declared.world.World.{World}
-use Rattle.occ_follow.specs.Sequence.{HasNodes}
-use Rattle.occ_norm_maps.specs.Lifted.{IsPrefixed}
-use Rattle.occ_norm_maps.specs.Maps.{Extends, IsStop}
-use Rattle.occ_norm_maps.proofs.Worlds.{extends_trans, has_nodes-extends}
+use Rattle.occ_norm_frame.specs.occ_bits.Layout.{entry_of, environment_in, state_of}
+use Rattle.occ_norm_frame.specs.occ_bits.Words.{IsValue, number_at}
+use Rattle.occ_norm_frame.specs.occ_dd.declared.set.SetId.{SetId}
+use Rattle.occ_norm_frame.specs.occ_dd.declared.store.Store.{Store}
+use Rattle.occ_norm_frame.proofs.from_bits.Laid.{found_within}
+use Rattle.occ_norm_frame.proofs.from_bits.Parts.{value_same}
+use Rattle.occ_norm_frame.specs.occ_mdd.declared.map.MapId.{MapId}
+use Rattle.occ_norm_frame.specs.occ_node.declared.world.World.{World}
+use Rattle.occ_norm_frame.specs.occ_follow.Sequence.{HasNodes}
+use Rattle.occ_norm_frame.specs.Lifted.{IsPrefixed}
+use Rattle.occ_norm_frame.specs.Maps.{Extends, IsStop}
+use Rattle.occ_norm_frame.proofs.Worlds.{extends_trans, has_nodes-extends}
 use Rattle.occ_norm_frame.specs.After.{IsAfter, IsOver}
 use Rattle.occ_norm_frame.specs.Changes.{IsChanged}
 use Rattle.occ_norm_frame.specs.Placed.{IsAround}
 use Rattle.occ_norm_frame.specs.declared.frame.Frame.{Frame}
 use Rattle.occ_norm_frame.proofs.After.{over-extends}
-use Rattle.occ_norm_frame.proofs.Bits.{pow_more}
+use Rattle.occ_norm_frame.proofs.FrameBits.{pow_more}
 use Rattle.occ_norm_frame.proofs.Placing.{frame_layout, width_here}
 use Rattle.occ_norm_alt.specs.Inputs.{AreInputs, AreOutputs, output_event}
 use Rattle.occ_norm_alt.specs.Offering.{IsGuarded}

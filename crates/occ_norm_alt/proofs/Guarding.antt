@@ -6,26 +6,26 @@ use Rattle.std.specs.Int.Bits.{bit_and, bit_xor}
 use Rattle.std.specs.List.{list_all}
 use Rattle.std.proofs.lemmas.Bool.{both_ways, cases_lt, lt-ltb, ltb-true}
 use Rattle.std.proofs.lemmas.Nat.Bits.{bit_at_above, bit_at_and, bit_at_xor, same_from_bits}
-use Rattle.occ_base.specs.declared.event.Event.{Event}
-use Rattle.occ_base.specs.declared.names.Name.{Name}
-use Rattle.occ_base.specs.declared.width.Width.{Width}
-use Rattle.occ_base.specs.Width.{bits_of}
+use Rattle.occ_norm_frame.specs.occ_base.declared.event.Event.{Event}
+use Rattle.occ_norm_frame.specs.occ_base.declared.names.Name.{Name}
+use Rattle.occ_norm_frame.specs.occ_base.declared.width.Width.{Width}
+use Rattle.occ_norm_frame.specs.occ_base.Width.{bits_of}
 use Rattle.occ_syntax.specs.declared.scope.Kind.{Kind}
 use Rattle.occ_syntax.specs.Eval.{eval}
 use Rattle.occ_syntax.specs.Meaning.{After, at_event, taken}
 use Rattle.occ_syntax.specs.Scopes.{Environment, Values, channel_width, has_width, variable_width, with_value}
 use Rattle.occ_syntax.specs.Tree.{Exp, Waiting, input, output, ready, receive, send}
 use Rattle.occ_syntax.specs.Types.{input_kept, waiting_kept}
-use Rattle.occ_bits.specs.Layout.{entry_of, state_of}
-use Rattle.occ_bits.proofs.Laid.{found_width, found_within}
-use Rattle.occ_mdd.specs.Maps.{value}
-use Rattle.occ_mdd.specs.declared.map.MapId.{MapId}
-use Rattle.occ_node.specs.World.{fails, ends}
-use Rattle.occ_node.specs.declared.node.NodeId.{NodeId}
-use Rattle.occ_node.specs.declared.world.World.{World}
-use Rattle.occ_follow.specs.Sequence.{HasNodes}
-use Rattle.occ_weave.specs.Weave.{is_open}
-use Rattle.occ_meaning.proofs.Typing.{input_types}
+use Rattle.occ_norm_frame.specs.occ_bits.Layout.{entry_of, state_of}
+use Rattle.occ_norm_frame.proofs.from_bits.Laid.{found_width, found_within}
+use Rattle.occ_norm_frame.specs.occ_mdd.Maps.{value}
+use Rattle.occ_norm_frame.specs.occ_mdd.declared.map.MapId.{MapId}
+use Rattle.occ_norm_frame.specs.occ_node.World.{fails, ends}
+use Rattle.occ_norm_frame.specs.occ_node.declared.node.NodeId.{NodeId}
+use Rattle.occ_norm_frame.specs.occ_node.declared.world.World.{World}
+use Rattle.occ_norm_frame.specs.occ_follow.Sequence.{HasNodes}
+use Rattle.occ_norm_frame.specs.occ_weave.Weave.{is_open}
+use Rattle.occ_norm_frame.proofs.from_meaning.Typing.{input_types}
 use Rattle.occ_norm_frame.specs.After.{IsOver, change_of}
 use Rattle.occ_norm_frame.specs.Changes.{IsChanged}
 use Rattle.occ_norm_frame.specs.Placed.{IsAround, IsFrame}
@@ -40,8 +40,8 @@ use Rattle.occ_norm_alt.proofs.Receiving.{at_iff}
 use Rattle.std.proofs.lemmas.Nat.{and_le_r}
 use Rattle.std.specs.Int.Bits.{xor_self, xor_zero_r}
 use Rattle.std.proofs.lemmas.Option.{same_Some}
-use Rattle.occ_norm_maps.specs.Lifted.{IsPrefixed}
-use Rattle.occ_norm_frame.proofs.Bits.{pow_more}
+use Rattle.occ_norm_frame.specs.Lifted.{IsPrefixed}
+use Rattle.occ_norm_frame.proofs.FrameBits.{pow_more}
 
 -- ---- the same state, the same node
 module _ (w : World) (vars : List (Name × Kind)) (layout : List (Name × Width × ℕ)) (n : ℕ) (frame : IsFrame vars layout n) (keep : ℕ) (few : keep < 2 ^ n) (next : MapId) (over : IsOver w n next) where

@@ -12,3 +12,5 @@ pub mod Adding
 pub mod Done
 pub mod AtOnce
 pub mod ByStates
+pub use Rattle.occ_norm_frame.proofs as from_norm_frame
+pub use Rattle.occ_norm_frame.proofs.from_usage as from_usage

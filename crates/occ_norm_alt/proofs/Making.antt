@@ -8,21 +8,21 @@ use Rattle.std.proofs.lemmas.List.Folds.{list_all-append, list_any-append}
 use Rattle.std.proofs.lemmas.Nat.{xor_lt}
 use Rattle.std.proofs.lemmas.Nat.Bits.{bit_at_xor, same_from_bits}
 use Rattle.std.specs.Int.{bit_at}
-use Rattle.occ_base.specs.declared.event.Event.{Event}
-use Rattle.occ_accept.specs.Order.{event_cmp}
-use Rattle.occ_accept.proofs.Events.{cmp_total, event_exact}
-use Rattle.occ_accept.proofs.Strict.{tied, tied_same}
-use Rattle.occ_node.specs.Offers.{is_offered}
-use Rattle.occ_node.specs.World.{Grows, IsNode, row_of, fails, ends}
-use Rattle.occ_node.specs.Canonical.{HasTrace}
-use Rattle.occ_node.specs.declared.node.NodeId.{NodeId}
-use Rattle.occ_node.specs.declared.world.World.{World}
-use Rattle.occ_node.proofs.Behaviours.{is_row, fails_cons, ends_cons}
-use Rattle.occ_choice.specs.Branches.{branch_fails, branch_ends, is_unready}
-use Rattle.occ_choice.specs.declared.branch.Branch.TheVariants.{Event as Comm}
-use Rattle.occ_weave.proofs.Growth.{trans_iff, iff_of_same}
-use Rattle.occ_norm_maps.specs.Lifted.{IsMerged, IsPrefixed, IsTurned, branches_of}
-use Rattle.occ_norm_maps.specs.Growth.{alt_now, node_grow, one_branch}
+use Rattle.occ_norm_frame.specs.occ_base.declared.event.Event.{Event}
+use Rattle.occ_norm_frame.specs.occ_accept.Order.{event_cmp}
+use Rattle.occ_norm_frame.proofs.from_accept.Events.{cmp_total, event_exact}
+use Rattle.occ_norm_frame.proofs.from_accept.Strict.{tied, tied_same}
+use Rattle.occ_norm_frame.specs.occ_node.Offers.{is_offered}
+use Rattle.occ_norm_frame.specs.occ_node.World.{Grows, IsNode, row_of, fails, ends}
+use Rattle.occ_norm_frame.specs.occ_node.Canonical.{HasTrace}
+use Rattle.occ_norm_frame.specs.occ_node.declared.node.NodeId.{NodeId}
+use Rattle.occ_norm_frame.specs.occ_node.declared.world.World.{World}
+use Rattle.occ_norm_frame.proofs.from_node.Behaviours.{is_row, fails_cons, ends_cons}
+use Rattle.occ_norm_frame.specs.occ_choice.Branches.{branch_fails, branch_ends, is_unready}
+use Rattle.occ_norm_frame.specs.occ_choice.declared.branch.Branch.TheVariants.{Event as Comm}
+use Rattle.occ_norm_frame.proofs.from_weave.Growth.{trans_iff, iff_of_same}
+use Rattle.occ_norm_frame.specs.Lifted.{IsMerged, IsPrefixed, IsTurned, branches_of}
+use Rattle.occ_norm_frame.specs.Growth.{alt_now, node_grow, one_branch}
 use Rattle.occ_norm_alt.specs.Offering.{IsOffering}
 use Rattle.occ_norm_alt.proofs.Offering.{branches_end, branches_end_not, branches_fail, branches_fail_not, branches_wait, is_false, is_not, no_behaviour, offered_trace, or_iff, or_nothing, sum_iff, trace_offered}
 

@@ -4,22 +4,22 @@ use Rattle.std.specs.Prelude.{◌↔◌, ◌⊎◌}
 use Rattle.std.specs.List.{list_all, list_any}
 use Rattle.std.specs.Ordering.{eq_by_cmp}
 use Rattle.std.proofs.lemmas.Bool.{and_from, and_parts, cases_Bool, both_ways, false≢true, or_cases, or_left, or_right}
-use Rattle.occ_base.specs.declared.event.Event.{Event}
-use Rattle.occ_accept.specs.Accept.{misses, refuses}
-use Rattle.occ_accept.specs.Order.{event_cmp, strict}
-use Rattle.occ_accept.proofs.Events.{cmp_total, event_exact}
-use Rattle.occ_accept.proofs.Strict.{tied, tied_same}
-use Rattle.occ_node.specs.Offers.{offer_cmp, next_in, is_offered}
-use Rattle.occ_node.specs.Rows.{goes_on}
-use Rattle.occ_node.specs.World.{IsNode, row_of, fails, ends}
-use Rattle.occ_node.specs.Canonical.{HasTrace}
-use Rattle.occ_node.specs.declared.node.NodeId.{NodeId}
-use Rattle.occ_node.specs.declared.world.World.{World}
-use Rattle.occ_node.proofs.Table.{none_above}
-use Rattle.occ_node.proofs.Recovery.{recovered}
-use Rattle.occ_node.proofs.Behaviours.{is_row, fails_nil, ends_nil}
-use Rattle.occ_choice.specs.Branches.{branch_fails, branch_ends, is_unready}
-use Rattle.occ_norm_maps.specs.Lifted.{branches_of}
+use Rattle.occ_norm_frame.specs.occ_base.declared.event.Event.{Event}
+use Rattle.occ_norm_frame.specs.occ_accept.Accept.{misses, refuses}
+use Rattle.occ_norm_frame.specs.occ_accept.Order.{event_cmp, strict}
+use Rattle.occ_norm_frame.proofs.from_accept.Events.{cmp_total, event_exact}
+use Rattle.occ_norm_frame.proofs.from_accept.Strict.{tied, tied_same}
+use Rattle.occ_norm_frame.specs.occ_node.Offers.{offer_cmp, next_in, is_offered}
+use Rattle.occ_norm_frame.specs.occ_node.Rows.{goes_on}
+use Rattle.occ_norm_frame.specs.occ_node.World.{IsNode, row_of, fails, ends}
+use Rattle.occ_norm_frame.specs.occ_node.Canonical.{HasTrace}
+use Rattle.occ_norm_frame.specs.occ_node.declared.node.NodeId.{NodeId}
+use Rattle.occ_norm_frame.specs.occ_node.declared.world.World.{World}
+use Rattle.occ_norm_frame.proofs.from_node.Table.{none_above}
+use Rattle.occ_norm_frame.proofs.from_node.Recovery.{recovered}
+use Rattle.occ_norm_frame.proofs.from_node.Behaviours.{is_row, fails_nil, ends_nil}
+use Rattle.occ_norm_frame.specs.occ_choice.Branches.{branch_fails, branch_ends, is_unready}
+use Rattle.occ_norm_frame.specs.Lifted.{branches_of}
 
 -- ---- equivalences
 pub sum_iff : {A B C D : Type 0} → A ↔ B → C ↔ D → (A ⊎ C) ↔ (B ⊎ D)

@@ -7,17 +7,17 @@ use Rattle.std.proofs.Math.Nat.{mod-lt}
 use Rattle.std.proofs.lemmas.Bool.{cases_Bool, cases_lt, eqb-false, eqb-true}
 use Rattle.std.proofs.lemmas.Nat.{pow_pos}
 use Rattle.std.proofs.lemmas.Nat.Bits.{bit_at_and, bit_at_above, bit_at_cat_high, bit_at_cat_low, bit_at_xor, bit_at-lt, same_from_bits, same_from_bits_below}
-use Rattle.occ_base.specs.declared.names.Name.{Name}
-use Rattle.occ_base.specs.declared.width.Width.{Width}
-use Rattle.occ_base.specs.Width.{bits_of}
+use Rattle.occ_norm_frame.specs.occ_base.declared.names.Name.{Name}
+use Rattle.occ_norm_frame.specs.occ_base.declared.width.Width.{Width}
+use Rattle.occ_norm_frame.specs.occ_base.Width.{bits_of}
 use Rattle.occ_syntax.specs.declared.scope.Kind.{Kind}
 use Rattle.occ_syntax.specs.declared.scope.Kind.TheVariants.{Var, Chan}
 use Rattle.occ_syntax.specs.Scopes.{with_value}
-use Rattle.occ_bits.specs.Layout.{IsLayout, entry_of, laid_out, scope_in, state_of}
-use Rattle.occ_bits.proofs.Arithmetic.{higher_bit, low_bit}
-use Rattle.occ_bits.proofs.Laid.{found_state, same_pair}
-use Rattle.occ_diagram.specs.Assignment.{with_bit}
-use Rattle.occ_diagram.proofs.Bits.{bit_at-with_bit_other, bit_at-with_bit_same, with_bit_lt}
+use Rattle.occ_norm_frame.specs.occ_bits.Layout.{IsLayout, entry_of, laid_out, scope_in, state_of}
+use Rattle.occ_norm_frame.proofs.from_bits.Arithmetic.{higher_bit, low_bit}
+use Rattle.occ_norm_frame.proofs.from_bits.Laid.{found_state, same_pair}
+use Rattle.occ_norm_frame.specs.occ_dd.Assignment.{with_bit}
+use Rattle.occ_norm_frame.proofs.from_dd.Bits.{bit_at-with_bit_other, bit_at-with_bit_same, with_bit_lt}
 use Rattle.occ_norm_frame.specs.After.{change_of}
 use Rattle.occ_norm_alt.specs.Inputs.{digits_at, placed}
 
@@ -74,9 +74,6 @@ laid_from a ((n, Chan u d) ∷ scope) z v g e = laid_from a scope z v g e
 
 here_is : (a : ℕ) (n : ℕ) (u : Width) (entries : List (Name × Width × ℕ)) (z : ℕ) (v : Width) (g : ℕ) → (z == n) ≡ true → cond (z == n) (Some (u, a)) (entry_of entries z) ≡ Some (v, g) → a + bits_of u ≡ g + bits_of v
 here_is a n u entries z v g t e = ap (λ (p : Width × ℕ). p.1 + bits_of p.0) (same_pair (u, a) (v, g) (sym (ap (λ b. cond b (Some (u, a)) (entry_of entries z)) t) ∙ e))
-
-first_is : (a : ℕ) (n : ℕ) (u : Width) (entries : List (Name × Width × ℕ)) (z : ℕ) (v : Width) (g : ℕ) → (z == n) ≡ true → cond (z == n) (Some (u, a)) (entry_of entries z) ≡ Some (v, g) → a ≡ g
-first_is a n u entries z v g t e = ap (λ (p : Width × ℕ). p.1) (same_pair (u, a) (v, g) (sym (ap (λ b. cond b (Some (u, a)) (entry_of entries z)) t) ∙ e))
 
 later_is : (a : ℕ) (n : ℕ) (u : Width) (entries : List (Name × Width × ℕ)) (z : ℕ) (v : Width) (g : ℕ) → (z == n) ≡ false → cond (z == n) (Some (u, a)) (entry_of entries z) ≡ Some (v, g) → entry_of entries z ≡ Some (v, g)
 later_is a n u entries z v g t e = sym (ap (λ b. cond b (Some (u, a)) (entry_of entries z)) t) ∙ e

@@ -4,20 +4,20 @@ use Rattle.std.specs.Prelude.{◌↔◌, ◌⊎◌}
 use Rattle.std.specs.Int.Bits.{bit_xor}
 use Rattle.std.proofs.lemmas.Bool.{cases_lt}
 use Rattle.std.proofs.lemmas.Option.{same_Some}
-use Rattle.occ_base.specs.declared.event.Event.{Event}
-use Rattle.occ_base.specs.declared.names.Name.{Name}
-use Rattle.occ_diagram.specs.Assignment.{with_bit}
-use Rattle.occ_mdd.specs.Maps.{value}
-use Rattle.occ_mdd.specs.declared.map.MapId.{MapId}
-use Rattle.occ_node.specs.World.{IsNode, fails, ends}
-use Rattle.occ_node.specs.declared.node.NodeId.{NodeId}
-use Rattle.occ_node.specs.declared.world.World.{World}
-use Rattle.occ_follow.specs.Sequence.{HasNodes}
-use Rattle.occ_norm_maps.specs.Lifted.{IsMerged, IsPrefixed, IsTurned, OnOne, OnTwo}
-use Rattle.occ_norm_maps.specs.Maps.{Extends, Lifts}
-use Rattle.occ_norm_maps.specs.Growth.{turned_grow}
+use Rattle.occ_norm_frame.specs.occ_base.declared.event.Event.{Event}
+use Rattle.occ_norm_frame.specs.occ_base.declared.names.Name.{Name}
+use Rattle.occ_norm_frame.specs.occ_dd.Assignment.{with_bit}
+use Rattle.occ_norm_frame.specs.occ_mdd.Maps.{value}
+use Rattle.occ_norm_frame.specs.occ_mdd.declared.map.MapId.{MapId}
+use Rattle.occ_norm_frame.specs.occ_node.World.{IsNode, fails, ends}
+use Rattle.occ_norm_frame.specs.occ_node.declared.node.NodeId.{NodeId}
+use Rattle.occ_norm_frame.specs.occ_node.declared.world.World.{World}
+use Rattle.occ_norm_frame.specs.occ_follow.Sequence.{HasNodes}
+use Rattle.occ_norm_frame.specs.Lifted.{IsMerged, IsPrefixed, IsTurned, OnOne, OnTwo}
+use Rattle.occ_norm_frame.specs.Maps.{Extends, Lifts}
+use Rattle.occ_norm_frame.specs.Growth.{turned_grow}
 use Rattle.occ_norm_alt.specs.Inputs.{AreInputs, AreInputsAt, LeadsInput, TakesInput, digits_at, input_event, placed}
-use Rattle.occ_base.specs.declared.width.Width.{Width}
+use Rattle.occ_norm_frame.specs.occ_base.declared.width.Width.{Width}
 use Rattle.occ_syntax.specs.Scopes.{Environment}
 use Rattle.occ_syntax.specs.Tree.{Waiting}
 use Rattle.occ_norm_frame.specs.After.{change_of}

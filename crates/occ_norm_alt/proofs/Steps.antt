@@ -9,21 +9,21 @@ use Rattle.std.proofs.lemmas.List.{length-take-le, take_more}
 use Rattle.std.proofs.lemmas.List.Elements.{All-take}
 use Rattle.std.proofs.lemmas.Nat.Bits.{bit_at-lt, bit_at_above, bit_at_and}
 use Rattle.std.proofs.lemmas.Option.{same_Some}
-use Rattle.occ_base.specs.declared.names.Name.{Name}
-use Rattle.occ_bits.specs.Words.{digit, number_at}
-use Rattle.occ_bits.proofs.Numbers.{number-keeps, number-push}
-use Rattle.occ_dd.specs.Store.{IsKnown as IsSetKnown, IsSet, has}
-use Rattle.occ_dd.specs.declared.set.SetId.{SetId}
-use Rattle.occ_dd.specs.declared.store.Store.{Store}
-use Rattle.occ_diagram.specs.Assignment.{with_bit}
-use Rattle.occ_mdd.specs.Maps.{IsMap, value}
-use Rattle.occ_mdd.specs.declared.map.MapId.{MapId}
-use Rattle.occ_node.specs.declared.node.NodeId.{NodeId}
-use Rattle.occ_node.specs.declared.world.World.{World}
-use Rattle.occ_follow.specs.Sequence.{HasNodes}
-use Rattle.occ_norm_maps.specs.Lifted.{IsEither, IsMerged, IsPrefixed, OnOne, OnTwo}
-use Rattle.occ_norm_maps.specs.Maps.{Extends, IsStop, Lifts}
-use Rattle.occ_norm_maps.proofs.Worlds.{extends_trans, has_nodes-extends}
+use Rattle.occ_norm_frame.specs.occ_base.declared.names.Name.{Name}
+use Rattle.occ_norm_frame.specs.occ_bits.Words.{digit, number_at}
+use Rattle.occ_norm_frame.proofs.from_bits.Numbers.{number-keeps, number-push}
+use Rattle.occ_norm_frame.specs.occ_dd.Store.{IsKnown as IsSetKnown, IsSet, has}
+use Rattle.occ_norm_frame.specs.occ_dd.declared.set.SetId.{SetId}
+use Rattle.occ_norm_frame.specs.occ_dd.declared.store.Store.{Store}
+use Rattle.occ_norm_frame.specs.occ_dd.Assignment.{with_bit}
+use Rattle.occ_norm_frame.specs.occ_mdd.Maps.{IsMap, value}
+use Rattle.occ_norm_frame.specs.occ_mdd.declared.map.MapId.{MapId}
+use Rattle.occ_norm_frame.specs.occ_node.declared.node.NodeId.{NodeId}
+use Rattle.occ_norm_frame.specs.occ_node.declared.world.World.{World}
+use Rattle.occ_norm_frame.specs.occ_follow.Sequence.{HasNodes}
+use Rattle.occ_norm_frame.specs.Lifted.{IsEither, IsMerged, IsPrefixed, OnOne, OnTwo}
+use Rattle.occ_norm_frame.specs.Maps.{Extends, IsStop, Lifts}
+use Rattle.occ_norm_frame.proofs.Worlds.{extends_trans, has_nodes-extends}
 use Rattle.occ_norm_alt.specs.Alternation.{IsOffered, IsUnited, OffersNothing}
 use Rattle.occ_norm_alt.specs.Inputs.{AreInputs, AreOutputs, output_event}
 use Rattle.occ_norm_alt.proofs.Making.{offering_grow, offering_nothing, prefixed_later}

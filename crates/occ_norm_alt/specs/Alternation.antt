@@ -1,24 +1,24 @@
 -- An ALT so far: what its events lead to, and what its ready guards lead to.
 use Rattle.std.specs.Prelude.{ℕ, ◌<◌, ◌≡◌, ◌^◌, ◌↔◌, ◌⊎◌, Bool, true, false, List, Option, Some, None, is_some, bit_xor, if◌then◌else◌}
-use Rattle.occ_base.specs.declared.event.Event.{Event}
-use Rattle.occ_base.specs.declared.names.Name.{Name}
-use Rattle.occ_base.specs.declared.width.Width.{Width}
+use Rattle.occ_norm_frame.specs.occ_base.declared.event.Event.{Event}
+use Rattle.occ_norm_frame.specs.occ_base.declared.names.Name.{Name}
+use Rattle.occ_norm_frame.specs.occ_base.declared.width.Width.{Width}
 use Rattle.occ_syntax.specs.Eval.{is_true}
 use Rattle.occ_syntax.specs.Meaning.{After}
 use Rattle.occ_syntax.specs.Scopes.{Environment, Values}
 use Rattle.occ_syntax.specs.Tree.{Branches, Exp, Tree, Waiting, and_branch, no_branch, ready}
-use Rattle.occ_bits.specs.Layout.{state_of}
-use Rattle.occ_choice.specs.Joined.{maybe_fails, maybe_ends}
-use Rattle.occ_dd.specs.Store.{has}
-use Rattle.occ_dd.specs.declared.set.SetId.{SetId}
-use Rattle.occ_mdd.specs.Maps.{value}
-use Rattle.occ_mdd.specs.declared.map.MapId.{MapId}
-use Rattle.occ_node.specs.World.{fails, ends}
-use Rattle.occ_node.specs.declared.node.NodeId.{NodeId}
-use Rattle.occ_node.specs.declared.world.World.{World}
-use Rattle.occ_follow.specs.Sequence.{HasNodes}
-use Rattle.occ_norm_maps.specs.Lifted.{IsEither, IsMerged}
-use Rattle.occ_norm_maps.specs.Maps.{MayHaveNodes}
+use Rattle.occ_norm_frame.specs.occ_bits.Layout.{state_of}
+use Rattle.occ_norm_frame.specs.occ_choice.Joined.{maybe_fails, maybe_ends}
+use Rattle.occ_norm_frame.specs.occ_dd.Store.{has}
+use Rattle.occ_norm_frame.specs.occ_dd.declared.set.SetId.{SetId}
+use Rattle.occ_norm_frame.specs.occ_mdd.Maps.{value}
+use Rattle.occ_norm_frame.specs.occ_mdd.declared.map.MapId.{MapId}
+use Rattle.occ_norm_frame.specs.occ_node.World.{fails, ends}
+use Rattle.occ_norm_frame.specs.occ_node.declared.node.NodeId.{NodeId}
+use Rattle.occ_norm_frame.specs.occ_node.declared.world.World.{World}
+use Rattle.occ_norm_frame.specs.occ_follow.Sequence.{HasNodes}
+use Rattle.occ_norm_frame.specs.Lifted.{IsEither, IsMerged}
+use Rattle.occ_norm_frame.specs.Maps.{MayHaveNodes}
 use Rattle.occ_norm_frame.specs.After.{QuietlyFails, Resumes, change_of}
 use Rattle.occ_norm_alt.specs.Offering.{IsOffering, Leads, Takes}
 

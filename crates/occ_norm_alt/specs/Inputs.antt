@@ -1,17 +1,17 @@
 -- The inputs of the values of some digits, and the outputs of a value, each with what comes after it.
 use Rattle.std.specs.Prelude.{ℕ, zero, suc, ◌+◌, ◌*◌, ◌%◌, ◌<◌, ◌≤◌, ◌≡◌, ◌^◌, Bool, true, List, Some, length, slice_get, bit_and, bit_xor}
 use Rattle.std.specs.Int.{bit_at}
-use Rattle.occ_base.specs.declared.event.Dir.TheVariants.{Input, Output}
-use Rattle.occ_base.specs.declared.event.Event.{Event}
-use Rattle.occ_base.specs.declared.names.Name.{Name}
-use Rattle.occ_diagram.specs.Assignment.{with_bit}
-use Rattle.occ_mdd.specs.Maps.{value}
-use Rattle.occ_mdd.specs.declared.map.MapId.{MapId}
-use Rattle.occ_follow.specs.Sequence.{HasNodes}
-use Rattle.occ_node.specs.World.{fails, ends}
-use Rattle.occ_node.specs.declared.node.NodeId.{NodeId}
-use Rattle.occ_node.specs.declared.world.World.{World}
-use Rattle.occ_norm_maps.specs.Lifted.{IsPrefixed}
+use Rattle.occ_norm_frame.specs.occ_base.declared.event.Dir.TheVariants.{Input, Output}
+use Rattle.occ_norm_frame.specs.occ_base.declared.event.Event.{Event}
+use Rattle.occ_norm_frame.specs.occ_base.declared.names.Name.{Name}
+use Rattle.occ_norm_frame.specs.occ_dd.Assignment.{with_bit}
+use Rattle.occ_norm_frame.specs.occ_mdd.Maps.{value}
+use Rattle.occ_norm_frame.specs.occ_mdd.declared.map.MapId.{MapId}
+use Rattle.occ_norm_frame.specs.occ_follow.Sequence.{HasNodes}
+use Rattle.occ_norm_frame.specs.occ_node.World.{fails, ends}
+use Rattle.occ_norm_frame.specs.occ_node.declared.node.NodeId.{NodeId}
+use Rattle.occ_norm_frame.specs.occ_node.declared.world.World.{World}
+use Rattle.occ_norm_frame.specs.Lifted.{IsPrefixed}
 use Rattle.occ_norm_alt.specs.Offering.{At, IsOffering}
 
 -- the assignment with the bits from `first` on, so many, made the digits of a value

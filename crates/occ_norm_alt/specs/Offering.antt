@@ -1,19 +1,19 @@
 -- Nodes that wait for events, and maps of a guard and what follows it.
 use Rattle.std.specs.Prelude.{ℕ, ◌<◌, ◌≡◌, ◌^◌, ◌↔◌, Bool, true, false, List, [], ◌∷◌, Some, bit_xor}
-use Rattle.occ_base.specs.declared.event.Event.{Event}
-use Rattle.occ_base.specs.declared.names.Name.{Name}
-use Rattle.occ_base.specs.declared.width.Width.{Width}
+use Rattle.occ_norm_frame.specs.occ_base.declared.event.Event.{Event}
+use Rattle.occ_norm_frame.specs.occ_base.declared.names.Name.{Name}
+use Rattle.occ_norm_frame.specs.occ_base.declared.width.Width.{Width}
 use Rattle.occ_syntax.specs.Meaning.{After}
 use Rattle.occ_syntax.specs.Scopes.{Environment, Values}
 use Rattle.occ_syntax.specs.Tree.{Waiting}
-use Rattle.occ_bits.specs.Layout.{state_of}
-use Rattle.occ_mdd.specs.Maps.{value}
-use Rattle.occ_mdd.specs.declared.map.MapId.{MapId}
-use Rattle.occ_node.specs.Offers.{is_offered}
-use Rattle.occ_node.specs.World.{IsNode, row_of, fails, ends}
-use Rattle.occ_node.specs.declared.node.NodeId.{NodeId}
-use Rattle.occ_node.specs.declared.world.World.{World}
-use Rattle.occ_weave.specs.Weave.{is_open}
+use Rattle.occ_norm_frame.specs.occ_bits.Layout.{state_of}
+use Rattle.occ_norm_frame.specs.occ_mdd.Maps.{value}
+use Rattle.occ_norm_frame.specs.occ_mdd.declared.map.MapId.{MapId}
+use Rattle.occ_norm_frame.specs.occ_node.Offers.{is_offered}
+use Rattle.occ_norm_frame.specs.occ_node.World.{IsNode, row_of, fails, ends}
+use Rattle.occ_norm_frame.specs.occ_node.declared.node.NodeId.{NodeId}
+use Rattle.occ_norm_frame.specs.occ_node.declared.world.World.{World}
+use Rattle.occ_norm_frame.specs.occ_weave.Weave.{is_open}
 use Rattle.occ_norm_frame.specs.After.{change_of}
 
 -- The node is stable at once and refuses what has none of the events that it takes; it hasn't ended, and after an event it

@@ -1,14 +1,14 @@
 ghost use Rattle.std.specs.Prelude.{◌≡◌, ℕ, ◌+◌, ◌^◌, ◌≤◌, ◌<◌, true, List, length, take, IfOk, IsSome};
 ghost use Rattle.std.specs.Bool.{OnTrue};
 ghost use Rattle.std.specs.List.{All};
-ghost use Rattle.occ_base.specs.declared.names.Name.{Name};
-ghost use Rattle.occ_base.specs.declared.width.Width.{Width};
-ghost use Rattle.occ_bits.specs.Layout.{environment_in};
-ghost use Rattle.occ_bits.specs.Words.{number_at};
-ghost use Rattle.occ_dd.specs.Store.{IsKnown as IsSetKnown, has};
-ghost use Rattle.occ_follow.specs.Sequence.{HasNodes};
-ghost use Rattle.occ_mdd.specs.Maps.{IsKnown};
-ghost use Rattle.occ_norm_maps.specs.Maps.{Extends, MayHaveNodes};
+ghost use Rattle.occ_norm_frame.specs.occ_base.declared.names.Name.{Name};
+ghost use Rattle.occ_norm_frame.specs.occ_base.declared.width.Width.{Width};
+ghost use Rattle.occ_norm_frame.specs.occ_bits.Layout.{environment_in};
+ghost use Rattle.occ_norm_frame.specs.occ_bits.Words.{number_at};
+ghost use Rattle.occ_norm_frame.specs.occ_dd.Store.{IsKnown as IsSetKnown, has};
+ghost use Rattle.occ_norm_frame.specs.occ_follow.Sequence.{HasNodes};
+ghost use Rattle.occ_norm_frame.specs.occ_mdd.Maps.{IsKnown};
+ghost use Rattle.occ_norm_frame.specs.Maps.{Extends, MayHaveNodes};
 ghost use Rattle.occ_syntax.specs.Scopes.{variable_width};
 ghost use Rattle.occ_syntax.specs.Types.{type_of};
 ghost use Rattle.occ_syntax.specs.Scopes.{Environment};
@@ -23,12 +23,9 @@ ghost use Rattle.occ_norm_alt.specs.Offering.{IsGuarded};
 
 use crate::rows::Rows;
 use crate::values::{Block, Inputs};
-use occ_base::{Dir, Event, Memory, Name};
-use occ_bits::WordBits;
-use occ_dd::SetId;
-use occ_mdd::MapId;
-use occ_norm_frame::{Frame, bits_from, digits, rebased};
-use occ_norm_maps::Normaliser;
+use occ_norm_frame::{
+    Dir, Event, Frame, MapId, Memory, Name, Normaliser, SetId, WordBits, bits_from, digits, rebased,
+};
 use occ_syntax::{Expr, Wait};
 
 /// An ALT so far: what its events lead to, and what its ready guards lead to, if there is one.

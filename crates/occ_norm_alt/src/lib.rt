@@ -6,3 +6,6 @@ mod rows;
 mod values;
 
 pub use choice::{Alternation, Alternative, Get, Put, input, output};
+pub use occ_norm_frame::{
+    Accepted, Frame, Normaliser, ending, except, freed, holds, keeps, rebased,
+};

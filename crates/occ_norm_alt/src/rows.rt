@@ -1,15 +1,10 @@
 ghost use Rattle.std.specs.Prelude.{◌≡◌, ◌≤◌, IfOk};
-ghost use Rattle.occ_follow.specs.Sequence.{HasNodes};
-ghost use Rattle.occ_norm_maps.specs.Maps.{Extends};
+ghost use Rattle.occ_norm_frame.specs.occ_follow.Sequence.{HasNodes};
+ghost use Rattle.occ_norm_frame.specs.Maps.{Extends};
 ghost use Rattle.occ_norm_alt.specs.Inputs.{AreInputsAt, AreNexts, AreRows, placed};
 
 use crate::values::Inputs;
-use occ_base::Memory;
-use occ_choice::prefix_in;
-use occ_mdd::MapId;
-use occ_node::NodeId;
-use occ_norm_frame::{has_bit, node_at, with_bit};
-use occ_norm_maps::Normaliser;
+use occ_norm_frame::{MapId, Memory, NodeId, Normaliser, has_bit, node_at, prefix_in, with_bit};
 
 /// What the rows of inputs are made of, one for each state: the inputs, and the map of what follows.
 #[derive(Clone, Copy)]

@@ -6,16 +6,16 @@ use Rattle.std.specs.Int.Bits.{bit_xor, xor_assoc, xor_zero_r}
 use Rattle.std.specs.List.{list_any}
 use Rattle.std.proofs.lemmas.Nat.{xor_comm}
 use Rattle.std.proofs.lemmas.Nat.Bits.{bit_at-lt, bit_at-pow_other, bit_at-zero, bit_at_and, bit_at_xor, same_from_bits}
-use Rattle.occ_base.specs.declared.names.Name.{Name}
-use Rattle.occ_base.specs.declared.width.Width.{Width}
-use Rattle.occ_base.specs.Width.{bits_of}
-use Rattle.occ_bits.specs.Layout.{IsLayout, entry_of, environment_in}
-use Rattle.occ_bits.specs.Words.{digit}
-use Rattle.occ_diagram.specs.Assignment.{turned, with_bit}
-use Rattle.occ_diagram.proofs.Bits.{bit_at-with_bit_other, bit_cases, with_bit_same}
-use Rattle.occ_dd.specs.Store.{has}
-use Rattle.occ_dd.specs.declared.set.SetId.{SetId}
-use Rattle.occ_dd.specs.declared.store.Store.{Store}
+use Rattle.occ_norm_frame.specs.occ_base.declared.names.Name.{Name}
+use Rattle.occ_norm_frame.specs.occ_base.declared.width.Width.{Width}
+use Rattle.occ_norm_frame.specs.occ_base.Width.{bits_of}
+use Rattle.occ_norm_frame.specs.occ_bits.Layout.{IsLayout, entry_of, environment_in}
+use Rattle.occ_norm_frame.specs.occ_bits.Words.{digit}
+use Rattle.occ_norm_frame.specs.occ_dd.Assignment.{turned, with_bit}
+use Rattle.occ_norm_frame.proofs.from_dd.Bits.{bit_at-with_bit_other, bit_cases, with_bit_same}
+use Rattle.occ_norm_frame.specs.occ_dd.Store.{has}
+use Rattle.occ_norm_frame.specs.occ_dd.declared.set.SetId.{SetId}
+use Rattle.occ_norm_frame.specs.occ_dd.declared.store.Store.{Store}
 use Rattle.occ_syntax.specs.Tree.{Exp}
 use Rattle.occ_syntax.specs.Types.{pairs_kept}
 use Rattle.occ_norm_frame.specs.After.{change_of}

@@ -7,22 +7,22 @@ use Rattle.std.proofs.lemmas.List.Elements.{All-take}
 use Rattle.std.proofs.lemmas.Nat.Bits.{and_pow as and_one_bit}
 use Rattle.std.specs.Int.{bit_at}
 use Rattle.std.specs.Int.Bits.{bit_and, bit_xor, xor_zero_r}
-use Rattle.occ_bits.specs.Words.{digit}
-use Rattle.occ_diagram.specs.Assignment.{turned, with_bit}
-use Rattle.occ_diagram.proofs.Bits.{bit_at-with_bit_other, bit_cases}
-use Rattle.occ_dd.specs.Store.{IsKnown, IsSet, Keeps, has}
-use Rattle.occ_dd.specs.declared.set.SetId.{SetId}
-use Rattle.occ_dd.proofs.Callers.{known-keeps}
-use Rattle.occ_dd.specs.declared.store.Store.{Store}
-use Rattle.occ_mdd.specs.Maps.{IsMap, value}
-use Rattle.occ_mdd.specs.declared.map.MapId.{MapId}
-use Rattle.occ_node.specs.declared.node.NodeId.{NodeId}
-use Rattle.occ_node.specs.declared.world.World.{World}
-use Rattle.occ_follow.specs.Sequence.{HasNodes}
-use Rattle.occ_norm_maps.specs.Growth.{turned_grow}
-use Rattle.occ_norm_maps.specs.Lifted.{IsTurned}
-use Rattle.occ_norm_maps.specs.Maps.{Extends}
-use Rattle.occ_norm_maps.proofs.Worlds.{extends_trans, has_nodes-extends}
+use Rattle.occ_norm_frame.specs.occ_bits.Words.{digit}
+use Rattle.occ_norm_frame.specs.occ_dd.Assignment.{turned, with_bit}
+use Rattle.occ_norm_frame.proofs.from_dd.Bits.{bit_at-with_bit_other, bit_cases}
+use Rattle.occ_norm_frame.specs.occ_dd.Store.{IsKnown, IsSet, Keeps, has}
+use Rattle.occ_norm_frame.specs.occ_dd.declared.set.SetId.{SetId}
+use Rattle.occ_norm_frame.proofs.from_dd.Callers.{known-keeps}
+use Rattle.occ_norm_frame.specs.occ_dd.declared.store.Store.{Store}
+use Rattle.occ_norm_frame.specs.occ_mdd.Maps.{IsMap, value}
+use Rattle.occ_norm_frame.specs.occ_mdd.declared.map.MapId.{MapId}
+use Rattle.occ_norm_frame.specs.occ_node.declared.node.NodeId.{NodeId}
+use Rattle.occ_norm_frame.specs.occ_node.declared.world.World.{World}
+use Rattle.occ_norm_frame.specs.occ_follow.Sequence.{HasNodes}
+use Rattle.occ_norm_frame.specs.Growth.{turned_grow}
+use Rattle.occ_norm_frame.specs.Lifted.{IsTurned}
+use Rattle.occ_norm_frame.specs.Maps.{Extends}
+use Rattle.occ_norm_frame.proofs.Worlds.{extends_trans, has_nodes-extends}
 use Rattle.occ_norm_frame.specs.Changes.{IsChanged}
 use Rattle.occ_norm_frame.proofs.After.{value_was}
 use Rattle.occ_norm_frame.proofs.Keeping.{set-extends}

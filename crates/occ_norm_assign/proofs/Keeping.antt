@@ -4,18 +4,18 @@ use Rattle.std.proofs.lemmas.List.Elements.{All-push}
 use Rattle.std.proofs.Math.Seq.{take-suc}
 use Rattle.std.proofs.lemmas.List.{length-map, length-take-le, map-append, take_all}
 use Rattle.std.specs.List.{All}
-use Rattle.occ_base.specs.declared.names.Name.{Name}
-use Rattle.occ_base.specs.declared.width.Width.{Width}
+use Rattle.occ_norm_frame.specs.occ_base.declared.names.Name.{Name}
+use Rattle.occ_norm_frame.specs.occ_base.declared.width.Width.{Width}
 use Rattle.occ_syntax.specs.declared.expr.Expr.{Expr}
 use Rattle.occ_syntax.specs.Scopes.{variable_width}
 use Rattle.occ_syntax.specs.Types.{agree, pairs_kept, type_of}
 use Rattle.occ_syntax.specs.View.{exp, exps, numbers}
-use Rattle.occ_bits.specs.Layout.{environment_in}
-use Rattle.occ_dd.specs.Store.{IsKnown}
-use Rattle.occ_dd.specs.declared.set.SetId.{SetId}
-use Rattle.occ_dd.specs.declared.store.Store.{Store}
-use Rattle.occ_node.specs.declared.world.World.{World}
-use Rattle.occ_norm_maps.specs.Maps.{Extends}
+use Rattle.occ_norm_frame.specs.occ_bits.Layout.{environment_in}
+use Rattle.occ_norm_frame.specs.occ_dd.Store.{IsKnown}
+use Rattle.occ_norm_frame.specs.occ_dd.declared.set.SetId.{SetId}
+use Rattle.occ_norm_frame.specs.occ_dd.declared.store.Store.{Store}
+use Rattle.occ_norm_frame.specs.occ_node.declared.world.World.{World}
+use Rattle.occ_norm_frame.specs.Maps.{Extends}
 use Rattle.occ_norm_frame.proofs.Keeping.{set-extends}
 use Rattle.occ_norm_frame.proofs.Placing.{pair_at}
 use Rattle.occ_norm_assign.specs.Writes.{AreWrites, IsWrite}

@@ -5,3 +5,11 @@ pub mod Apart
 pub mod Substituted
 pub mod Assigning
 pub mod Exchanging
+pub mod Writing
+pub mod Moving
+pub mod Choosing
+pub mod Runs
+pub mod Putting
+pub mod Listing
+pub mod Picking
+pub mod Laying

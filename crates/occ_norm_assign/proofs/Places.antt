@@ -5,15 +5,15 @@ use Rattle.std.proofs.lemmas.Bool.{cases_Bool, eqb-true, eq-eqb}
 use Rattle.std.proofs.lemmas.Nat.{pow_pos}
 use Rattle.std.proofs.lemmas.Nat.Bits.{same_from_bits_below}
 use Rattle.std.specs.Int.{bit_at}
-use Rattle.occ_base.specs.declared.names.Name.{Name}
-use Rattle.occ_base.specs.declared.width.Width.{Width}
-use Rattle.occ_base.specs.Width.{bits_of}
+use Rattle.occ_norm_frame.specs.occ_base.declared.names.Name.{Name}
+use Rattle.occ_norm_frame.specs.occ_base.declared.width.Width.{Width}
+use Rattle.occ_norm_frame.specs.occ_base.Width.{bits_of}
 use Rattle.occ_syntax.specs.declared.scope.Kind.{Kind}
 use Rattle.occ_syntax.specs.declared.scope.Kind.TheVariants.{Var, Chan}
 use Rattle.occ_syntax.specs.Scopes.{with_value}
-use Rattle.occ_bits.specs.Layout.{IsLayout, entry_of, laid_out, scope_in, state_of}
-use Rattle.occ_bits.proofs.Arithmetic.{higher_bit, low_bit}
-use Rattle.occ_bits.proofs.Laid.{found_state, same_pair}
+use Rattle.occ_norm_frame.specs.occ_bits.Layout.{IsLayout, entry_of, laid_out, scope_in, state_of}
+use Rattle.occ_norm_frame.proofs.from_bits.Arithmetic.{higher_bit, low_bit}
+use Rattle.occ_norm_frame.proofs.from_bits.Laid.{found_state, same_pair}
 use Rattle.occ_norm_frame.proofs.After.{zero_off}
 
 -- ---- a variable's number and its bits

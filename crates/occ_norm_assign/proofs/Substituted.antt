@@ -2,21 +2,21 @@
 use Rattle.std.proofs.Common.{◌≡◌, ℕ, suc, ◌<◌, ◌^◌, Bool, true, false, cond, List, [], ◌∷◌, Some, None, length, get_or, take, refl, sym, ap, ◌∙◌, subst, arith, ⊎_elim}
 use Rattle.std.proofs.Math.Seq.{take-suc}
 use Rattle.std.proofs.lemmas.List.Elements.{All-take}
-use Rattle.occ_bits.specs.Words.{digit}
-use Rattle.occ_bits.proofs.Numbers.{digit-keeps}
-use Rattle.occ_diagram.specs.Assignment.{with_bit}
-use Rattle.occ_diagram.proofs.Bits.{with_bit_lt}
-use Rattle.occ_diagram.specs.Memo.{Learns, recalled}
-use Rattle.occ_diagram.specs.declared.memo.Call.{Call}
-use Rattle.occ_diagram.specs.declared.memo.Memo.{Memo}
-use Rattle.occ_dd.specs.Store.{Keeps, has}
-use Rattle.occ_dd.specs.declared.store.Store.{Store}
-use Rattle.occ_mdd.specs.Maps.{IsKnown, IsMap, value}
-use Rattle.occ_mdd.specs.declared.map.MapId.{MapId}
-use Rattle.occ_node.specs.declared.world.World.{World}
-use Rattle.occ_follow.specs.Sequence.{HasNodes}
-use Rattle.occ_norm_maps.specs.Maps.{Extends}
-use Rattle.occ_norm_maps.proofs.Worlds.{extends_trans, has_nodes-extends, map-keeps}
+use Rattle.occ_norm_frame.specs.occ_bits.Words.{digit}
+use Rattle.occ_norm_frame.proofs.from_bits.Numbers.{digit-keeps}
+use Rattle.occ_norm_frame.specs.occ_dd.Assignment.{with_bit}
+use Rattle.occ_norm_frame.proofs.from_dd.Bits.{with_bit_lt}
+use Rattle.occ_norm_frame.specs.occ_dd.Memo.{Learns, recalled}
+use Rattle.occ_norm_frame.specs.occ_dd.declared.memo.Call.{Call}
+use Rattle.occ_norm_frame.specs.occ_dd.declared.memo.Memo.{Memo}
+use Rattle.occ_norm_frame.specs.occ_dd.Store.{Keeps, has}
+use Rattle.occ_norm_frame.specs.occ_dd.declared.store.Store.{Store}
+use Rattle.occ_norm_frame.specs.occ_mdd.Maps.{IsKnown, IsMap, value}
+use Rattle.occ_norm_frame.specs.occ_mdd.declared.map.MapId.{MapId}
+use Rattle.occ_norm_frame.specs.occ_node.declared.world.World.{World}
+use Rattle.occ_norm_frame.specs.occ_follow.Sequence.{HasNodes}
+use Rattle.occ_norm_frame.specs.Maps.{Extends}
+use Rattle.occ_norm_frame.proofs.Worlds.{extends_trans, has_nodes-extends, map-keeps}
 use Rattle.occ_norm_frame.specs.Kept.{map_id}
 use Rattle.occ_norm_assign.specs.Writes.{AreWrites, IsWrite}
 use Rattle.occ_norm_assign.specs.Written.{IsSubstituted, KeepSubstituted, onto}

@@ -3,19 +3,19 @@ use Rattle.std.proofs.Common.{◌≡◌, ◌⊎◌, inl, inr, ℕ, zero, suc, �
 use Rattle.std.proofs.lemmas.Bool.{and_parts, eqb-true, eq-eqb}
 use Rattle.std.specs.Int.{bit_at}
 use Rattle.std.specs.List.{list_any}
-use Rattle.occ_base.specs.declared.names.Name.{Name}
-use Rattle.occ_base.specs.declared.width.Width.{Width}
-use Rattle.occ_base.specs.Width.{bits_of}
-use Rattle.occ_bits.specs.Layout.{IsLayout, entry_of, environment_in, state_of}
-use Rattle.occ_bits.specs.Words.{digit, number_at, value_at}
-use Rattle.occ_bits.proofs.Compared.{same_count}
-use Rattle.occ_bits.proofs.Laid.{found_width}
-use Rattle.occ_bits.proofs.Numbers.{digit_small, number_below, number_bit, word-keeps}
-use Rattle.occ_diagram.specs.Assignment.{with_bit}
-use Rattle.occ_diagram.proofs.Bits.{bit_at-with_bit_other, bit_at-with_bit_same}
-use Rattle.occ_dd.specs.Store.{Keeps}
-use Rattle.occ_dd.specs.declared.set.SetId.{SetId}
-use Rattle.occ_dd.specs.declared.store.Store.{Store}
+use Rattle.occ_norm_frame.specs.occ_base.declared.names.Name.{Name}
+use Rattle.occ_norm_frame.specs.occ_base.declared.width.Width.{Width}
+use Rattle.occ_norm_frame.specs.occ_base.Width.{bits_of}
+use Rattle.occ_norm_frame.specs.occ_bits.Layout.{IsLayout, entry_of, environment_in, state_of}
+use Rattle.occ_norm_frame.specs.occ_bits.Words.{digit, number_at, value_at}
+use Rattle.occ_norm_frame.proofs.from_bits.Compared.{same_count}
+use Rattle.occ_norm_frame.proofs.from_bits.Laid.{found_width}
+use Rattle.occ_norm_frame.proofs.from_bits.Numbers.{digit_small, number_below, number_bit, word-keeps}
+use Rattle.occ_norm_frame.specs.occ_dd.Assignment.{with_bit}
+use Rattle.occ_norm_frame.proofs.from_dd.Bits.{bit_at-with_bit_other, bit_at-with_bit_same}
+use Rattle.occ_norm_frame.specs.occ_dd.Store.{Keeps}
+use Rattle.occ_norm_frame.specs.occ_dd.declared.set.SetId.{SetId}
+use Rattle.occ_norm_frame.specs.occ_dd.declared.store.Store.{Store}
 use Rattle.occ_syntax.specs.Eval.{bits_in, bits_of_exp, eval}
 use Rattle.occ_syntax.specs.Meaning.{assigned}
 use Rattle.occ_syntax.specs.Scopes.{Environment, Values, variable_width, with_value}

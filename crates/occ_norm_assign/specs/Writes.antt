@@ -1,8 +1,8 @@
 -- The bits that an assignment writes.
 use Rattle.std.specs.Prelude.{◌<◌, List}
 use Rattle.std.specs.List.{All}
-use Rattle.occ_dd.specs.Store.{IsKnown}
-use Rattle.occ_dd.specs.declared.store.Store.{Store}
+use Rattle.occ_norm_frame.specs.occ_dd.Store.{IsKnown}
+use Rattle.occ_norm_frame.specs.occ_dd.declared.store.Store.{Store}
 use Rattle.occ_norm_assign.specs.declared.writes.Write.{Write}
 
 -- each write is of a bit of the states, by a set of the store

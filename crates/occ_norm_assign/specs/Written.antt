@@ -1,23 +1,23 @@
 -- What writes make of an assignment.
 use Rattle.std.specs.Prelude.{ℕ, ◌+◌, ◌<◌, ◌≡◌, ◌==◌, ◌^◌, ◌++◌, Bool, length, not, List, [], ◌∷◌, Some, get_or, take, bit_xor, if◌then◌else◌}
 use Rattle.std.specs.Int.{bit_at}
-use Rattle.occ_base.specs.declared.names.Name.{Name}
-use Rattle.occ_base.specs.declared.width.Width.{Width}
-use Rattle.occ_bits.specs.Layout.{entry_of}
-use Rattle.occ_bits.specs.Words.{IsValue, digit}
-use Rattle.occ_diagram.specs.Assignment.{turned, with_bit}
-use Rattle.occ_dd.specs.Store.{IsSet, has}
-use Rattle.occ_dd.specs.declared.set.SetId.{SetId}
-use Rattle.occ_dd.specs.declared.store.Store.{Store}
-use Rattle.occ_diagram.specs.Memo.{recalled}
-use Rattle.occ_diagram.specs.declared.memo.Call.{Call}
-use Rattle.occ_diagram.specs.declared.memo.Memo.{Memo}
-use Rattle.occ_mdd.specs.Maps.{IsKnown, value}
-use Rattle.occ_mdd.specs.declared.map.MapId.{MapId}
-use Rattle.occ_node.specs.declared.node.NodeId.{NodeId}
-use Rattle.occ_node.specs.declared.world.World.{World}
-use Rattle.occ_norm_maps.specs.Lifted.{IsTurned}
-use Rattle.occ_follow.specs.Sequence.{HasNodes}
+use Rattle.occ_norm_frame.specs.occ_base.declared.names.Name.{Name}
+use Rattle.occ_norm_frame.specs.occ_base.declared.width.Width.{Width}
+use Rattle.occ_norm_frame.specs.occ_bits.Layout.{entry_of}
+use Rattle.occ_norm_frame.specs.occ_bits.Words.{IsValue, digit}
+use Rattle.occ_norm_frame.specs.occ_dd.Assignment.{turned, with_bit}
+use Rattle.occ_norm_frame.specs.occ_dd.Store.{IsSet, has}
+use Rattle.occ_norm_frame.specs.occ_dd.declared.set.SetId.{SetId}
+use Rattle.occ_norm_frame.specs.occ_dd.declared.store.Store.{Store}
+use Rattle.occ_norm_frame.specs.occ_dd.Memo.{recalled}
+use Rattle.occ_norm_frame.specs.occ_dd.declared.memo.Call.{Call}
+use Rattle.occ_norm_frame.specs.occ_dd.declared.memo.Memo.{Memo}
+use Rattle.occ_norm_frame.specs.occ_mdd.Maps.{IsKnown, value}
+use Rattle.occ_norm_frame.specs.occ_mdd.declared.map.MapId.{MapId}
+use Rattle.occ_norm_frame.specs.occ_node.declared.node.NodeId.{NodeId}
+use Rattle.occ_norm_frame.specs.occ_node.declared.world.World.{World}
+use Rattle.occ_norm_frame.specs.Lifted.{IsTurned}
+use Rattle.occ_norm_frame.specs.occ_follow.Sequence.{HasNodes}
 use Rattle.occ_syntax.specs.Tree.{Exp}
 use Rattle.occ_norm_frame.specs.Kept.{map_id}
 use Rattle.occ_norm_assign.specs.declared.writes.Parts.{Parts}

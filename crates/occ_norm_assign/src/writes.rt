@@ -1,10 +1,10 @@
 ghost use Rattle.std.specs.Prelude.{◌≡◌, ℕ, ◌+◌, ◌++◌, ◌≤◌, ◌<◌, true, length, IfOk, OnOk};
 ghost use Rattle.std.specs.List.{All};
-ghost use Rattle.occ_bits.specs.Layout.{environment_in};
-ghost use Rattle.occ_dd.specs.Store.{IsKnown as IsSetKnown};
-ghost use Rattle.occ_dd.specs.declared.store.Store.{Store};
-ghost use Rattle.occ_follow.specs.Sequence.{HasNodes};
-ghost use Rattle.occ_norm_maps.specs.Maps.{Extends};
+ghost use Rattle.occ_norm_frame.specs.occ_bits.Layout.{environment_in};
+ghost use Rattle.occ_norm_frame.specs.occ_dd.Store.{IsKnown as IsSetKnown};
+ghost use Rattle.occ_norm_frame.specs.occ_dd.declared.store.Store.{Store};
+ghost use Rattle.occ_norm_frame.specs.occ_follow.Sequence.{HasNodes};
+ghost use Rattle.occ_norm_frame.specs.Maps.{Extends};
 ghost use Rattle.occ_syntax.specs.Types.{pairs_kept};
 ghost use Rattle.occ_syntax.specs.View.{exp, exps, numbers};
 ghost use Rattle.occ_syntax.specs.Scopes.{Environment};
@@ -15,12 +15,9 @@ ghost use Rattle.occ_norm_frame.specs.Placed.{IsAround};
 ghost use Rattle.occ_norm_assign.specs.Writes.{AreWrites, IsWrite};
 ghost use Rattle.occ_norm_assign.specs.Written.{AreAssigned, AreDistinct, AreFree, AreParts, CanExchange, IsApplied, IsExchanged, IsFree, IsSubstituted, KeepSubstituted, digit_writes, step};
 
-use occ_base::{Memory, Name};
-use occ_dd::SetId;
-use occ_diagram::{Call, Memo};
-use occ_mdd::MapId;
-use occ_norm_frame::{Frame, digits, has_bit, is_full, turned_on};
-use occ_norm_maps::Normaliser;
+use occ_norm_frame::{
+    Call, Frame, MapId, Memo, Memory, Name, Normaliser, SetId, digits, has_bit, is_full, turned_on,
+};
 use occ_syntax::Expr;
 
 /// A bit that is assigned, with the set of the states in which it becomes 1.

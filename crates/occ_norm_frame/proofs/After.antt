@@ -7,10 +7,10 @@ use Rattle.std.proofs.lemmas.Nat.{pow_pos}
 use Rattle.std.proofs.lemmas.Option.{same_Some}
 use Rattle.std.proofs.lemmas.Bool.{cases_Bool, cases_lt}
 use Rattle.std.proofs.lemmas.Nat.Bits.{bit_at_and, bit_at_xor, bit_at_above, same_from_bits, same_from_bits_below}
-use Rattle.occ_base.specs.declared.event.Event.{Event}
-use Rattle.occ_base.specs.declared.names.Name.{Name}
-use Rattle.occ_base.specs.declared.width.Width.{Width}
-use Rattle.occ_base.specs.Width.{bits_of}
+use Rattle.occ_bits.specs.occ_base.declared.event.Event.{Event}
+use Rattle.occ_bits.specs.occ_base.declared.names.Name.{Name}
+use Rattle.occ_bits.specs.occ_base.declared.width.Width.{Width}
+use Rattle.occ_bits.specs.occ_base.Width.{bits_of}
 use Rattle.occ_syntax.specs.declared.scope.Kind.{Kind}
 use Rattle.occ_syntax.specs.declared.scope.Kind.TheVariants.{Var, Chan}
 use Rattle.occ_syntax.specs.Counts.{bits_of_scope}
@@ -18,24 +18,24 @@ use Rattle.occ_syntax.specs.Meaning.{fails as part_fails, ends as part_ends}
 use Rattle.occ_syntax.specs.Scopes.{Environment, IsState, Values, variable_width}
 use Rattle.occ_syntax.specs.Tree.{Tree}
 use Rattle.occ_syntax.specs.Types.{types_kept}
-use Rattle.occ_meaning.proofs.Frame.{part_value, written_in_scope}
-use Rattle.occ_meaning.proofs.States.{part_states}
+use Rattle.occ_bits.proofs.from_meaning.Frame.{part_value, written_in_scope}
+use Rattle.occ_bits.proofs.from_meaning.States.{part_states}
 use Rattle.occ_bits.specs.Layout.{assignment_of, entry_of, environment_in, laid_out, scope_in, state_of}
 use Rattle.occ_bits.proofs.Arithmetic.{low_bit, higher_bit}
 use Rattle.occ_bits.proofs.Laid.{found_width, laid_bits, missing}
 use Rattle.occ_bits.proofs.States.{are_states, state_fits}
-use Rattle.occ_diagram.specs.Assignment.{turned}
-use Rattle.occ_mdd.specs.Maps.{value}
-use Rattle.occ_mdd.specs.declared.map.MapId.{MapId}
-use Rattle.occ_node.specs.World.{IsNode, fails, ends}
-use Rattle.occ_node.specs.declared.node.NodeId.{NodeId}
-use Rattle.occ_node.specs.declared.world.World.{World}
-use Rattle.occ_node.proofs.Recovery.{canonical}
+use Rattle.occ_bits.specs.occ_dd.Assignment.{turned}
+use Rattle.occ_weave.specs.occ_mdd.Maps.{value}
+use Rattle.occ_weave.specs.occ_mdd.declared.map.MapId.{MapId}
+use Rattle.occ_weave.specs.occ_node.World.{IsNode, fails, ends}
+use Rattle.occ_weave.specs.occ_node.declared.node.NodeId.{NodeId}
+use Rattle.occ_weave.specs.occ_node.declared.world.World.{World}
+use Rattle.occ_weave.proofs.from_node.Recovery.{canonical}
 use Rattle.occ_follow.specs.Sequence.{HasNodes}
 use Rattle.occ_weave.specs.Weave.{off_channels}
-use Rattle.occ_norm_maps.specs.Growth.{turned_grow}
-use Rattle.occ_norm_maps.specs.Maps.{Extends}
-use Rattle.occ_norm_maps.proofs.Worlds.{has_nodes-extends}
+use Rattle.occ_norm_frame.specs.Growth.{turned_grow}
+use Rattle.occ_norm_frame.specs.Maps.{Extends}
+use Rattle.occ_norm_frame.proofs.Worlds.{has_nodes-extends}
 use Rattle.occ_norm_frame.specs.After.{AgreeBelow, IsAfter, IsOver, QuietlyFails, Resumes, change_of}
 use Rattle.occ_norm_frame.specs.Changes.{IsChanged, IsFreed, IsSupport, Somewhere}
 use Rattle.occ_norm_frame.specs.Placed.{IsAround, IsFrame}

@@ -8,23 +8,23 @@ use Rattle.std.proofs.lemmas.Option.{same_Some}
 use Rattle.std.proofs.lemmas.Bool.{cases_Bool, cases_lt, or_cases, cond_both, or_left, or_right}
 use Rattle.std.proofs.lemmas.Nat.{and_le_l, and_le_r, and_mask, or_lt, pow_pos, xor_lt}
 use Rattle.std.proofs.lemmas.Nat.Bits.{and_pow as and_one_bit, bit_at-lt, bit_at-pow_other, bit_at-pow_same, bit_at_and, bit_at_ones, bit_at_ones_above, bit_at_set_same, bit_at_or, bit_at_xor, same_from_bits}
-use Rattle.occ_diagram.specs.Assignment.{turned, with_bit}
-use Rattle.occ_diagram.proofs.Bits.{one_is, with_bit_lt, zero_is}
-use Rattle.occ_dd.specs.Store.{IsKnown as IsSetKnown, has}
-use Rattle.occ_dd.specs.declared.set.SetId.{SetId}
-use Rattle.occ_mdd.specs.Maps.{IsMap, value}
-use Rattle.occ_mdd.specs.declared.map.MapId.{MapId}
-use Rattle.occ_node.specs.World.{IsNode, fails, ends}
-use Rattle.occ_node.specs.declared.node.NodeId.{NodeId}
-use Rattle.occ_node.specs.declared.world.World.{World}
+use Rattle.occ_bits.specs.occ_dd.Assignment.{turned, with_bit}
+use Rattle.occ_bits.proofs.from_dd.Bits.{one_is, with_bit_lt, zero_is}
+use Rattle.occ_bits.specs.occ_dd.Store.{IsKnown as IsSetKnown, has}
+use Rattle.occ_bits.specs.occ_dd.declared.set.SetId.{SetId}
+use Rattle.occ_weave.specs.occ_mdd.Maps.{IsMap, value}
+use Rattle.occ_weave.specs.occ_mdd.declared.map.MapId.{MapId}
+use Rattle.occ_weave.specs.occ_node.World.{IsNode, fails, ends}
+use Rattle.occ_weave.specs.occ_node.declared.node.NodeId.{NodeId}
+use Rattle.occ_weave.specs.occ_node.declared.world.World.{World}
 use Rattle.occ_follow.specs.Sequence.{HasNodes}
-use Rattle.occ_norm_maps.specs.Growth.{turned_grow}
-use Rattle.occ_norm_maps.specs.Lifted.{IsEither, IsTurned, OnOne}
-use Rattle.occ_norm_maps.specs.Maps.{Extends, Lifts}
-use Rattle.occ_norm_maps.proofs.Worlds.{extends_trans, has_nodes-extends}
+use Rattle.occ_norm_frame.specs.Growth.{turned_grow}
+use Rattle.occ_norm_frame.specs.Lifted.{IsEither, IsTurned, OnOne}
+use Rattle.occ_norm_frame.specs.Maps.{Extends, Lifts}
+use Rattle.occ_norm_frame.proofs.Worlds.{extends_trans, has_nodes-extends}
 use Rattle.occ_norm_frame.specs.Changes.{IsChanged, IsFreed, IsSupport, Somewhere}
 use Rattle.occ_norm_frame.proofs.After.{changed-extends, freed-extends, map_node, value_was}
-use Rattle.occ_norm_frame.proofs.Bits.{agree_far, agree_same, agree_wider, agree_with, one_of_two, pow_more, set_below}
+use Rattle.occ_norm_frame.proofs.FrameBits.{agree_far, agree_same, agree_wider, agree_with, one_of_two, pow_more, set_below}
 
 -- ---- bits of final states turned
 pub turned_none : (w : World) (a : NodeId) → IsNode w a → IsTurned w 0 a a

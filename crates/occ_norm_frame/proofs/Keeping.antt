@@ -1,16 +1,16 @@
 -- What is kept while maps are made.
 use Rattle.std.proofs.Common.{◌≡◌, ◌<◌, ◌^◌, ℕ, List, Some, None, get_or, sym, ◌∙◌, subst}
 use Rattle.std.specs.List.{All}
-use Rattle.occ_dd.specs.Store.{IsKnown}
-use Rattle.occ_dd.specs.declared.set.SetId.{SetId}
-use Rattle.occ_dd.proofs.Callers.{known-keeps}
-use Rattle.occ_mdd.specs.declared.map.MapId.{MapId}
-use Rattle.occ_node.specs.declared.world.World.{World}
+use Rattle.occ_bits.specs.occ_dd.Store.{IsKnown}
+use Rattle.occ_bits.specs.occ_dd.declared.set.SetId.{SetId}
+use Rattle.occ_bits.proofs.from_dd.Callers.{known-keeps}
+use Rattle.occ_weave.specs.occ_mdd.declared.map.MapId.{MapId}
+use Rattle.occ_weave.specs.occ_node.declared.world.World.{World}
 use Rattle.occ_follow.specs.Sequence.{HasNodes}
 use Rattle.std.specs.Option.{IfSome}
-use Rattle.occ_mdd.specs.Maps.{IsMap, value}
-use Rattle.occ_node.specs.World.{IsNode}
-use Rattle.occ_norm_maps.specs.Maps.{Extends, MayHaveNodes}
+use Rattle.occ_weave.specs.occ_mdd.Maps.{IsMap, value}
+use Rattle.occ_weave.specs.occ_node.World.{IsNode}
+use Rattle.occ_norm_frame.specs.Maps.{Extends, MayHaveNodes}
 
 pub set-extends : (v w : World) → Extends v w → (s : SetId) → IsKnown v.store s → IsKnown w.store s
 set-extends v w k s h = known-keeps v.store w.store k.grows.stored s h

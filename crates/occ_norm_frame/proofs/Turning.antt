@@ -5,18 +5,18 @@ use Rattle.std.specs.Int.Bits.{bit_and, bit_xor, xor_zero_r}
 use Rattle.std.proofs.lemmas.Option.{same_Some}
 use Rattle.std.proofs.lemmas.Nat.{and_le_l, xor_comm}
 use Rattle.std.proofs.lemmas.Nat.Bits.{bit_at-lt, bit_at_and, bit_at_xor, same_from_bits}
-use Rattle.occ_diagram.specs.Assignment.{with_bit}
-use Rattle.occ_diagram.proofs.Bits.{bit_cases, with_bit_same}
-use Rattle.occ_dd.specs.Store.{IsSet, has}
-use Rattle.occ_dd.specs.declared.set.SetId.{SetId}
-use Rattle.occ_mdd.specs.Maps.{IsMap, value}
-use Rattle.occ_mdd.specs.declared.map.MapId.{MapId}
-use Rattle.occ_node.specs.declared.node.NodeId.{NodeId}
-use Rattle.occ_node.specs.declared.world.World.{World}
+use Rattle.occ_bits.specs.occ_dd.Assignment.{with_bit}
+use Rattle.occ_bits.proofs.from_dd.Bits.{bit_cases, with_bit_same}
+use Rattle.occ_bits.specs.occ_dd.Store.{IsSet, has}
+use Rattle.occ_bits.specs.occ_dd.declared.set.SetId.{SetId}
+use Rattle.occ_weave.specs.occ_mdd.Maps.{IsMap, value}
+use Rattle.occ_weave.specs.occ_mdd.declared.map.MapId.{MapId}
+use Rattle.occ_weave.specs.occ_node.declared.node.NodeId.{NodeId}
+use Rattle.occ_weave.specs.occ_node.declared.world.World.{World}
 use Rattle.occ_follow.specs.Sequence.{HasNodes}
-use Rattle.occ_norm_maps.specs.Lifted.{IsTurned, OnOne}
-use Rattle.occ_norm_maps.specs.Maps.{Extends, Lifts}
-use Rattle.occ_norm_maps.proofs.Worlds.{extends_trans, has_nodes-extends}
+use Rattle.occ_norm_frame.specs.Lifted.{IsTurned, OnOne}
+use Rattle.occ_norm_frame.specs.Maps.{Extends, Lifts}
+use Rattle.occ_norm_frame.proofs.Worlds.{extends_trans, has_nodes-extends}
 use Rattle.occ_norm_frame.specs.Changes.{IsChanged}
 use Rattle.occ_norm_frame.proofs.After.{changed-extends}
 use Rattle.occ_norm_frame.proofs.Changing.{all_change, changed_by, changed_twice, first_change, more_change, no_change, one_change, part_later, xor_in_turn}

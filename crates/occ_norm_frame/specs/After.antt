@@ -1,18 +1,18 @@
 -- What a map from states to nodes has of a process and of what follows it.
 use Rattle.std.specs.Prelude.{ℕ, ◌<◌, ◌≡◌, ◌^◌, ◌↔◌, ◌⊎◌, ◌++◌, Bool, true, List, Some, bit_and, bit_xor}
 use Rattle.std.specs.Int.{bit_at}
-use Rattle.occ_base.specs.declared.event.Event.{Event}
-use Rattle.occ_base.specs.declared.names.Name.{Name}
-use Rattle.occ_base.specs.declared.width.Width.{Width}
+use Rattle.occ_bits.specs.occ_base.declared.event.Event.{Event}
+use Rattle.occ_bits.specs.occ_base.declared.names.Name.{Name}
+use Rattle.occ_bits.specs.occ_base.declared.width.Width.{Width}
 use Rattle.occ_syntax.specs.Meaning.{fails as part_fails, ends as part_ends}
 use Rattle.occ_syntax.specs.Scopes.{Environment}
 use Rattle.occ_syntax.specs.Tree.{Tree}
 use Rattle.occ_bits.specs.Layout.{state_of}
-use Rattle.occ_mdd.specs.Maps.{value}
-use Rattle.occ_mdd.specs.declared.map.MapId.{MapId}
-use Rattle.occ_node.specs.World.{fails, ends}
-use Rattle.occ_node.specs.declared.node.NodeId.{NodeId}
-use Rattle.occ_node.specs.declared.world.World.{World}
+use Rattle.occ_weave.specs.occ_mdd.Maps.{value}
+use Rattle.occ_weave.specs.occ_mdd.declared.map.MapId.{MapId}
+use Rattle.occ_weave.specs.occ_node.World.{fails, ends}
+use Rattle.occ_weave.specs.occ_node.declared.node.NodeId.{NodeId}
+use Rattle.occ_weave.specs.occ_node.declared.world.World.{World}
 use Rattle.occ_follow.specs.Sequence.{HasNodes}
 use Rattle.occ_weave.specs.Weave.{is_silent_on, off_channels}
 

@@ -1,14 +1,14 @@
 -- Maps whose nodes are those of another map with bits of their final states turned, or of all values of some bits.
 use Rattle.std.specs.Prelude.{ℕ, ◌<◌, ◌≤◌, ◌≡◌, ◌^◌, ◌↔◌, ◌⊎◌, Bool, true, List, Some}
 use Rattle.std.specs.Int.{bit_at}
-use Rattle.occ_base.specs.declared.event.Event.{Event}
-use Rattle.occ_diagram.specs.Assignment.{turned}
-use Rattle.occ_mdd.specs.Maps.{value}
-use Rattle.occ_mdd.specs.declared.map.MapId.{MapId}
-use Rattle.occ_node.specs.World.{fails, ends}
-use Rattle.occ_node.specs.declared.node.NodeId.{NodeId}
-use Rattle.occ_node.specs.declared.world.World.{World}
-use Rattle.occ_norm_maps.specs.Lifted.{IsTurned}
+use Rattle.occ_bits.specs.occ_base.declared.event.Event.{Event}
+use Rattle.occ_bits.specs.occ_dd.Assignment.{turned}
+use Rattle.occ_weave.specs.occ_mdd.Maps.{value}
+use Rattle.occ_weave.specs.occ_mdd.declared.map.MapId.{MapId}
+use Rattle.occ_weave.specs.occ_node.World.{fails, ends}
+use Rattle.occ_weave.specs.occ_node.declared.node.NodeId.{NodeId}
+use Rattle.occ_weave.specs.occ_node.declared.world.World.{World}
+use Rattle.occ_norm_frame.specs.Lifted.{IsTurned}
 
 -- at each assignment the node of r is that of the map, with those bits of its final states turned
 pub record IsChanged (w : World) (change : ℕ → ℕ) (map r : MapId) : Type 0 where

@@ -1,15 +1,14 @@
 ghost use Rattle.std.specs.Prelude.{◌≡◌, ℕ, ◌≤◌, ◌<◌, ◌+◌, ◌-◌, ◌^◌, IfOk, bit_and, bit_xor, if◌then◌else◌};
-ghost use Rattle.occ_dd.specs.Store.{IsKnown as IsSetKnown, has};
+ghost use Rattle.occ_bits.specs.occ_dd.Store.{IsKnown as IsSetKnown, has};
 ghost use Rattle.occ_follow.specs.Sequence.{HasNodes};
-ghost use Rattle.occ_mdd.specs.Maps.{IsKnown};
-ghost use Rattle.occ_norm_maps.specs.Maps.{Extends};
+ghost use Rattle.occ_weave.specs.occ_mdd.Maps.{IsKnown};
+ghost use Rattle.occ_norm_frame.specs.Maps.{Extends};
 ghost use Rattle.occ_norm_frame.specs.Changes.{IsChanged, IsFreed, IsSupport};
 
+use crate::Normaliser;
 use crate::frame::has_bit;
-use occ_base::Memory;
-use occ_dd::SetId;
-use occ_mdd::MapId;
-use occ_norm_maps::Normaliser;
+use occ_bits::{Memory, SetId};
+use occ_weave::MapId;
 
 /// The map where, at the states of the set, a bit of all final states is turned.
 pub fn turned_on(world: &mut Normaliser, set: SetId, bit: u32, map: MapId) -> Result<MapId, Memory>

@@ -2,14 +2,14 @@
 use Rattle.std.proofs.Common.{◌≡◌, ℕ, ◌+◌, ◌-◌, ◌/◌, ◌%◌, ◌^◌, ◌<◌, ◌≤◌, ◌==◌, true, false, cond, List, [], ◌∷◌, Option, Some, None, ⊎_elim, refl, sym, ap, ◌∙◌, subst, arith}
 use Rattle.std.specs.Int.{bit_at}
 use Rattle.std.proofs.lemmas.Bool.{and_parts, cases_lt, eqb-true, false_from_ne_true}
-use Rattle.occ_base.specs.declared.names.Name.{Name}
-use Rattle.occ_base.specs.declared.width.Width.{Width}
-use Rattle.occ_base.specs.Width.{bits_of}
-use Rattle.occ_bits.specs.Layout.{entry_of, laid_out, state_of}
-use Rattle.occ_bits.proofs.Arithmetic.{higher_bit, low_bit}
-use Rattle.occ_bits.proofs.Laid.{found_state, found_width, fresh_first, laid_width}
-use Rattle.occ_meaning.proofs.Facts.{at_itself, none_not_some}
-use Rattle.occ_meaning.proofs.Frame.{part_value}
+use Rattle.occ_norm_frame.specs.occ_base.declared.names.Name.{Name}
+use Rattle.occ_norm_frame.specs.occ_base.declared.width.Width.{Width}
+use Rattle.occ_norm_frame.specs.occ_base.Width.{bits_of}
+use Rattle.occ_norm_frame.specs.occ_bits.Layout.{entry_of, laid_out, state_of}
+use Rattle.occ_norm_frame.proofs.from_bits.Arithmetic.{higher_bit, low_bit}
+use Rattle.occ_norm_frame.proofs.from_bits.Laid.{found_state, found_width, fresh_first, laid_width}
+use Rattle.occ_norm_frame.proofs.from_meaning.Facts.{at_itself, none_not_some}
+use Rattle.occ_norm_frame.proofs.from_meaning.Frame.{part_value}
 use Rattle.occ_syntax.specs.declared.scope.Kind.{Kind}
 use Rattle.occ_syntax.specs.declared.scope.Kind.TheVariants.{Var, Chan}
 use Rattle.occ_syntax.specs.Counts.{bits_of_scope}
@@ -19,7 +19,7 @@ use Rattle.occ_syntax.specs.Scopes.{Environment, Trace, Values, environment, var
 use Rattle.occ_syntax.specs.Tree.{Tree}
 use Rattle.occ_syntax.specs.Types.{scope_kept, types_kept}
 use Rattle.occ_norm_frame.proofs.After.{digits_same, states_reached, zero_off}
-use Rattle.occ_norm_frame.proofs.Bits.{pow_more}
+use Rattle.occ_norm_frame.proofs.FrameBits.{pow_more}
 use Rattle.occ_norm_frame.specs.Placed.{IsAround, IsFrame}
 
 same_digits : (x y f n : ℕ) → x / 2 ^ f % 2 ^ n ≡ y / 2 ^ f % 2 ^ n → (i : ℕ) → i < n → bit_at x (f + i) ≡ bit_at y (f + i)

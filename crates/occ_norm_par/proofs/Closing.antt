@@ -1,17 +1,17 @@
 -- Closed channels that a part doesn't use.
 use Rattle.std.proofs.Common.{◌≡◌, ◌<◌, ◌≤◌, ℕ, suc, ◌==◌, ◌&&◌, ◌||◌, inl, inr, Bool, true, false, cond, not, nat_le, nat_lt, List, [], ◌∷◌, length, get_or, ⊎_elim, refl, sym, ap, ◌∙◌, subst, arith}
 use Rattle.std.proofs.lemmas.Bool.{and_from, and_parts, cases_Bool, cases_lt, le-leb, lt-ltb, not-false, not-true, not_from_false, true≢false}
-use Rattle.occ_base.specs.declared.event.Dir.{Dir}
-use Rattle.occ_base.specs.declared.event.Event.{Event}
-use Rattle.occ_base.specs.declared.names.Name.{Name}
-use Rattle.occ_base.specs.declared.width.Width.{Width}
-use Rattle.occ_bits.specs.Layout.{state_of}
-use Rattle.occ_meaning.proofs.Ends.{part_uses}
-use Rattle.occ_meaning.proofs.Facts.{clash}
-use Rattle.occ_meaning.proofs.Refusals.{part_more}
-use Rattle.occ_meaning.specs.Foundation.{AreOnEnds}
-use Rattle.occ_mdd.specs.declared.map.MapId.{MapId}
-use Rattle.occ_node.specs.declared.world.World.{World}
+use Rattle.occ_norm_frame.specs.occ_base.declared.event.Dir.{Dir}
+use Rattle.occ_norm_frame.specs.occ_base.declared.event.Event.{Event}
+use Rattle.occ_norm_frame.specs.occ_base.declared.names.Name.{Name}
+use Rattle.occ_norm_frame.specs.occ_base.declared.width.Width.{Width}
+use Rattle.occ_norm_frame.specs.occ_bits.Layout.{state_of}
+use Rattle.occ_norm_frame.proofs.from_meaning.Ends.{part_uses}
+use Rattle.occ_norm_frame.proofs.from_meaning.Facts.{clash}
+use Rattle.occ_norm_frame.proofs.from_meaning.Refusals.{part_more}
+use Rattle.occ_norm_frame.specs.occ_meaning.Foundation.{AreOnEnds}
+use Rattle.occ_norm_frame.specs.occ_mdd.declared.map.MapId.{MapId}
+use Rattle.occ_norm_frame.specs.occ_node.declared.world.World.{World}
 use Rattle.occ_syntax.specs.Meaning.{Outcome, ended, fails as part_fails, meaning, refusing}
 use Rattle.occ_syntax.specs.Names.{is_in, uses_end}
 use Rattle.occ_syntax.specs.Scopes.{Environment, EventSet, Trace, Values}
@@ -19,9 +19,9 @@ use Rattle.occ_syntax.specs.Tree.{Tree, par}
 use Rattle.occ_syntax.specs.Types.{all_types_kept, types_kept}
 use Rattle.occ_syntax.specs.View.{numbers, trees}
 use Rattle.occ_syntax.specs.declared.proc.Proc.{Proc}
-use Rattle.occ_weave.specs.Weave.{is_open, is_silent_on, off_channels}
+use Rattle.occ_norm_frame.specs.occ_weave.Weave.{is_open, is_silent_on, off_channels}
 use Rattle.occ_norm_frame.specs.After.{QuietlyFails}
-use Rattle.occ_norm_ending.specs.Alone.{IsPart, Stops}
+use Rattle.occ_norm_frame.specs.Alone.{IsPart, Stops}
 use Rattle.occ_norm_par.specs.Sides.{AreUsers, IsUser, chans_of, closed_in}
 use Rattle.occ_norm_par.specs.declared.users.Users.{Users}
 use Rattle.occ_norm_par.proofs.Spanning.{uses_beyond}

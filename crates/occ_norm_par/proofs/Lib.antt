@@ -10,3 +10,9 @@ pub mod Words
 pub mod Steps
 pub mod Made
 pub mod Sequels
+pub mod Freeing
+pub mod Valued
+pub mod Reaching
+pub mod Branching
+pub mod Limiting
+pub mod Leaving

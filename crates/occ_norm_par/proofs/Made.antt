@@ -1,15 +1,15 @@
 -- Maps that are made of those of both values of a bit.
 use Rattle.std.proofs.Common.{◌≡◌, ◌<◌, ◌==◌, ◌+◌, ℕ, suc, cond, add-one, sym, ap, ◌∙◌, subst}
 use Rattle.std.specs.Int.{bit_at}
-use Rattle.occ_diagram.specs.Assignment.{with_bit}
-use Rattle.occ_dd.specs.Store.{IsSet, has}
-use Rattle.occ_dd.specs.declared.set.SetId.{SetId}
-use Rattle.occ_mdd.specs.Maps.{IsMap, value}
-use Rattle.occ_mdd.specs.declared.map.MapId.{MapId}
-use Rattle.occ_node.specs.declared.world.World.{World}
-use Rattle.occ_follow.specs.Sequence.{HasNodes}
-use Rattle.occ_norm_maps.specs.Maps.{Extends}
-use Rattle.occ_norm_maps.proofs.Worlds.{chosen_nodes, extends_trans, has_nodes-extends}
+use Rattle.occ_norm_frame.specs.occ_dd.Assignment.{with_bit}
+use Rattle.occ_norm_frame.specs.occ_dd.Store.{IsSet, has}
+use Rattle.occ_norm_frame.specs.occ_dd.declared.set.SetId.{SetId}
+use Rattle.occ_norm_frame.specs.occ_mdd.Maps.{IsMap, value}
+use Rattle.occ_norm_frame.specs.occ_mdd.declared.map.MapId.{MapId}
+use Rattle.occ_norm_frame.specs.occ_node.declared.world.World.{World}
+use Rattle.occ_norm_frame.specs.occ_follow.Sequence.{HasNodes}
+use Rattle.occ_norm_frame.specs.Maps.{Extends}
+use Rattle.occ_norm_frame.proofs.Worlds.{chosen_nodes, extends_trans, has_nodes-extends}
 use Rattle.occ_norm_par.specs.Joints.{IsHalf, IsJoint, IsStepped}
 use Rattle.occ_norm_par.specs.declared.joint.Joint.{Joint}
 use Rattle.occ_norm_par.proofs.Steps.{joint_grow, joint_half, joint_more, moved_values, stepped_grow}

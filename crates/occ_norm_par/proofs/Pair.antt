@@ -8,28 +8,28 @@ use Rattle.std.proofs.lemmas.Nat.{xor_lt}
 use Rattle.std.proofs.lemmas.Nat.Bits.{bit_at_and, bit_at_xor}
 use Rattle.std.specs.Int.Bits.{bit_and, bit_xor}
 use mathlib.Core.Path.{fun_ext}
-use Rattle.occ_base.specs.Event.{counterpart}
-use Rattle.occ_base.specs.Width.{bits_of}
-use Rattle.occ_base.specs.declared.event.Dir.{Dir}
-use Rattle.occ_base.specs.declared.event.Event.{Event}
-use Rattle.occ_base.specs.declared.names.Name.{Name}
-use Rattle.occ_base.specs.declared.width.Width.{Width}
-use Rattle.occ_bits.specs.Layout.{entry_of, state_of}
-use Rattle.occ_bits.proofs.Laid.{found_within}
-use Rattle.occ_diagram.proofs.Bits.{bit_cases, is_one, is_zero}
-use Rattle.occ_meaning.proofs.Ends.{part_uses}
-use Rattle.occ_meaning.proofs.Free.{not_written}
-use Rattle.occ_meaning.proofs.Interface.{part_stays}
-use Rattle.occ_meaning.proofs.Refusals.{Extends as Widens, part_more}
-use Rattle.occ_meaning.specs.Foundation.{AreWithin}
-use Rattle.occ_mdd.specs.Maps.{value}
-use Rattle.occ_mdd.specs.declared.map.MapId.{MapId}
-use Rattle.occ_node.specs.World.{ends, fails}
-use Rattle.occ_node.specs.declared.node.NodeId.{NodeId}
-use Rattle.occ_node.specs.declared.world.World.{World}
-use Rattle.occ_follow.specs.Sequence.{HasNodes}
-use Rattle.occ_norm_maps.specs.Lifted.{IsWovenOf, OnTwo}
-use Rattle.occ_norm_maps.specs.Maps.{Lifts}
+use Rattle.occ_norm_frame.specs.occ_base.Event.{counterpart}
+use Rattle.occ_norm_frame.specs.occ_base.Width.{bits_of}
+use Rattle.occ_norm_frame.specs.occ_base.declared.event.Dir.{Dir}
+use Rattle.occ_norm_frame.specs.occ_base.declared.event.Event.{Event}
+use Rattle.occ_norm_frame.specs.occ_base.declared.names.Name.{Name}
+use Rattle.occ_norm_frame.specs.occ_base.declared.width.Width.{Width}
+use Rattle.occ_norm_frame.specs.occ_bits.Layout.{entry_of, state_of}
+use Rattle.occ_norm_frame.proofs.from_bits.Laid.{found_within}
+use Rattle.occ_norm_frame.proofs.from_dd.Bits.{bit_cases, is_one, is_zero}
+use Rattle.occ_norm_frame.proofs.from_meaning.Ends.{part_uses}
+use Rattle.occ_norm_frame.proofs.from_meaning.Free.{not_written}
+use Rattle.occ_norm_frame.proofs.from_meaning.Interface.{part_stays}
+use Rattle.occ_norm_frame.proofs.from_meaning.Refusals.{Extends as Widens, part_more}
+use Rattle.occ_norm_frame.specs.occ_meaning.Foundation.{AreWithin}
+use Rattle.occ_norm_frame.specs.occ_mdd.Maps.{value}
+use Rattle.occ_norm_frame.specs.occ_mdd.declared.map.MapId.{MapId}
+use Rattle.occ_norm_frame.specs.occ_node.World.{ends, fails}
+use Rattle.occ_norm_frame.specs.occ_node.declared.node.NodeId.{NodeId}
+use Rattle.occ_norm_frame.specs.occ_node.declared.world.World.{World}
+use Rattle.occ_norm_frame.specs.occ_follow.Sequence.{HasNodes}
+use Rattle.occ_norm_frame.specs.Lifted.{IsWovenOf, OnTwo}
+use Rattle.occ_norm_frame.specs.Maps.{Lifts}
 use Rattle.occ_syntax.specs.Meaning.{Combines, Outcome, Together, Weave, answered, both_ended, ended, ends as part_ends, fails as part_fails, first_ended, join, meaning, neither_ended, refused_with, refusing, second_ended, together}
 use Rattle.occ_syntax.specs.Names.{uses_end, written}
 use Rattle.occ_syntax.specs.Scopes.{Environment, EventSet, Trace, Values, in_scope}
@@ -37,13 +37,13 @@ use Rattle.occ_syntax.specs.Tree.{Tree}
 use Rattle.occ_syntax.specs.Types.{types_kept}
 use Rattle.occ_syntax.specs.Usage.{IsSeparate}
 use Rattle.occ_syntax.specs.declared.scope.Kind.{Kind}
-use Rattle.occ_weave.specs.Weave.{BothFail, IsEventSet, IsJoined, WovenEnds, WovenFails, first_ended as first_has_ended, second_ended as second_has_ended, neither_ended as neither_has_ended, is_open, is_silent_on, off_channels}
-use Rattle.occ_weave.proofs.Freeing.{joining, joining_is, joining_lt}
+use Rattle.occ_norm_frame.specs.occ_weave.Weave.{BothFail, IsEventSet, IsJoined, WovenEnds, WovenFails, first_ended as first_has_ended, second_ended as second_has_ended, neither_ended as neither_has_ended, is_open, is_silent_on, off_channels}
+use Rattle.occ_norm_frame.proofs.from_weave.Freeing.{joining, joining_is, joining_lt}
 use Rattle.occ_norm_frame.proofs.After.{layout_state}
 use Rattle.occ_norm_frame.proofs.Placing.{frame_layout}
-use Rattle.occ_norm_ending.specs.Alone.{AreChanged, IsPart}
+use Rattle.occ_norm_frame.specs.Alone.{AreChanged, IsPart}
 use Rattle.occ_norm_frame.specs.Placed.{IsAround, IsFrame}
-use Rattle.occ_norm_ending.proofs.Alone.{and_below}
+use Rattle.occ_norm_frame.proofs.Alone.{and_below}
 use Rattle.occ_norm_par.specs.Sides.{AreWritten}
 use Rattle.occ_norm_par.proofs.Assignments.{end_state, value_by_bits, value_kept}
 use Rattle.occ_norm_par.proofs.Silent.{silent_all, silent_each, silent_first, silent_second, silent_unused, silent_woven}

@@ -6,30 +6,30 @@ use Rattle.std.proofs.lemmas.Nat.{xor_lt}
 use Rattle.std.proofs.lemmas.Nat.Bits.{bit_at-lt, bit_at_xor, bit_at_and, bit_at_or, bit_at_above, same_from_bits_below}
 use Rattle.std.specs.Int.{bit_at}
 use Rattle.std.specs.Int.Bits.{bit_and, bit_or, bit_xor, xor_assoc}
-use Rattle.occ_base.specs.declared.event.Event.{Event}
-use Rattle.occ_base.specs.declared.names.Name.{Name}
-use Rattle.occ_base.specs.declared.width.Width.{Width}
+use Rattle.occ_norm_frame.specs.occ_base.declared.event.Event.{Event}
+use Rattle.occ_norm_frame.specs.occ_base.declared.names.Name.{Name}
+use Rattle.occ_norm_frame.specs.occ_base.declared.width.Width.{Width}
 use Rattle.occ_syntax.specs.Meaning.{ends as part_ends}
 use Rattle.occ_syntax.specs.Scopes.{Environment}
 use Rattle.occ_syntax.specs.Tree.{Tree}
-use Rattle.occ_bits.specs.Layout.{state_of}
-use Rattle.occ_diagram.specs.Assignment.{turned, with_bit}
-use Rattle.occ_diagram.proofs.Bits.{bit_cases, bit_at-with_bit_same, bit_at-with_bit_other, with_bit_lt, with_bit_same}
-use Rattle.occ_mdd.specs.Maps.{value}
-use Rattle.occ_mdd.specs.declared.map.MapId.{MapId}
-use Rattle.occ_node.specs.World.{fails, ends}
-use Rattle.occ_node.specs.declared.node.NodeId.{NodeId}
-use Rattle.occ_node.specs.declared.world.World.{World}
-use Rattle.occ_follow.specs.Sequence.{HasNodes}
-use Rattle.occ_weave.proofs.Growth.{trans_iff, iff_of_same}
-use Rattle.occ_norm_maps.specs.Lifted.{IsTurned}
-use Rattle.occ_norm_maps.specs.Maps.{Extends}
-use Rattle.occ_norm_maps.proofs.Worlds.{extends_trans, has_nodes-extends}
+use Rattle.occ_norm_frame.specs.occ_bits.Layout.{state_of}
+use Rattle.occ_norm_frame.specs.occ_dd.Assignment.{turned, with_bit}
+use Rattle.occ_norm_frame.proofs.from_dd.Bits.{bit_cases, bit_at-with_bit_same, bit_at-with_bit_other, with_bit_lt, with_bit_same}
+use Rattle.occ_norm_frame.specs.occ_mdd.Maps.{value}
+use Rattle.occ_norm_frame.specs.occ_mdd.declared.map.MapId.{MapId}
+use Rattle.occ_norm_frame.specs.occ_node.World.{fails, ends}
+use Rattle.occ_norm_frame.specs.occ_node.declared.node.NodeId.{NodeId}
+use Rattle.occ_norm_frame.specs.occ_node.declared.world.World.{World}
+use Rattle.occ_norm_frame.specs.occ_follow.Sequence.{HasNodes}
+use Rattle.occ_norm_frame.proofs.from_weave.Growth.{trans_iff, iff_of_same}
+use Rattle.occ_norm_frame.specs.Lifted.{IsTurned}
+use Rattle.occ_norm_frame.specs.Maps.{Extends}
+use Rattle.occ_norm_frame.proofs.Worlds.{extends_trans, has_nodes-extends}
 use Rattle.occ_norm_frame.specs.After.{IsAfter, IsOver, Resumes, WritesWithin, change_of}
-use Rattle.occ_norm_ending.specs.Alone.{AreChanged, IsPart, except}
+use Rattle.occ_norm_frame.specs.Alone.{AreChanged, IsPart, except}
 use Rattle.occ_norm_frame.specs.Changes.{IsChanged, IsSupport}
 use Rattle.occ_norm_frame.proofs.After.{changed-extends, over-extends, support-extends}
-use Rattle.occ_norm_ending.proofs.Alone.{alone_later, alone_to, and_below, change_lt, except_bit}
+use Rattle.occ_norm_frame.proofs.Alone.{alone_later, alone_to, and_below, change_lt, except_bit}
 use Rattle.occ_norm_par.specs.Joints.{IsEnded, IsJoint, Joins, anywhere, image}
 use Rattle.occ_norm_par.specs.declared.joint.Joint.{Joint}
 use Rattle.occ_norm_par.proofs.Steps.{joint_grow, or_iff}

@@ -1,14 +1,14 @@
 -- Traces of parts side by side that have no events on some channels.
 use Rattle.std.proofs.Common.{◌≡◌, ℕ, ◌&&◌, Bool, true, false, List, [], ◌∷◌, ⊎_elim, refl, sym, ◌∙◌, subst}
 use Rattle.std.proofs.lemmas.Bool.{and_from, and_parts, cases_Bool}
-use Rattle.occ_base.specs.declared.event.Dir.{Dir}
-use Rattle.occ_base.specs.declared.event.Event.{Event}
-use Rattle.occ_base.specs.declared.names.Name.{Name}
-use Rattle.occ_meaning.proofs.Beside.{weave_turned}
-use Rattle.occ_meaning.proofs.Facts.{clash}
-use Rattle.occ_meaning.specs.Foundation.{AreOnEnds}
+use Rattle.occ_norm_frame.specs.occ_base.declared.event.Dir.{Dir}
+use Rattle.occ_norm_frame.specs.occ_base.declared.event.Event.{Event}
+use Rattle.occ_norm_frame.specs.occ_base.declared.names.Name.{Name}
+use Rattle.occ_norm_frame.proofs.from_meaning.Beside.{weave_turned}
+use Rattle.occ_norm_frame.proofs.from_meaning.Facts.{clash}
+use Rattle.occ_norm_frame.specs.occ_meaning.Foundation.{AreOnEnds}
 use Rattle.occ_syntax.specs.Meaning.{Weave, both_done, of_first, of_second, unseen}
-use Rattle.occ_weave.specs.Weave.{is_open, is_silent_on}
+use Rattle.occ_norm_frame.specs.occ_weave.Weave.{is_open, is_silent_on}
 
 -- a trace on other ends has no events on the channels
 pub silent_unused : (u : ℕ → Dir → Bool) (closed : List Name) → ((e : Event) → is_open closed e ≡ false → u e.chan.0 e.dir ≡ false) → (t : List Event) → AreOnEnds u t → is_silent_on closed t ≡ true

@@ -4,24 +4,21 @@ use Rattle.std.specs.List.{All}
 use Rattle.std.proofs.Math.Seq.{drop-cons}
 use Rattle.std.proofs.lemmas.Bool.{cases_Bool, cases_eq, cases_lt, eqb-true, eq-eqb, or_left, or_parts, or_right, false≢true, true≢false}
 use Rattle.std.proofs.lemmas.List.Folds.{list_any-append}
-use Rattle.occ_base.specs.declared.event.Dir.{Dir}
-use Rattle.occ_base.specs.declared.event.Dir.TheVariants.{Input, Output}
-use Rattle.occ_base.specs.declared.names.Name.{Name}
-use Rattle.occ_meaning.proofs.Facts.{same_turned}
-use Rattle.occ_names.specs.Mentions.{end_numbers, same_end}
-use Rattle.occ_names.specs.Once.{has}
+use Rattle.occ_norm_frame.specs.occ_base.declared.event.Dir.{Dir}
+use Rattle.occ_norm_frame.specs.occ_base.declared.event.Dir.TheVariants.{Input, Output}
+use Rattle.occ_norm_frame.specs.occ_base.declared.names.Name.{Name}
+use Rattle.occ_norm_frame.proofs.from_meaning.Facts.{same_turned}
+use Rattle.occ_norm_frame.specs.occ_names.Mentions.{end_numbers, same_end}
+use Rattle.occ_norm_frame.specs.occ_names.Once.{has}
 use Rattle.occ_syntax.specs.Names.{is_in, uses_end}
 use Rattle.occ_syntax.specs.Scopes.{same_dir}
-use Rattle.occ_weave.proofs.Stepping.{all_taken, take_push}
+use Rattle.occ_norm_frame.proofs.from_weave.Stepping.{all_taken, take_push}
 use Rattle.occ_syntax.specs.Tree.{Trees}
 use Rattle.occ_syntax.specs.View.{numbers, tree, trees}
 use Rattle.occ_syntax.specs.declared.proc.Proc.{Proc}
 use Rattle.occ_norm_par.specs.Sides.{AreUsers, IsUser, chans_of, closed_in, crossing, uses, uses_at}
 use Rattle.occ_norm_par.specs.Spans.{IsSpan, has_end_on, listed, noted, same_name, user_of}
 use Rattle.occ_norm_par.specs.declared.users.Users.{Users}
-
-pub name_is : (a b : Name) → same_name a b ≡ true → a ≡ b
-name_is a b h = let e : a.0 ≡ b.0 = eqb-true a.0 b.0 h in λ i. record { 0 = e i }
 
 pub drop_all : {A : Type 0} (i : ℕ) (xs : List A) → length xs ≤ i → drop i xs ≡ []
 drop_all zero [] l = refl

@@ -5,21 +5,21 @@ use Rattle.std.proofs.lemmas.Bool.{cond-true, cond-false, cases_lt}
 use Rattle.std.proofs.lemmas.Option.{same_Some}
 use Rattle.std.specs.Int.{bit_at}
 use Rattle.std.specs.Result.{IfOk}
-use Rattle.occ_base.specs.declared.event.Event.{Event}
-use Rattle.occ_diagram.specs.Assignment.{with_bit}
-use Rattle.occ_diagram.specs.Memo.{Learns, recalled}
-use Rattle.occ_diagram.specs.declared.memo.Call.{Call}
-use Rattle.occ_diagram.specs.declared.memo.Memo.{Memo}
-use Rattle.occ_diagram.proofs.Bits.{bit_cases, is_one, is_zero, bit_at-with_bit_same, bit_at-with_bit_other, with_bit_lt, with_bit_same}
-use Rattle.occ_mdd.specs.Maps.{IsMap, value}
-use Rattle.occ_mdd.specs.declared.map.MapId.{MapId}
-use Rattle.occ_node.specs.World.{IsNode, fails, ends}
-use Rattle.occ_node.specs.declared.node.NodeId.{NodeId}
-use Rattle.occ_node.specs.declared.world.World.{World}
-use Rattle.occ_follow.specs.Sequence.{Continues, HasNodes}
-use Rattle.occ_weave.proofs.Growth.{trans_iff, iff_of_same}
-use Rattle.occ_norm_maps.specs.Maps.{Extends, IsSequel, digit}
-use Rattle.occ_norm_maps.proofs.Worlds.{has_nodes-extends}
+use Rattle.occ_norm_frame.specs.occ_base.declared.event.Event.{Event}
+use Rattle.occ_norm_frame.specs.occ_dd.Assignment.{with_bit}
+use Rattle.occ_norm_frame.specs.occ_dd.Memo.{Learns, recalled}
+use Rattle.occ_norm_frame.specs.occ_dd.declared.memo.Call.{Call}
+use Rattle.occ_norm_frame.specs.occ_dd.declared.memo.Memo.{Memo}
+use Rattle.occ_norm_frame.proofs.from_dd.Bits.{bit_cases, is_one, is_zero, bit_at-with_bit_same, bit_at-with_bit_other, with_bit_lt, with_bit_same}
+use Rattle.occ_norm_frame.specs.occ_mdd.Maps.{IsMap, value}
+use Rattle.occ_norm_frame.specs.occ_mdd.declared.map.MapId.{MapId}
+use Rattle.occ_norm_frame.specs.occ_node.World.{IsNode, fails, ends}
+use Rattle.occ_norm_frame.specs.occ_node.declared.node.NodeId.{NodeId}
+use Rattle.occ_norm_frame.specs.occ_node.declared.world.World.{World}
+use Rattle.occ_norm_frame.specs.occ_follow.Sequence.{Continues, HasNodes}
+use Rattle.occ_norm_frame.proofs.from_weave.Growth.{trans_iff, iff_of_same}
+use Rattle.occ_norm_frame.specs.Maps.{Extends, IsSequel, digit}
+use Rattle.occ_norm_frame.proofs.Worlds.{has_nodes-extends}
 use Rattle.occ_norm_frame.specs.After.{AgreeBelow, IsOver}
 use Rattle.occ_norm_frame.specs.Kept.{map_id}
 use Rattle.occ_norm_frame.proofs.After.{map_node, value_is, value_was}

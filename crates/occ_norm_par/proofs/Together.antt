@@ -4,19 +4,19 @@ use Rattle.std.specs.List.{All}
 use Rattle.std.specs.Int.{bit_at}
 use Rattle.std.specs.Int.Bits.{bit_or}
 use Rattle.std.proofs.lemmas.Nat.Bits.{bit_at-lt, bit_at-zero, bit_at_or, same_from_bits}
-use Rattle.occ_diagram.proofs.Bits.{bit_cases}
+use Rattle.occ_norm_frame.proofs.from_dd.Bits.{bit_cases}
 use Rattle.std.proofs.lemmas.Bool.{and_from, and_parts, or_cases, or_left, or_right, or_parts, false≢true}
 use Rattle.std.proofs.Math.Seq.{take-length}
 use Rattle.std.proofs.lemmas.List.{get_or-drop, get_or-take, length-drop, length-take-le}
-use Rattle.occ_base.specs.declared.event.Dir.{Dir}
-use Rattle.occ_base.specs.declared.event.Event.{Event}
-use Rattle.occ_base.specs.declared.names.Name.{Name}
-use Rattle.occ_base.specs.declared.width.Width.{Width}
-use Rattle.occ_mdd.specs.declared.map.MapId.{MapId}
-use Rattle.occ_node.specs.declared.world.World.{World}
-use Rattle.occ_follow.specs.Sequence.{HasNodes}
-use Rattle.occ_norm_maps.specs.Maps.{Extends}
-use Rattle.occ_norm_maps.proofs.Worlds.{extends_trans, has_nodes-extends}
+use Rattle.occ_norm_frame.specs.occ_base.declared.event.Dir.{Dir}
+use Rattle.occ_norm_frame.specs.occ_base.declared.event.Event.{Event}
+use Rattle.occ_norm_frame.specs.occ_base.declared.names.Name.{Name}
+use Rattle.occ_norm_frame.specs.occ_base.declared.width.Width.{Width}
+use Rattle.occ_norm_frame.specs.occ_mdd.declared.map.MapId.{MapId}
+use Rattle.occ_norm_frame.specs.occ_node.declared.world.World.{World}
+use Rattle.occ_norm_frame.specs.occ_follow.Sequence.{HasNodes}
+use Rattle.occ_norm_frame.specs.Maps.{Extends}
+use Rattle.occ_norm_frame.proofs.Worlds.{extends_trans, has_nodes-extends}
 use Rattle.occ_syntax.specs.Meaning.{Outcome, Together, meaning}
 use Rattle.occ_syntax.specs.Names.{end_in_some, free, free_in_some, uses_end, written, written_in_some}
 use Rattle.occ_syntax.specs.Scopes.{Environment, Trace, Values}
@@ -25,17 +25,17 @@ use Rattle.occ_syntax.specs.Types.{all_types_kept, types_kept}
 use Rattle.occ_syntax.specs.Usage.{AreSeparate, IsSeparate}
 use Rattle.occ_syntax.specs.View.{tree, trees}
 use Rattle.occ_syntax.specs.declared.proc.Proc.{Proc, Skip}
-use Rattle.occ_weave.specs.Weave.{IsJoined as IsOfBoth, is_open}
-use Rattle.occ_norm_ending.specs.Alone.{IsPart, except}
+use Rattle.occ_norm_frame.specs.occ_weave.Weave.{IsJoined as IsOfBoth, is_open}
+use Rattle.occ_norm_frame.specs.Alone.{IsPart, except}
 use Rattle.occ_norm_frame.specs.Placed.{IsAround}
 use Rattle.occ_norm_frame.specs.declared.frame.Frame.{Frame}
-use Rattle.occ_meaning.proofs.Parts.{all_of_beside, beside_all_of}
-use Rattle.occ_meaning.specs.Parallel.{all_of}
+use Rattle.occ_norm_frame.proofs.from_meaning.Parts.{all_of_beside, beside_all_of}
+use Rattle.occ_norm_frame.specs.occ_meaning.Parallel.{all_of}
 use Rattle.occ_norm_par.specs.Sides.{AreWritten, bits_in, closed_in, crossing}
 use Rattle.occ_norm_par.specs.Joined.{AreBoth, AreOfParts, HaveNodes, IsJoined, IsSpread, WriteEach, no_map}
 use Rattle.occ_norm_par.specs.declared.parallel.Sides.{Sides}
 use Rattle.occ_norm_par.specs.declared.users.Users.{Users}
-use Rattle.occ_norm_ending.proofs.Alone.{alone_later, except_bit}
+use Rattle.occ_norm_frame.proofs.Alone.{alone_later, except_bit}
 use Rattle.occ_norm_par.proofs.Writing.{bits_both, written_in}
 use Rattle.occ_norm_par.proofs.Pair.{beside_alone}
 use Rattle.occ_norm_par.proofs.Spanning.{uses_beyond}

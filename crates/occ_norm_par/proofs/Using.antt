@@ -2,15 +2,15 @@
 use Rattle.std.proofs.Common.{◌≡◌, ℕ, zero, suc, ◌+◌, ◌<◌, ◌≤◌, ◌==◌, ◌&&◌, ◌||◌, Bool, true, false, cond, not, nat_le, nat_lt, List, [], ◌∷◌, take, drop, get_or, ⊎_elim, refl, sym, ap, ◌∙◌, arith}
 use Rattle.std.specs.List.{All}
 use Rattle.std.proofs.lemmas.Bool.{and_parts, cases_Bool, cases_lt, eqb-true, leb-true, le-leb, ltb-true, lt-ltb, or_parts, false≢true, true≢false}
-use Rattle.occ_base.specs.declared.event.Dir.{Dir}
-use Rattle.occ_base.specs.declared.event.Dir.TheVariants.{Input, Output}
-use Rattle.occ_base.specs.declared.event.Event.{Event}
-use Rattle.occ_base.specs.declared.names.Name.{Name}
+use Rattle.occ_norm_frame.specs.occ_base.declared.event.Dir.{Dir}
+use Rattle.occ_norm_frame.specs.occ_base.declared.event.Dir.TheVariants.{Input, Output}
+use Rattle.occ_norm_frame.specs.occ_base.declared.event.Event.{Event}
+use Rattle.occ_norm_frame.specs.occ_base.declared.names.Name.{Name}
 use Rattle.occ_syntax.specs.Names.{end_in_some, uses_end}
 use Rattle.occ_syntax.specs.Tree.{Tree, Trees, no_tree, and_tree}
 use Rattle.occ_syntax.specs.View.{tree, trees}
 use Rattle.occ_syntax.specs.declared.proc.Proc.{Proc}
-use Rattle.occ_weave.specs.Weave.{is_open}
+use Rattle.occ_norm_frame.specs.occ_weave.Weave.{is_open}
 use Rattle.occ_norm_par.specs.Sides.{IsUser, closed_in, crossing, uses, uses_at}
 use Rattle.occ_norm_par.specs.Joined.{IsSpread}
 use Rattle.occ_norm_par.specs.declared.users.Users.{Users}
@@ -19,10 +19,6 @@ use Rattle.occ_norm_par.specs.declared.users.Users.{Users}
 pub one_open : (c : Name) (xs : List Name) (e : Event) (b : Bool) → is_open (cond b (c ∷ xs) xs) e ≡ cond b (not (e.chan.0 == c.0) && is_open xs e) (is_open xs e)
 one_open c xs e true = refl
 one_open c xs e false = refl
-
-picked : (b o x : Bool) → cond b (o && x) x ≡ ((not b || o) && x)
-picked true o x = refl
-picked false o x = refl
 
 and_false : (b : Bool) → (b && false) ≡ false
 and_false true = refl

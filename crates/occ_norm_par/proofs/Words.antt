@@ -3,8 +3,8 @@ use Rattle.std.proofs.Common.{◌≡◌, ◌≢◌, ◌⊎◌, ◌<◌, ◌≤�
 use Rattle.std.proofs.lemmas.Bool.{cond_both, cond-true, cond-false, cases_lt, cases_eq}
 use Rattle.std.proofs.lemmas.Nat.Bits.{bit_at-lt}
 use Rattle.std.specs.Int.{bit_at}
-use Rattle.occ_diagram.specs.Assignment.{with_bit}
-use Rattle.occ_diagram.proofs.Bits.{is_one, is_zero, bit_at-with_bit_same, bit_at-with_bit_other, with_bit_lt}
+use Rattle.occ_norm_frame.specs.occ_dd.Assignment.{with_bit}
+use Rattle.occ_norm_frame.proofs.from_dd.Bits.{is_one, is_zero, bit_at-with_bit_same, bit_at-with_bit_other, with_bit_lt}
 use Rattle.occ_norm_par.specs.Joints.{image, stepped}
 use Rattle.occ_norm_par.specs.declared.joint.Joint.{Joint}
 

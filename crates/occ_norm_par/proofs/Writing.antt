@@ -7,12 +7,12 @@ use Rattle.std.proofs.lemmas.Bool.{and_from, and_left, and_right, cases_Bool, ca
 use Rattle.std.proofs.lemmas.List.Folds.{list_any-append}
 use Rattle.std.proofs.lemmas.List.{get_or_append_left, get_or_push, length-append, length-take-le}
 use Rattle.std.proofs.lemmas.Nat.Bits.{bit_at-zero, bit_at_or}
-use Rattle.occ_base.specs.declared.names.Name.{Name}
-use Rattle.occ_base.specs.declared.width.Width.{Width}
-use Rattle.occ_base.specs.Width.{bits_of}
-use Rattle.occ_bits.specs.Layout.{IsLayout, entry_of, laid_out, scope_in, state_of}
-use Rattle.occ_bits.proofs.Laid.{found_within, same_pair}
-use Rattle.occ_meaning.proofs.Facts.{none_not_some, same_turned}
+use Rattle.occ_norm_frame.specs.occ_base.declared.names.Name.{Name}
+use Rattle.occ_norm_frame.specs.occ_base.declared.width.Width.{Width}
+use Rattle.occ_norm_frame.specs.occ_base.Width.{bits_of}
+use Rattle.occ_norm_frame.specs.occ_bits.Layout.{IsLayout, entry_of, laid_out, scope_in, state_of}
+use Rattle.occ_norm_frame.proofs.from_bits.Laid.{found_within, same_pair}
+use Rattle.occ_norm_frame.proofs.from_meaning.Facts.{none_not_some, same_turned}
 use Rattle.occ_syntax.specs.declared.proc.Proc.{Proc, Skip}
 use Rattle.occ_syntax.specs.declared.scope.Kind.{Kind}
 use Rattle.occ_syntax.specs.declared.scope.Kind.TheVariants.{Var, Chan}
@@ -21,7 +21,7 @@ use Rattle.occ_syntax.specs.Scopes.{Environment}
 use Rattle.occ_syntax.specs.Tree.{Tree, par}
 use Rattle.occ_syntax.specs.Types.{types_kept}
 use Rattle.occ_syntax.specs.View.{numbers, tree, trees}
-use Rattle.occ_weave.proofs.Stepping.{all_taken, take_push}
+use Rattle.occ_norm_frame.proofs.from_weave.Stepping.{all_taken, take_push}
 use Rattle.occ_norm_frame.specs.After.{WritesWithin}
 use Rattle.occ_norm_frame.specs.Placed.{IsAround, IsFrame}
 use Rattle.occ_norm_par.specs.Joined.{WriteEach}

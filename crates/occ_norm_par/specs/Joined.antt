@@ -1,20 +1,20 @@
 -- Maps of parts of a PAR that stand in a row, and the map of all of them together.
 use Rattle.std.specs.Prelude.{ℕ, ◌+◌, ◌<◌, ◌≤◌, ◌≡◌, ◌^◌, true, List, length, get_or, bit_or}
 use Rattle.std.specs.List.{All}
-use Rattle.occ_base.specs.declared.names.Name.{Name}
-use Rattle.occ_base.specs.declared.width.Width.{Width}
-use Rattle.occ_mdd.specs.declared.map.MapId.{MapId}
-use Rattle.occ_node.specs.declared.world.World.{World}
-use Rattle.occ_follow.specs.Sequence.{HasNodes}
-use Rattle.occ_norm_maps.specs.Maps.{Lifts}
-use Rattle.occ_norm_maps.specs.Lifted.{IsWovenOf, OnTwo}
+use Rattle.occ_norm_frame.specs.occ_base.declared.names.Name.{Name}
+use Rattle.occ_norm_frame.specs.occ_base.declared.width.Width.{Width}
+use Rattle.occ_norm_frame.specs.occ_mdd.declared.map.MapId.{MapId}
+use Rattle.occ_norm_frame.specs.occ_node.declared.world.World.{World}
+use Rattle.occ_norm_frame.specs.occ_follow.Sequence.{HasNodes}
+use Rattle.occ_norm_frame.specs.Maps.{Lifts}
+use Rattle.occ_norm_frame.specs.Lifted.{IsWovenOf, OnTwo}
 use Rattle.occ_syntax.specs.Scopes.{Environment}
 use Rattle.occ_syntax.specs.Tree.{Tree, Trees, par}
 use Rattle.occ_syntax.specs.Types.{all_types_kept}
 use Rattle.occ_syntax.specs.Usage.{AreSeparate}
 use Rattle.occ_syntax.specs.View.{tree, trees}
 use Rattle.occ_syntax.specs.declared.proc.Proc.{Proc, Skip}
-use Rattle.occ_norm_ending.specs.Alone.{IsPart, except}
+use Rattle.occ_norm_frame.specs.Alone.{IsPart, except}
 use Rattle.occ_norm_frame.specs.After.{IsAfter, WritesWithin}
 use Rattle.occ_norm_frame.specs.Placed.{IsAround}
 use Rattle.occ_norm_frame.specs.declared.frame.Frame.{Frame}

@@ -1,18 +1,15 @@
 ghost use Rattle.std.specs.Prelude.{◌≡◌, ◌≤◌, ◌<◌, ◌+◌, true, IfOk};
-ghost use Rattle.occ_follow.specs.Sequence.{HasNodes};
-ghost use Rattle.occ_norm_maps.specs.Maps.{Extends, digit};
+ghost use Rattle.occ_norm_frame.specs.occ_follow.Sequence.{HasNodes};
+ghost use Rattle.occ_norm_frame.specs.Maps.{Extends, digit};
 ghost use Rattle.occ_norm_frame.specs.After.{IsOver};
 ghost use Rattle.occ_norm_frame.specs.Changes.{IsSupport};
 ghost use Rattle.occ_norm_par.specs.Joined.{IsSequelOf};
 ghost use Rattle.occ_norm_par.specs.Joints.{AreJoint, IsEnded, IsHalf, IsJoint, IsStepped, KeepJoints};
 
 use crate::parallel::Sides;
-use occ_base::Memory;
-use occ_diagram::{Call, Memo};
-use occ_mdd::MapId;
-use occ_norm_ending::{ending, except};
-use occ_norm_frame::{Frame, has_bit, node_at, rebased};
-use occ_norm_maps::Normaliser;
+use occ_norm_frame::{
+    Call, Frame, MapId, Memo, Memory, Normaliser, ending, except, has_bit, node_at, rebased,
+};
 
 // The bits of the states: those that the processes before write, and those on which what follows depends.
 #[derive(Clone, Copy)]

@@ -1,24 +1,21 @@
 ghost use Rattle.std.specs.Prelude.{◌≡◌, ℕ, ◌+◌, ◌^◌, ◌≤◌, ◌<◌, get_or, length, bit_or, if◌then◌else◌, IfOk};
 ghost use Rattle.std.specs.Int.{bit_at};
-ghost use Rattle.occ_bits.specs.Layout.{IsLayout};
-ghost use Rattle.occ_follow.specs.Sequence.{HasNodes};
-ghost use Rattle.occ_norm_maps.specs.Maps.{Extends};
+ghost use Rattle.occ_norm_frame.specs.occ_bits.Layout.{IsLayout};
+ghost use Rattle.occ_norm_frame.specs.occ_follow.Sequence.{HasNodes};
+ghost use Rattle.occ_norm_frame.specs.Maps.{Extends};
 ghost use Rattle.occ_syntax.specs.View.{numbers, tree, trees};
 ghost use Rattle.occ_norm_frame.specs.After.{IsOver};
-ghost use Rattle.occ_norm_ending.specs.Alone.{except};
+ghost use Rattle.occ_norm_frame.specs.Alone.{except};
 ghost use Rattle.occ_norm_frame.specs.Changes.{IsSupport};
 ghost use Rattle.occ_norm_par.specs.Sides.{AllWritten, AreUsers, AreWritten, bits_in, closed_in};
 ghost use Rattle.occ_norm_par.specs.Joined.{AreBoth, HaveNodes, IsJoined};
 ghost use Rattle.occ_norm_par.specs.Spans.{covers, is_of};
-ghost use Rattle.occ_base.specs.Width.{bits_of};
+ghost use Rattle.occ_norm_frame.specs.occ_base.Width.{bits_of};
 
 use crate::users::{Users, crossing, row_start, users_of, within};
-use occ_base::{Memory, Name, Width};
-use occ_mdd::MapId;
-use occ_names::written;
-use occ_norm_ending::except;
-use occ_norm_frame::{Frame, bits_from, support};
-use occ_norm_maps::Normaliser;
+use occ_norm_frame::{
+    Frame, MapId, Memory, Name, Normaliser, Width, bits_from, except, support, written,
+};
 use occ_syntax::Proc;
 use std::alloc::Global;
 

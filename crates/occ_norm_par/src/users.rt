@@ -1,13 +1,12 @@
 ghost use Rattle.std.specs.Prelude.{◌≡◌, ◌≤◌, ◌<◌, ◌&&◌, ◌++◌, ◌∷◌, [], List, length, nat_le, nat_lt, not, if◌then◌else◌, OnOk, IfOk};
-ghost use Rattle.occ_base.specs.declared.names.Name.{Name};
+ghost use Rattle.occ_norm_frame.specs.occ_base.declared.names.Name.{Name};
 ghost use Rattle.occ_syntax.specs.View.{tree, trees};
 ghost use Rattle.indexmap.specs.IndexMap.{get};
 ghost use Rattle.occ_norm_par.specs.Sides.{AreUsers, closed_in, crossing, uses};
 ghost use Rattle.occ_norm_par.specs.Spans.{IsSpan, first_of, has_end_on, listed, noted, same_name, user_of};
 
 use indexmap::IndexMap;
-use occ_base::{Dir, Memory, Name};
-use occ_names::ends;
+use occ_norm_frame::{Dir, Memory, Name, names_ends as ends};
 use occ_syntax::Proc;
 use std::alloc::Global;
 

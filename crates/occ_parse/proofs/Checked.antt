@@ -3,8 +3,8 @@ use Rattle.std.proofs.Common.{◌≡◌, ℕ, ◌+◌, ◌≤◌, true, nat_lt, 
 use Rattle.std.specs.List.{flat_map}
 use Rattle.std.proofs.lemmas.Bool.{and_parts}
 use Rattle.std.proofs.lemmas.List.{length-map}
-use Rattle.occ_base.specs.declared.names.Name.{Name}
-use Rattle.occ_base.specs.Names.{IsDistinct}
+use Rattle.occ_usage.specs.occ_base.declared.names.Name.{Name}
+use Rattle.occ_usage.specs.occ_base.Names.{IsDistinct}
 use Rattle.occ_syntax.specs.declared.scope.Kind.{Kind}
 use Rattle.occ_syntax.specs.declared.scope.Program.{Program}
 use Rattle.occ_syntax.specs.Counts.{controls, bits_of_scope, most_bits}
@@ -12,32 +12,32 @@ use Rattle.occ_syntax.specs.Scopes.{environment}
 use Rattle.occ_syntax.specs.Tree.{Tree}
 use Rattle.occ_syntax.specs.Types.{scope_kept, types_kept}
 use Rattle.occ_syntax.specs.View.{tree}
-use Rattle.occ_lex_symbols.specs.Symbols.{Extends}
-use Rattle.occ_lex_symbols.proofs.Interned.{extends_trans}
-use Rattle.occ_parse_forms.specs.declared.form.Param.{Param}
-use Rattle.occ_parse_forms.specs.Shape.{header, close}
+use Rattle.occ_parse_layout.specs.occ_lex.Symbols.{Extends}
+use Rattle.occ_parse_layout.proofs.from_lex.Interned.{extends_trans}
+use Rattle.occ_parse_rules.specs.occ_parse_forms.declared.form.Param.{Param}
+use Rattle.occ_parse_rules.specs.occ_parse_forms.Shape.{header, close}
 use Rattle.occ_parse_rules.specs.Forest.{Forest, no_line, and_line}
 use Rattle.occ_parse_rules.specs.Limits.{bits_in_scope}
 use Rattle.occ_parse_rules.specs.Names.{name_fault}
 use Rattle.occ_parse_rules.specs.Places.{places}
 use Rattle.occ_parse_rules.specs.Types.{type_fault, direction_fault}
 use Rattle.occ_parse_rules.specs.Unrolled.{Numbers, named, params_named, slot_process}
-use Rattle.occ_parse_sound.specs.Agreement.{AreKnown}
-use Rattle.occ_parse_sound.specs.Passing.{shape_passes}
-use Rattle.occ_parse_sound.specs.Programs.{param_scope, IsInOrderWith}
-use Rattle.occ_parse_sound.specs.Sound.{is_sound, are_sound, are_placed}
-use Rattle.occ_parse_sound.proofs.Params.{program_kept}
-use Rattle.occ_parse_sound.proofs.Small.{param_bits, scopes_small}
+use Rattle.occ_parse_rules.specs.Agreement.{AreKnown}
+use Rattle.occ_parse_rules.specs.Passing.{shape_passes}
+use Rattle.occ_parse_rules.specs.Programs.{param_scope, IsInOrderWith}
+use Rattle.occ_parse_rules.specs.Sound.{is_sound, are_sound, are_placed}
+use Rattle.occ_parse_rules.proofs.Params.{program_kept}
+use Rattle.occ_parse_rules.proofs.Small.{param_bits, scopes_small}
 use Rattle.occ_parse_layout.specs.Whole.{IsProgram}
 use Rattle.occ_parse_unroll.specs.Elements.{with_places, with_elements, program_places}
 use Rattle.occ_parse_unroll.specs.Numbers.{number_in}
 use Rattle.occ_parse_unroll.proofs.Sized.{slot_process_size}
 use Rattle.occ_usage.specs.Accepted.{IsTyped}
-use Rattle.occ_parse_reading.specs.declared.bound.Bound.{Bound}
-use Rattle.occ_parse_reading.specs.declared.fault.ParseFault.{ParseFault}
-use Rattle.occ_parse_reading.specs.Limits.{is_limited}
-use Rattle.occ_parse_reading.specs.Drafts.{header_params, header_below, unnumbered, parameters, draft_fault}
-use Rattle.occ_parse_reading.specs.Reading.{IsLaidOut, names_in}
+use Rattle.occ_parse.specs.declared.bound.Bound.{Bound}
+use Rattle.occ_parse.specs.declared.fault.ParseFault.{ParseFault}
+use Rattle.occ_parse.specs.Limits.{is_limited}
+use Rattle.occ_parse.specs.Drafts.{header_params, header_below, unnumbered, parameters, draft_fault}
+use Rattle.occ_parse.specs.Reading.{IsLaidOut, names_in}
 use Rattle.occ_parse.proofs.Texts.{is_plain, in_table, plain_table}
 use Rattle.occ_parse.proofs.Small.{shape_small}
 use Rattle.occ_parse.proofs.Knowing.{EachLine, IsLineOf, each_map, lines_are_of, line_passes, line_small, lines_sound}

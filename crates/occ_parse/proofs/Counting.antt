@@ -1,8 +1,8 @@
 -- The bits of parameters.
 use Rattle.std.proofs.Common.{◌≡◌, List, [], arith}
-use Rattle.occ_parse_forms.specs.declared.form.Param.{Param}
+use Rattle.occ_parse_rules.specs.occ_parse_forms.declared.form.Param.{Param}
 use Rattle.occ_parse_rules.specs.Limits.{bits_in_scope}
-use Rattle.occ_parse_sound.specs.Programs.{param_scope}
+use Rattle.occ_parse_rules.specs.Programs.{param_scope}
 use Rattle.occ_parse_unroll.specs.Bits.{bits_of_params}
 use Rattle.occ_parse_unroll.proofs.Wide.{bits-params}
 

@@ -4,9 +4,9 @@ use Rattle.std.specs.Str.{bytes_eq}
 use Rattle.std.specs.List.{AllByRecursion, list_all, flat_map, position_or_len}
 use Rattle.std.proofs.lemmas.Bool.{and_parts, and_from, ltb-true, lt-ltb, cases_lt, cases_Bool, eq-eqb}
 use Rattle.std.proofs.lemmas.List.Folds.{position_or_len_push}
-use Rattle.occ_base.specs.declared.names.Name.{Name}
-use Rattle.occ_base.specs.Names.{place_of}
-use Rattle.occ_base.proofs.Naming.{place-le}
+use Rattle.occ_usage.specs.occ_base.declared.names.Name.{Name}
+use Rattle.occ_usage.specs.occ_base.Names.{place_of}
+use Rattle.occ_usage.proofs.from_base.Naming.{place-le}
 use Rattle.occ_syntax.specs.declared.scope.Kind.{Kind}
 use Rattle.occ_syntax.specs.declared.scope.Kind.TheVariants.{Var, Chan}
 use Rattle.occ_syntax.specs.declared.scope.Program.{Program}
@@ -14,25 +14,25 @@ use Rattle.occ_syntax.specs.Declarations.{declaring, declaring_all}
 use Rattle.occ_syntax.specs.Tree.{Tree, Trees, no_tree, and_tree, Cases, no_case, and_case, Branches, no_branch, and_branch}
 use Rattle.occ_syntax.specs.Tree as syntax
 use Rattle.occ_syntax.specs.View.{tree}
-use Rattle.occ_lex_symbols.specs.Symbols.{Extends}
-use Rattle.occ_lex_symbols.proofs.Interned.{extends_same}
-use Rattle.occ_parse_forms.specs.declared.form.Declared.{Declared}
-use Rattle.occ_parse_forms.specs.declared.form.Declared.TheVariants as declared
-use Rattle.occ_parse_forms.specs.declared.form.Group.{Group}
-use Rattle.occ_parse_forms.specs.declared.form.Group.TheVariants as word
-use Rattle.occ_parse_forms.specs.declared.form.Param.{Param}
-use Rattle.occ_parse_forms.specs.declared.form.Times.{Times}
-use Rattle.occ_parse_forms.specs.Shape.{Shape, header, close, skip, stop, assign, receive, send, group, declare, condition, guard, nothing}
+use Rattle.occ_parse_layout.specs.occ_lex.Symbols.{Extends}
+use Rattle.occ_parse_layout.proofs.from_lex.Interned.{extends_same}
+use Rattle.occ_parse_rules.specs.occ_parse_forms.declared.form.Declared.{Declared}
+use Rattle.occ_parse_rules.specs.occ_parse_forms.declared.form.Declared.TheVariants as declared
+use Rattle.occ_parse_rules.specs.occ_parse_forms.declared.form.Group.{Group}
+use Rattle.occ_parse_rules.specs.occ_parse_forms.declared.form.Group.TheVariants as word
+use Rattle.occ_parse_rules.specs.occ_parse_forms.declared.form.Param.{Param}
+use Rattle.occ_parse_rules.specs.occ_parse_forms.declared.form.Times.{Times}
+use Rattle.occ_parse_rules.specs.occ_parse_forms.Shape.{Shape, header, close, skip, stop, assign, receive, send, group, declare, condition, guard, nothing}
 use Rattle.occ_parse_rules.specs.Forest.{Forest, no_line, and_line}
 use Rattle.occ_parse_rules.specs.Places.{Place, Sorts, Indices, places, elements_from, declared_in, entries_of, counter_of, numbers_from, with_index}
 use Rattle.occ_parse_rules.specs.Unrolled.{Numbers, named, all_named, params_named, trees_then, cases_then, branches_then, copies, copied, first_tree, Lines, as_parts, slot, construct, process, part_line, nested_cases, case_line, nested_branches, branch_line, unrolled, slot_process}
-use Rattle.occ_parse_sound.specs.Passing.{declared_passes, param_passes, shape_passes}
-use Rattle.occ_parse_sound.specs.Programs.{param_scope}
+use Rattle.occ_parse_rules.specs.Passing.{declared_passes, param_passes, shape_passes}
+use Rattle.occ_parse_rules.specs.Programs.{param_scope}
 use Rattle.occ_parse_unroll.specs.Elements.{program_places, with_elements}
 use Rattle.occ_parse_unroll.specs.Numbers.{element_text, number_in}
-use Rattle.occ_parse_reading.specs.declared.bound.Bound.{Bound}
-use Rattle.occ_parse_reading.specs.Drafts.{params_in, header_params, header_below}
-use Rattle.occ_parse_reading.specs.Reading.{IsLaidOut, names_in}
+use Rattle.occ_parse.specs.declared.bound.Bound.{Bound}
+use Rattle.occ_parse.specs.Drafts.{params_in, header_params, header_below}
+use Rattle.occ_parse.specs.Reading.{IsLaidOut, names_in}
 use Rattle.occ_parse.specs.Known.{declares, all_declare, cases_declare, branches_declare, params_declare, is_below, NamesAreKnown}
 use Rattle.occ_parse.proofs.Texts.{in_table}
 use Rattle.occ_parse.proofs.Places.{places_extend}

@@ -1,10 +1,10 @@
 -- What follows where the lines of a text have no fault.
 use Rattle.std.proofs.Common.{◌≡◌, ℕ, ◌≤◌, Bool, true, false, nat_lt, if◌then◌else◌, List, [], Option, Some, None, refl, sym, ap, ◌∙◌}
 use Rattle.std.proofs.lemmas.Bool.{ltb-false}
-use Rattle.occ_base.specs.declared.names.Name.{Name}
+use Rattle.occ_usage.specs.occ_base.declared.names.Name.{Name}
 use Rattle.occ_syntax.specs.Counts.{controls}
-use Rattle.occ_parse_forms.specs.declared.form.Param.{Param}
-use Rattle.occ_parse_forms.specs.Shape.{Shape, header, close}
+use Rattle.occ_parse_rules.specs.occ_parse_forms.declared.form.Param.{Param}
+use Rattle.occ_parse_rules.specs.occ_parse_forms.Shape.{Shape, header, close}
 use Rattle.occ_parse_rules.specs.Forest.{Forest, no_line, and_line}
 use Rattle.occ_parse_rules.specs.Judging.{on_line, first_fault}
 use Rattle.occ_parse_rules.specs.Limits.{bits_fault, bits_in_scope, copied_lines, count_fault}
@@ -12,15 +12,15 @@ use Rattle.occ_parse_rules.specs.Names.{name_fault, redeclares_some}
 use Rattle.occ_parse_rules.specs.Places.{Sorts, param_entries}
 use Rattle.occ_parse_rules.specs.Types.{type_fault, direction_fault}
 use Rattle.occ_parse_rules.specs.Unrolled.{slot_process}
-use Rattle.occ_parse_sound.specs.Programs.{param_scope}
-use Rattle.occ_parse_reading.specs.declared.bound.Bound.{Bound}
-use Rattle.occ_parse_reading.specs.declared.fault.ParseFault.{ParseFault}
-use Rattle.occ_parse_reading.specs.declared.fault.ParseFault.TheVariants as fault
-use Rattle.occ_parse_reading.specs.declared.fault.Which.{Which}
-use Rattle.occ_parse_reading.specs.declared.fault.Which.TheVariants as which
-use Rattle.occ_parse_reading.specs.Limits.{is_limited}
-use Rattle.occ_parse_reading.specs.Drafts.{header_line, header_params, header_below, as_fault, name_fault_on, type_fault_on, over, unnumbered, parameters, limit_fault, limit_fault_of, draft_fault}
-use Rattle.occ_parse_sound.proofs.Facts.{if_none, on_line_none, or_else_none}
+use Rattle.occ_parse_rules.specs.Programs.{param_scope}
+use Rattle.occ_parse.specs.declared.bound.Bound.{Bound}
+use Rattle.occ_parse.specs.declared.fault.ParseFault.{ParseFault}
+use Rattle.occ_parse.specs.declared.fault.ParseFault.TheVariants as fault
+use Rattle.occ_parse.specs.declared.fault.Which.{Which}
+use Rattle.occ_parse.specs.declared.fault.Which.TheVariants as which
+use Rattle.occ_parse.specs.Limits.{is_limited}
+use Rattle.occ_parse.specs.Drafts.{header_line, header_params, header_below, as_fault, name_fault_on, type_fault_on, over, unnumbered, parameters, limit_fault, limit_fault_of, draft_fault}
+use Rattle.occ_parse_rules.proofs.Facts.{if_none, on_line_none, or_else_none}
 
 -- lines that begin with a header and end with a close
 abbrev pub lines_of : ℕ → Name → List Param → Forest → ℕ → Forest

@@ -1,17 +1,17 @@
 -- Lines as a forest, and a text by its lines.
-use Rattle.std.proofs.Common.{◌≡◌, ℕ, Bool, true, false, List, Option, Some, None, refl, sym, ap, subst, ◌∙◌, ◌⊎◌, inl, inr}
+use Rattle.std.proofs.Common.{◌≡◌, ℕ, Bool, false, List, Option, None, refl, sym, ap, subst, ◌∙◌, ◌⊎◌, inl, inr}
 use Rattle.std.specs.Prelude.{is_some, Result, Ok, Err, IfErr}
-use Rattle.occ_lex.specs.declared.fault.LineFault.{LineFault}
-use Rattle.occ_lex.specs.declared.token.Line.{Line}
-use Rattle.occ_lex.specs.Rows.{reading_of}
-use Rattle.occ_lex_symbols.specs.declared.symbol.Row.{Row}
-use Rattle.occ_lex_symbols.specs.Symbols.{rows_of}
-use Rattle.occ_base.specs.declared.names.Name.{Name}
+use Rattle.occ_parse_layout.specs.occ_lex.declared.fault.LineFault.{LineFault}
+use Rattle.occ_parse_layout.specs.occ_lex.declared.token.Line.{Line}
+use Rattle.occ_parse_layout.specs.occ_lex.Rows.{reading_of}
+use Rattle.occ_parse_layout.specs.occ_lex.declared.symbol.Row.{Row}
+use Rattle.occ_parse_layout.specs.occ_lex.Symbols.{rows_of}
+use Rattle.occ_usage.specs.occ_base.declared.names.Name.{Name}
 use Rattle.occ_syntax.specs.declared.scope.Kind.{Kind}
 use Rattle.occ_syntax.specs.Tree.{Tree}
-use Rattle.occ_parse_forms.specs.declared.form.Param.{Param}
+use Rattle.occ_parse_rules.specs.occ_parse_forms.declared.form.Param.{Param}
 use Rattle.occ_parse_rules.specs.Unrolled.{params_named, slot_process, lined}
-use Rattle.occ_parse_sound.specs.Programs.{param_scope}
+use Rattle.occ_parse_rules.specs.Programs.{param_scope}
 use Rattle.occ_parse_unroll.specs.Elements.{with_elements}
 use Rattle.occ_parse_unroll.specs.Numbers.{number_in}
 use Rattle.occ_parse_rules.specs.Forest.{Forest, Laid, lines_at}
@@ -22,13 +22,13 @@ use Rattle.occ_parse_layout.specs.Nesting.{Nest}
 use Rattle.occ_parse_layout.specs.Whole.{IsProgram}
 use Rattle.occ_parse_layout.proofs.Levels.{good_nest}
 use Rattle.occ_parse_layout.proofs.Framed.{whole_of}
-use Rattle.occ_parse_reading.specs.declared.bound.Bound.{Bound}
-use Rattle.occ_parse_reading.specs.declared.bound.Bound.TheVariants as bound
-use Rattle.occ_parse_reading.specs.declared.fault.ParseFault.{ParseFault}
-use Rattle.occ_parse_reading.specs.declared.fault.ParseFault.TheVariants as fault
-use Rattle.occ_parse_reading.specs.Limits.{is_too_long, frame_of, stopped}
-use Rattle.occ_parse_reading.specs.Drafts.{header_name, header_params, header_below, draft_fault}
-use Rattle.occ_parse_reading.specs.Reading.{AreForms, AreJudged, IsLaidOut, IsRefused, badly_laid, at_line, IsRead, rows_in, names_in}
+use Rattle.occ_parse.specs.declared.bound.Bound.{Bound}
+use Rattle.occ_parse.specs.declared.bound.Bound.TheVariants as bound
+use Rattle.occ_parse.specs.declared.fault.ParseFault.{ParseFault}
+use Rattle.occ_parse.specs.declared.fault.ParseFault.TheVariants as fault
+use Rattle.occ_parse.specs.Limits.{is_too_long, frame_of, stopped}
+use Rattle.occ_parse.specs.Drafts.{header_name, header_params, header_below, draft_fault}
+use Rattle.occ_parse.specs.Reading.{AreForms, AreJudged, IsLaidOut, IsRefused, badly_laid, at_line, IsRead, rows_in, names_in}
 use Rattle.occ_parse.specs.Laying.{IsIllLaid}
 
 nest_of : (b : Bound) (rows : List Laid) → least_bad (frame_of b) false rows ≡ None → Nest 0 0 rows
@@ -42,12 +42,6 @@ pub good_rows_nest : (b : Bound) (f : Frame) (stop : Option ParseFault) (more : 
 good_rows_nest b f stop more rows r e m s h n =
     let no_more : more ≡ false = m ∙ ap (λ t. is_some t) s in
     nest_of b rows (ap (λ g. least_bad g false rows) (sym e) ∙ ap (λ a. least_bad f a rows) (sym no_more) ∙ sym h ∙ n)
-
-pub row_behind : (b : Bound) (f : Frame) (stop : Option ParseFault) (more : Bool) (rows : List Laid) (r : Option ℕ) (g : ParseFault) → f ≡ frame_of b → more ≡ is_some stop
-    → r ≡ least_bad f more rows → r ≡ None → stop ≡ Some g → IsIllLaid b rows stop g
-row_behind b f stop more rows r g e m h n s =
-    let yet_more : more ≡ true = m ∙ ap (λ t. is_some t) s in
-    inr (s, ap (λ g. least_bad g true rows) (sym e) ∙ ap (λ a. least_bad f a rows) (sym yet_more) ∙ sym h ∙ n)
 
 pub if_err : {A E : Type 0} {P Q : E → Type 0} (r : Result A E) → ((e : E) → P e → Q e) → IfErr r P → IfErr r Q
 if_err (Ok x) f h = h

@@ -2,32 +2,32 @@
 use Rattle.std.proofs.Common.{◌≡◌, ℕ, ◌+◌, ◌<◌, Bool, true, nat_lt, List, [], ◌∷◌, ◌++◌, length, Option, Some, None, refl, sym, ap, subst, ◌∙◌, ◌&&◌}
 use Rattle.std.specs.List.{AllByRecursion, list_all}
 use Rattle.std.proofs.lemmas.Bool.{and_parts, and_from, ltb-true}
-use Rattle.occ_lex.specs.declared.fault.LineFault.{LineFault}
-use Rattle.occ_lex.specs.Rows.{reading_of}
-use Rattle.occ_lex.proofs.Placing.{reading_placed}
-use Rattle.occ_lex_symbols.specs.declared.symbol.Row.{Row}
-use Rattle.occ_lex_symbols.specs.declared.symbol.Symbol.{Symbol}
-use Rattle.occ_lex_symbols.specs.Symbols.{Extends}
-use Rattle.occ_lex_symbols.proofs.Interned.{extends_same}
-use Rattle.occ_parse_forms.specs.declared.form.Declared.{Declared}
-use Rattle.occ_parse_forms.specs.declared.form.Declared.TheVariants as declared
-use Rattle.occ_parse_forms.specs.declared.form.Item.{Item}
-use Rattle.occ_parse_forms.specs.declared.form.Param.{Param}
-use Rattle.occ_parse_forms.specs.declared.phrase.Index.{Index}
-use Rattle.occ_parse_forms.specs.Lines.{IsForm}
-use Rattle.occ_parse_forms.specs.Shape.{Said, item, numeral, typed, truth, negation, complement, operation, Waiting, ready, input, output, Shape, header, close, skip, stop, assign, receive, send, group, declare, condition, guard, nothing}
+use Rattle.occ_parse_layout.specs.occ_lex.declared.fault.LineFault.{LineFault}
+use Rattle.occ_parse_layout.specs.occ_lex.Rows.{reading_of}
+use Rattle.occ_parse_layout.proofs.from_lex.Placing.{reading_placed}
+use Rattle.occ_parse_layout.specs.occ_lex.declared.symbol.Row.{Row}
+use Rattle.occ_parse_layout.specs.occ_lex.declared.symbol.Symbol.{Symbol}
+use Rattle.occ_parse_layout.specs.occ_lex.Symbols.{Extends}
+use Rattle.occ_parse_layout.proofs.from_lex.Interned.{extends_same}
+use Rattle.occ_parse_rules.specs.occ_parse_forms.declared.form.Declared.{Declared}
+use Rattle.occ_parse_rules.specs.occ_parse_forms.declared.form.Declared.TheVariants as declared
+use Rattle.occ_parse_rules.specs.occ_parse_forms.declared.form.Item.{Item}
+use Rattle.occ_parse_rules.specs.occ_parse_forms.declared.form.Param.{Param}
+use Rattle.occ_parse_rules.specs.occ_parse_forms.declared.phrase.Index.{Index}
+use Rattle.occ_parse_rules.specs.occ_parse_forms.Lines.{IsForm}
+use Rattle.occ_parse_rules.specs.occ_parse_forms.Shape.{Said, item, numeral, typed, truth, negation, complement, operation, Waiting, ready, input, output, Shape, header, close, skip, stop, assign, receive, send, group, declare, condition, guard, nothing}
 use Rattle.occ_parse_rules.specs.Forest.{Forest, no_line, and_line, Laid, lines_at}
-use Rattle.occ_parse_sound.specs.Passing.{place_passes, item_passes, declared_passes, said_passes, waiting_passes, param_passes, shape_passes}
-use Rattle.occ_parse_sound.specs.Sound.{is_sound, are_sound}
-use Rattle.occ_parse_sound.proofs.Forms.{form_in, form_sound}
+use Rattle.occ_parse_rules.specs.Passing.{place_passes, item_passes, declared_passes, said_passes, waiting_passes, param_passes, shape_passes}
+use Rattle.occ_parse_rules.specs.Sound.{is_sound, are_sound}
+use Rattle.occ_parse_rules.proofs.Forms.{form_in, form_sound}
 use Rattle.occ_parse_unroll.specs.Known.{IsKnownElement, IsKnownItem, IsKnownDeclared, IsKnownParam, IsKnownSaid, IsKnownWaiting, IsKnownLine, AreKnownLines}
-use Rattle.occ_parse_reading.specs.declared.bound.Bound.{Bound}
-use Rattle.occ_parse_reading.specs.declared.fault.ParseFault.{ParseFault}
-use Rattle.occ_parse_reading.specs.declared.fault.Which.{Which}
-use Rattle.occ_parse_reading.specs.Limits.{line_limit, stop_at, stopped}
-use Rattle.occ_parse_reading.specs.Drafts.{header_name, header_params, header_below}
-use Rattle.occ_parse_reading.specs.Reading.{AreForms, IsLaidOut, rows_in, names_in}
-use Rattle.occ_base.specs.declared.names.Name.{Name}
+use Rattle.occ_parse.specs.declared.bound.Bound.{Bound}
+use Rattle.occ_parse.specs.declared.fault.ParseFault.{ParseFault}
+use Rattle.occ_parse.specs.declared.fault.Which.{Which}
+use Rattle.occ_parse.specs.Limits.{line_limit, stop_at, stopped}
+use Rattle.occ_parse.specs.Drafts.{header_name, header_params, header_below}
+use Rattle.occ_parse.specs.Reading.{AreForms, IsLaidOut, rows_in, names_in}
+use Rattle.occ_usage.specs.occ_base.declared.names.Name.{Name}
 use Rattle.occ_parse_layout.specs.Whole.{IsProgram}
 use Rattle.occ_parse.proofs.Forests.{program_of}
 use Rattle.occ_parse.proofs.Texts.{AreOf, rows_are, OfNames, passes_all, small_all, in_table}

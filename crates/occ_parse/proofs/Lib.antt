@@ -1,3 +1,4 @@
+pub mod Once
 mod Rows
 pub mod Forests
 mod Counting
@@ -9,3 +10,9 @@ pub mod Faultless
 pub mod Checked
 pub mod Placed
 pub mod Declared
+pub use Rattle.occ_parse_layout.proofs.from_lex as from_lex
+pub use Rattle.occ_usage.proofs.from_names as from_names
+pub use Rattle.occ_parse_layout.proofs as from_parse_layout
+pub use Rattle.occ_parse_rules.proofs as from_parse_rules
+pub use Rattle.occ_parse_unroll.proofs as from_parse_unroll
+pub use Rattle.occ_usage.proofs as from_usage

@@ -1,15 +1,15 @@
 -- Among good lines declarations stand in front of processes alone.
 use Rattle.std.proofs.Common.{◌≡◌, true, false, not, ◌&&◌, ◌||◌, None, refl, ap, ◌∙◌}
 use Rattle.std.proofs.lemmas.Bool.{and_parts, and_from}
-use Rattle.occ_parse_forms.specs.declared.form.Group.TheVariants as word
-use Rattle.occ_parse_forms.specs.Shape.{Shape, header, close, skip, stop, assign, receive, send, group, declare, condition, guard, nothing}
+use Rattle.occ_parse_rules.specs.occ_parse_forms.declared.form.Group.TheVariants as word
+use Rattle.occ_parse_rules.specs.occ_parse_forms.Shape.{Shape, header, close, skip, stop, assign, receive, send, group, declare, condition, guard, nothing}
 use Rattle.occ_parse_rules.specs.Forest.{Forest, no_line, and_line, lines_at}
-use Rattle.occ_parse_sound.specs.Sound.{is_declare, are_options, options_below, are_placed}
+use Rattle.occ_parse_rules.specs.Sound.{is_declare, are_options, options_below, are_placed}
 use Rattle.occ_parse_layout.specs.Layout.{kind_of, is_declaration, least_bad}
 use Rattle.occ_parse_layout.specs.Options.{takes_options, none_declares, options_declare_nothing}
 use Rattle.occ_parse_layout.proofs.Options.{options_of}
-use Rattle.occ_parse_reading.specs.declared.bound.Bound.{Bound}
-use Rattle.occ_parse_reading.specs.Limits.{frame_of}
+use Rattle.occ_parse.specs.declared.bound.Bound.{Bound}
+use Rattle.occ_parse.specs.Limits.{frame_of}
 
 declares_same : (s : Shape) → is_declare s ≡ is_declaration (kind_of s)
 unfolding is_declare

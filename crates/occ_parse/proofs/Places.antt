@@ -6,20 +6,20 @@ use Rattle.std.proofs.lemmas.Bool.{and_parts, and_from, ltb-true, cases_lt}
 use Rattle.std.proofs.lemmas.Fmt.{decimal_injective}
 use Rattle.std.proofs.lemmas.Option.{slice_get-get_or, get_or_from_slice_get}
 use Rattle.std.proofs.Math.ListN.{get_or-append}
-use Rattle.occ_base.specs.Names.{place_of, with_text, IsDistinct}
-use Rattle.occ_base.proofs.Naming.{naming, at_place, nowhere}
-use Rattle.occ_lex.specs.Spelling.{is_name, is_name_byte, is_letter}
-use Rattle.occ_lex.proofs.Classes.{letter_name_byte}
-use Rattle.occ_lex_symbols.specs.Symbols.{Extends}
-use Rattle.occ_lex_symbols.proofs.Interned.{extends_same, extends_trans, extends_text, longer}
-use Rattle.occ_parse_forms.specs.declared.form.Declared.{Declared}
-use Rattle.occ_parse_forms.specs.declared.form.Declared.TheVariants as declared
-use Rattle.occ_parse_forms.specs.declared.form.Param.{Param}
-use Rattle.occ_parse_forms.specs.Shape.{Shape, header, close, skip, stop, assign, receive, send, group, declare, condition, guard, nothing}
+use Rattle.occ_usage.specs.occ_base.Names.{place_of, with_text, IsDistinct}
+use Rattle.occ_usage.proofs.from_base.Naming.{naming, at_place, nowhere}
+use Rattle.occ_parse_layout.specs.occ_lex.Spelling.{is_name, is_name_byte, is_letter}
+use Rattle.occ_parse_layout.proofs.from_lex.Classes.{letter_name_byte}
+use Rattle.occ_parse_layout.specs.occ_lex.Symbols.{Extends}
+use Rattle.occ_parse_layout.proofs.from_lex.Interned.{extends_same, extends_trans, extends_text, longer}
+use Rattle.occ_parse_rules.specs.occ_parse_forms.declared.form.Declared.{Declared}
+use Rattle.occ_parse_rules.specs.occ_parse_forms.declared.form.Declared.TheVariants as declared
+use Rattle.occ_parse_rules.specs.occ_parse_forms.declared.form.Param.{Param}
+use Rattle.occ_parse_rules.specs.occ_parse_forms.Shape.{Shape, header, close, skip, stop, assign, receive, send, group, declare, condition, guard, nothing}
 use Rattle.occ_parse_rules.specs.Forest.{Forest, no_line, and_line}
 use Rattle.occ_parse_rules.specs.Places.{Place, places, elements_from}
-use Rattle.occ_parse_sound.specs.Agreement.{Known, Has, IsOneToOne, declared_places, AreIn, AreKnown}
-use Rattle.occ_parse_sound.specs.Passing.{declared_passes, param_passes, shape_passes}
+use Rattle.occ_parse_rules.specs.Agreement.{Known, Has, IsOneToOne, declared_places, AreIn, AreKnown}
+use Rattle.occ_parse_rules.specs.Passing.{declared_passes, param_passes, shape_passes}
 use Rattle.occ_parse_unroll.specs.Elements.{with_place, with_places}
 use Rattle.occ_parse_unroll.specs.Numbers.{element_text, number_in}
 use Rattle.occ_parse.proofs.Texts.{is_plain, stays}

@@ -1,16 +1,16 @@
 -- Rows that are judged one by one.
-use Rattle.std.proofs.Common.{◌≡◌, ℕ, ◌+◌, ◌<◌, ◌≤◌, List, [], ◌∷◌, ◌++◌, length, get_or, drop, Option, Some, None, refl, sym, ap, subst, ◌∙◌, append_assoc}
+use Rattle.std.proofs.Common.{◌≡◌, ℕ, ◌+◌, ◌<◌, ◌≤◌, List, [], ◌∷◌, ◌++◌, length, get_or, drop, Option, Some, refl, sym, ap, subst, ◌∙◌}
 use Rattle.std.proofs.lemmas.List.{append-nil, drop_more, drop_all}
-use Rattle.occ_lex.specs.declared.fault.LineFault.{LineFault}
-use Rattle.occ_lex_symbols.specs.declared.symbol.Row.{Row}
+use Rattle.occ_parse_layout.specs.occ_lex.declared.fault.LineFault.{LineFault}
+use Rattle.occ_parse_layout.specs.occ_lex.declared.symbol.Row.{Row}
 use Rattle.occ_parse_rules.specs.Forest.{Laid}
 use Rattle.occ_parse_layout.specs.declared.placed.Placed.{Placed}
 use Rattle.occ_parse_layout.specs.Layout.{laid_rows}
-use Rattle.occ_parse_reading.specs.declared.bound.Bound.{Bound}
-use Rattle.occ_parse_reading.specs.declared.fault.ParseFault.{ParseFault}
-use Rattle.occ_parse_reading.specs.declared.fault.Which.{Which}
-use Rattle.occ_parse_reading.specs.Limits.{line_limit, stop_at, stopped}
-use Rattle.occ_parse_reading.specs.Reading.{IsSaid, AreForms}
+use Rattle.occ_parse.specs.declared.bound.Bound.{Bound}
+use Rattle.occ_parse.specs.declared.fault.ParseFault.{ParseFault}
+use Rattle.occ_parse.specs.declared.fault.Which.{Which}
+use Rattle.occ_parse.specs.Limits.{line_limit, stop_at, stopped}
+use Rattle.occ_parse.specs.Reading.{AreForms}
 
 -- so many rows are done, and what is left decides what follows and where it stops
 pub record Passed (b : Bound) (rows : List Row) (found : Option (ℕ × LineFault)) (done : List Laid) (left : List Row) : Type 0 where
@@ -18,17 +18,6 @@ pub record Passed (b : Bound) (rows : List Row) (found : Option (ℕ × LineFaul
   pub stop : (stopped b left found).1 ≡ (stopped b rows found).1
 
 module _ (b : Bound) (rows : List Row) (found : Option (ℕ × LineFault)) where
-  one_more : (done : List Laid) (row : Row) (left : List Row) (line : Laid) → Passed b rows found done (row ∷ left) → line_limit b row ≡ None → IsSaid row line
-      → Passed b rows found (done ++ line ∷ []) left
-  one_more done row left line p none said =
-      let others = stopped b left found in record {
-        forms = λ lines h.
-            let P : List Row × Option ParseFault → Type 0 = λ s. AreForms s.0 (line ∷ lines) in
-            let here : AreForms (stop_at row (line_limit b row) others).0 (line ∷ lines) = subst (λ o. P (stop_at row o others)) (sym none) (said, h) in
-            subst (AreForms (stopped b rows found).0) (sym (append_assoc done (line ∷ []) lines)) (p.forms (line ∷ lines) here);
-        stop = sym (ap (λ o. (stop_at row o others).1) none) ∙ p.stop;
-      }
-
   over_forms : (done : List Laid) (row : Row) (left : List Row) (w : Which) → Passed b rows found done (row ∷ left) → line_limit b row ≡ Some w
       → AreForms (stopped b rows found).0 done
   over_forms done row left w p over =

@@ -3,16 +3,16 @@ use Rattle.std.proofs.Common.{◌≡◌, Bool, true, nat_lt, List, [], ◌∷◌
 use Rattle.std.specs.List.{AllByRecursion, list_all}
 use Rattle.std.proofs.lemmas.Bool.{and_parts, and_from}
 use Rattle.std.proofs.lemmas.List.Folds.{list_all-append}
-use Rattle.occ_lex_symbols.specs.declared.symbol.Keyword.TheVariants as word
-use Rattle.occ_lex_symbols.specs.declared.symbol.Sign.TheVariants as sign
-use Rattle.occ_lex_symbols.specs.declared.symbol.Symbol.{Symbol}
-use Rattle.occ_lex_symbols.specs.declared.symbol.Symbol.TheVariants as symbol
+use Rattle.occ_parse_layout.specs.occ_lex.declared.symbol.Keyword.TheVariants as word
+use Rattle.occ_parse_layout.specs.occ_lex.declared.symbol.Sign.TheVariants as sign
+use Rattle.occ_parse_layout.specs.occ_lex.declared.symbol.Symbol.{Symbol}
+use Rattle.occ_parse_layout.specs.occ_lex.declared.symbol.Symbol.TheVariants as symbol
 use Rattle.occ_syntax.specs.declared.scope.Kind.{Kind}
-use Rattle.occ_parse_forms.specs.declared.form.Declared.{Declared}
-use Rattle.occ_parse_forms.specs.declared.form.Declared.TheVariants as declared
-use Rattle.occ_parse_forms.specs.declared.form.Param.{Param}
-use Rattle.occ_parse_forms.specs.Shape.{Shape, header, close, skip, stop, assign, receive, send, group, declare, condition, guard, nothing}
-use Rattle.occ_parse_forms.specs.Lines.{joined, list_words, count_words, kind_words, front_words, declared_words, mark_words, tail_words, param_front, IsParam, AreParams, IsDeclaration, IsForm}
+use Rattle.occ_parse_rules.specs.occ_parse_forms.declared.form.Declared.{Declared}
+use Rattle.occ_parse_rules.specs.occ_parse_forms.declared.form.Declared.TheVariants as declared
+use Rattle.occ_parse_rules.specs.occ_parse_forms.declared.form.Param.{Param}
+use Rattle.occ_parse_rules.specs.occ_parse_forms.Shape.{Shape, header, close, skip, stop, assign, receive, send, group, declare, condition, guard, nothing}
+use Rattle.occ_parse_rules.specs.occ_parse_forms.Lines.{joined, list_words, count_words, kind_words, front_words, declared_words, mark_words, tail_words, param_front, IsParam, AreParams, IsDeclaration, IsForm}
 use Rattle.occ_parse.proofs.Texts.{is_small}
 
 abbrev pub AreSmall : List Symbol → Type 0

@@ -2,10 +2,10 @@
 use Rattle.std.specs.Prelude.{ℕ, ◌≡◌, ◌⊎◌, List, Option, Some, None, is_some, true, false}
 use Rattle.occ_parse_rules.specs.Forest.{Forest, Laid, lines_at}
 use Rattle.occ_parse_layout.specs.Layout.{least_bad}
-use Rattle.occ_parse_reading.specs.declared.bound.Bound.{Bound}
-use Rattle.occ_parse_reading.specs.declared.fault.ParseFault.{ParseFault}
-use Rattle.occ_parse_reading.specs.declared.fault.ParseFault.TheVariants as fault
-use Rattle.occ_parse_reading.specs.Limits.{frame_of}
+use Rattle.occ_parse.specs.declared.bound.Bound.{Bound}
+use Rattle.occ_parse.specs.declared.fault.ParseFault.{ParseFault}
+use Rattle.occ_parse.specs.declared.fault.ParseFault.TheVariants as fault
+use Rattle.occ_parse.specs.Limits.{frame_of}
 
 -- good lines of a forest, behind which no faulty line stands
 pub record IsWellLaid (b : Bound) (laid : List Laid) (stop : Option ParseFault) (f : Forest) : Type 0 where

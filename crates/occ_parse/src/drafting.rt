@@ -4,19 +4,17 @@ ghost use Rattle.std.specs.Prelude.{◌≡◌, ◌*◌, ◌≤◌, ℕ, min, len
 ghost use Rattle.occ_parse_rules.specs.Forest.{forest};
 ghost use Rattle.occ_parse_rules.specs.Limits.{bits_in_scope};
 ghost use Rattle.occ_parse_rules.specs.Places.{places as places_in};
-ghost use Rattle.occ_parse_sound.specs.Programs.{param_scope};
+ghost use Rattle.occ_parse_rules.specs.Programs.{param_scope};
 ghost use Rattle.occ_parse_unroll.specs.Bits.{bits_of_params};
-ghost use Rattle.occ_parse_reading.specs.Drafts.{begins_with_header, draft_fault as fault_in_draft, limit_fault as fault_of_limit, name_fault_on, parameters, type_fault_on};
+ghost use Rattle.occ_parse.specs.Drafts.{begins_with_header, draft_fault as fault_in_draft, limit_fault as fault_of_limit, name_fault_on, parameters, type_fault_on};
 
 use crate::header::header_of;
 use crate::limits::is_limited;
-use occ_base::Memory;
-use occ_parse_forms::{Declared, Param};
-use occ_parse_reading::{Bound, ParseFault, Which};
-use occ_parse_rules::{NameFault, Node, TypeFault};
-use occ_parse_scopes::name_fault;
-use occ_parse_types::{direction_fault, type_fault};
+use crate::{Bound, ParseFault, Which};
+use occ_parse_rules::{NameFault, Node, Param, ParseFormsDeclared as Declared, TypeFault};
+use occ_parse_types::{direction_fault, name_fault, type_fault};
 use occ_parse_unroll::{bits_fault, controls, count_fault};
+use occ_usage::Memory;
 use std::alloc::Global;
 
 const MOST_PARAMETERS: u64 = 16;

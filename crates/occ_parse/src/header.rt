@@ -1,10 +1,9 @@
 ghost use Rattle.std.specs.Prelude.{◌≡◌, true};
 ghost use Rattle.occ_parse_rules.specs.Forest.{forest};
-ghost use Rattle.occ_parse_reading.specs.Drafts.{begins_with_header, header_below, header_line, header_name, header_params};
+ghost use Rattle.occ_parse.specs.Drafts.{begins_with_header, header_below, header_line, header_name, header_params};
 
-use occ_base::Name;
-use occ_parse_forms::{Form, Param};
-use occ_parse_rules::Node;
+use occ_parse_rules::{Form, Node, Param};
+use occ_usage::Name;
 
 /// The header of a program: its line, the program's name and parameters, and the lines below it.
 #[derive(Clone, Copy, Debug)]

@@ -1,18 +1,26 @@
-//! Texts read as programs. A text is read in this order, and the first fault that is found is the answer: its length; the
-//! least line with a fault of tokens, over a limit of lines, or badly laid out; names; types; directions; the limits of
-//! programs. What stands behind a line that can't be read isn't looked at.
-//!
-//! The language is that of C. A. R. Hoare and A. W. Roscoe (The laws of occam programming, 1988), with arrays and
-//! replicators. `occ_parse_reading` defines what a text reads as.
+//! Whole texts as programs, and what a text reads as: its first fault, or a program. A text is judged in this order: its length; the least
+//! line that has a fault of tokens, is over a limit of lines or is badly laid out; names; types; directions; the limits of programs. The
+//! language is that of C. A. R. Hoare and A. W. Roscoe (The laws of occam programming, 1988), with arrays and replicators.
 #![tactic(auto)]
 
+mod bound;
 mod drafting;
+mod fault;
 mod header;
+mod laws;
 mod laying;
 mod limits;
 mod reading;
 mod stopping;
 
-pub use occ_parse_reading::{Bound, ParseFault, Which};
+pub use bound::Bound;
+pub use fault::{ParseFault, Which};
+pub use laws::one_reading;
+pub use occ_parse_layout::{
+    Frame, LexFault, Line, Placed as ParseLayoutPlaced, grown, least_bad, lines, rows as lex_rows,
+};
+pub use occ_parse_types::{Scopes, direction_fault_in, name_fault_in, type_fault_in};
+pub use occ_parse_unroll::{Context, Numbering, element, slot};
+pub use occ_usage::{Memory, Name, NameSet, Names};
 pub use reading::{LineNumbers, Text, parse};
 pub use stopping::{Judged, judge_rows};

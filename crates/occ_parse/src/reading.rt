@@ -1,19 +1,19 @@
 ghost use Rattle.std.specs.Prelude.{◌≡◌, ◌⊎◌, ◌<◌, length, true, IfOk, IfErr};
 ghost use Rattle.occ_syntax.specs.View.{tree};
-ghost use Rattle.occ_lex_symbols.specs.Symbols.{Extends};
+ghost use Rattle.occ_parse_layout.specs.occ_lex.Symbols.{Extends};
 ghost use Rattle.occ_usage.specs.Accepted.{IsTyped};
-ghost use Rattle.occ_parse_reading.specs.Limits.{is_limited};
-ghost use Rattle.occ_parse_reading.specs.Reading.{IsRead, IsRefused};
+ghost use Rattle.occ_parse.specs.Limits.{is_limited};
+ghost use Rattle.occ_parse.specs.Reading.{IsRead, IsRefused};
 ghost use Rattle.occ_parse.specs.Known.{NamesAreKnown};
 
 use crate::drafting::draft_fault;
 use crate::header::header_of;
 use crate::laying::laid_out;
 use crate::limits::is_too_long;
-use occ_base::{List, Names};
-use occ_parse_reading::{Bound, ParseFault, Which};
+use crate::{Bound, ParseFault, Which};
 use occ_parse_unroll::unroll;
 use occ_syntax::Program;
+use occ_usage::{List, Names};
 use std::alloc::Global;
 
 /// The numbers of lines.
@@ -28,8 +28,8 @@ pub struct Text {
     pub lines: LineNumbers,
 }
 
-/// Reads a text as a program. Its names are kept in the table, also where it is refused. `Memory` comes only for want of
-/// memory, and each other fault is the first one that the text has. Where the limits of programs bind the text, the program
+/// Reads a text as a program. Its names are kept in the table, also where it is refused. `Memory` comes only where
+/// memory runs out, and each other fault is the first one that the text has. Where the limits of programs bind the text, the program
 /// that is read keeps names, types, directions and limits, as `check` of `occ_usage` asks. Its parameters and the names that it
 /// declares have texts in the table.
 pub fn parse(

@@ -2,16 +2,14 @@
 
 ghost use Rattle.std.specs.Prelude.{◌≡◌, ℕ, Option, IfOk};
 ghost use Rattle.occ_parse_layout.specs.Layout.{laid, laid_rows};
-ghost use Rattle.occ_parse_reading.specs.Limits.{line_fault as fault_of_line, stopped};
-ghost use Rattle.occ_parse_reading.specs.Reading.{AreForms, IsSaid};
+ghost use Rattle.occ_parse.specs.Limits.{line_fault as fault_of_line, stopped};
+ghost use Rattle.occ_parse.specs.Reading.{AreForms, IsSaid};
 
 use crate::limits::line_limit;
-use occ_base::Memory;
-use occ_lex::LineFault;
-use occ_lex_symbols::Row;
-use occ_parse_forms::read_form;
-use occ_parse_layout::Placed;
-use occ_parse_reading::{Bound, ParseFault};
+use crate::{Bound, ParseFault};
+use occ_parse_layout::{LineFault, Placed, Row};
+use occ_parse_rules::read_form;
+use occ_usage::Memory;
 use std::alloc::Global;
 
 /// The lines that are judged, and the fault of the line behind them, where there is one.

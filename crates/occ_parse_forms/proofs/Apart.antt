@@ -3,9 +3,9 @@ use Rattle.std.proofs.Common.{◌≡◌, Bool, true, false, [], ◌∷◌, Optio
 use Rattle.std.proofs.lemmas.Bool.{both_ways, cases_Bool}
 use Rattle.occ_syntax.specs.declared.expr.Op.{Op}
 use Rattle.occ_syntax.specs.declared.expr.Op.TheVariants as op
-use Rattle.occ_lex_symbols.specs.declared.symbol.Sign.{Sign}
-use Rattle.occ_lex_symbols.specs.declared.symbol.Sign.TheVariants as sign
-use Rattle.occ_lex_symbols.specs.declared.symbol.Symbol.TheVariants as symbol
+use Rattle.occ_lex.specs.declared.symbol.Sign.{Sign}
+use Rattle.occ_lex.specs.declared.symbol.Sign.TheVariants as sign
+use Rattle.occ_lex.specs.declared.symbol.Symbol.TheVariants as symbol
 use Rattle.occ_parse_forms.specs.declared.form.Item.{Item}
 use Rattle.occ_parse_forms.specs.declared.phrase.Index.{Index}
 use Rattle.occ_parse_forms.specs.declared.phrase.Index.TheVariants as index

@@ -1,7 +1,7 @@
 -- Steps of reading a chain of operands.
 use Rattle.std.proofs.Common.{◌≡◌, ℕ, zero, suc, ◌+◌, ◌-◌, ◌<◌, ◌≤◌, List, Some, None, refl, sym, ap, ◌∙◌, arith}
 use Rattle.occ_syntax.specs.declared.expr.Op.{Op}
-use Rattle.occ_lex_symbols.specs.declared.symbol.Symbol.{Symbol}
+use Rattle.occ_lex.specs.declared.symbol.Symbol.{Symbol}
 use Rattle.occ_parse_forms.specs.declared.fault.Fault.{Fault}
 use Rattle.occ_parse_forms.specs.declared.fault.Fault.TheVariants as fault
 use Rattle.occ_parse_forms.specs.Gives.{FailsAs}

@@ -2,9 +2,9 @@
 use Rattle.std.proofs.Common.{◌≡◌, ℕ, ◌<◌, ◌≤◌, ◌+◌, ◌-◌, true, false, List, [], ◌∷◌, ◌++◌, length, take, drop, get_or, Option, Some, None, refl, sym, ap, ◌∙◌, append_assoc}
 use Rattle.std.proofs.lemmas.List.{append-nil, drop_all, drop_more, take_more, take_rest}
 use Rattle.std.proofs.lemmas.Bool.{cond-true, cond-false}
-use Rattle.occ_lex_symbols.specs.declared.symbol.Sign.{Sign}
-use Rattle.occ_lex_symbols.specs.declared.symbol.Symbol.{Symbol}
-use Rattle.occ_lex_symbols.specs.declared.symbol.Symbol.TheVariants as symbol
+use Rattle.occ_lex.specs.declared.symbol.Sign.{Sign}
+use Rattle.occ_lex.specs.declared.symbol.Symbol.{Symbol}
+use Rattle.occ_lex.specs.declared.symbol.Symbol.TheVariants as symbol
 use Rattle.occ_parse_forms.specs.Symbols.{cut, same_symbol, then_read}
 
 pub cut_found : (at : Sign) (s : Symbol) (rest : List Symbol) → same_symbol s (symbol.Sign at) ≡ true → cut at (s ∷ rest) ≡ Some ([], rest)

@@ -3,12 +3,12 @@ use Rattle.std.proofs.Common.{◌≡◌, true, false, append_assoc, arith, List,
 use Rattle.std.proofs.lemmas.List.{append-nil}
 use Rattle.occ_syntax.specs.declared.scope.Kind.{Kind}
 use Rattle.occ_syntax.specs.declared.scope.Kind.TheVariants as kind
-use Rattle.occ_lex_symbols.specs.declared.symbol.Keyword.{Keyword}
-use Rattle.occ_lex_symbols.specs.declared.symbol.Keyword.TheVariants as word
-use Rattle.occ_lex_symbols.specs.declared.symbol.Sign.{Sign}
-use Rattle.occ_lex_symbols.specs.declared.symbol.Sign.TheVariants as sign
-use Rattle.occ_lex_symbols.specs.declared.symbol.Symbol.{Symbol}
-use Rattle.occ_lex_symbols.specs.declared.symbol.Symbol.TheVariants as symbol
+use Rattle.occ_lex.specs.declared.symbol.Keyword.{Keyword}
+use Rattle.occ_lex.specs.declared.symbol.Keyword.TheVariants as word
+use Rattle.occ_lex.specs.declared.symbol.Sign.{Sign}
+use Rattle.occ_lex.specs.declared.symbol.Sign.TheVariants as sign
+use Rattle.occ_lex.specs.declared.symbol.Symbol.{Symbol}
+use Rattle.occ_lex.specs.declared.symbol.Symbol.TheVariants as symbol
 use Rattle.occ_parse_forms.specs.declared.form.Declared.{Declared}
 use Rattle.occ_parse_forms.specs.declared.form.Declared.TheVariants as declared
 use Rattle.occ_parse_forms.specs.declared.form.Group.{Group}

@@ -2,15 +2,15 @@
 use Rattle.std.proofs.Common.{◌≡◌, ℕ, zero, suc, inl, inr, Bool, true, false, List, [], ◌∷◌, ◌++◌, length, Some, None, refl, sym, ap, ◌∙◌, append_assoc, cond}
 use Rattle.std.proofs.lemmas.List.{append-nil}
 use Rattle.std.proofs.lemmas.Bool.{cases_Bool, cond-true, cond-false}
-use Rattle.occ_base.specs.declared.width.Width.{Width}
+use Rattle.occ_lex.specs.occ_base.declared.width.Width.{Width}
 use Rattle.occ_syntax.specs.declared.expr.Op.{Op}
 use Rattle.occ_syntax.specs.declared.expr.Op.TheVariants as op
-use Rattle.occ_lex_symbols.specs.declared.symbol.Keyword.{Keyword}
-use Rattle.occ_lex_symbols.specs.declared.symbol.Keyword.TheVariants as word
-use Rattle.occ_lex_symbols.specs.declared.symbol.Sign.{Sign}
-use Rattle.occ_lex_symbols.specs.declared.symbol.Sign.TheVariants as sign
-use Rattle.occ_lex_symbols.specs.declared.symbol.Symbol.{Symbol}
-use Rattle.occ_lex_symbols.specs.declared.symbol.Symbol.TheVariants as symbol
+use Rattle.occ_lex.specs.declared.symbol.Keyword.{Keyword}
+use Rattle.occ_lex.specs.declared.symbol.Keyword.TheVariants as word
+use Rattle.occ_lex.specs.declared.symbol.Sign.{Sign}
+use Rattle.occ_lex.specs.declared.symbol.Sign.TheVariants as sign
+use Rattle.occ_lex.specs.declared.symbol.Symbol.{Symbol}
+use Rattle.occ_lex.specs.declared.symbol.Symbol.TheVariants as symbol
 use Rattle.occ_parse_forms.specs.Lines.{IsWritten}
 use Rattle.occ_parse_forms.specs.Reading.{item_behind, width_in_brackets, truth_in, plain_operand, op_in_word, op_in_sign, op_in, op_first, is_chained, further, operated, expression_by, operand_with, operand_within, expression_of}
 use Rattle.occ_parse_forms.specs.Shape.{Said, item, numeral, typed, truth, negation, complement, operation}

@@ -3,7 +3,7 @@ use Rattle.std.proofs.Common.{◌≡◌, ℕ, ◌<◌, ◌≤◌, ◌+◌, ◌-�
 use Rattle.std.proofs.lemmas.List.{map-append, drop_all, drop_more, take_more, take_all, length-drop}
 use Rattle.std.proofs.lemmas.Bool.{cond-true, cond-false}
 use Rattle.std.proofs.lemmas.List.{get_or-drop}
-use Rattle.occ_lex_symbols.specs.declared.symbol.Symbol.{Symbol}
+use Rattle.occ_lex.specs.declared.symbol.Symbol.{Symbol}
 use Rattle.occ_parse_forms.specs.Symbols.{split}
 
 pub split_sep : (test : Symbol → Bool) (front : List Symbol) (s : Symbol) (xs : List Symbol) → test s ≡ true → split test front (s ∷ xs) ≡ front ∷ split test [] xs

@@ -2,7 +2,7 @@ use Rattle.std.specs.Prelude.{◌≡◌, Option, Some, None, Result, Ok, Err}
 use Rattle.occ_parse_forms.specs.declared.fault.Fault.{Fault}
 use Rattle.occ_parse_forms.specs.declared.fault.Fault.TheVariants as fault
 
--- Form comes where nothing is read; want of memory comes at any time
+-- Form comes where nothing is read; memory may run out at any time
 abbrev pub FailsAs : {B : Type 0} → Fault → Option B → Type 0
 FailsAs fault.Form read = read ≡ None
 FailsAs fault.Memory read = Unit {0}

@@ -1,19 +1,19 @@
 -- What symbols are read as. Each of these readings is the inverse of a spelling.
 use Rattle.std.specs.Prelude.{ℕ, zero, suc, ◌==◌, Bool, true, false, if◌then◌else◌, List, [], ◌∷◌, length, Option, Some, None, is_some}
 use Rattle.std.specs.List.{list_any}
-use Rattle.occ_base.specs.declared.event.Dir.TheVariants as dir
-use Rattle.occ_base.specs.declared.names.Name.{Name}
-use Rattle.occ_base.specs.declared.width.Width.{Width}
+use Rattle.occ_lex.specs.occ_base.declared.event.Dir.TheVariants as dir
+use Rattle.occ_lex.specs.occ_base.declared.names.Name.{Name}
+use Rattle.occ_lex.specs.occ_base.declared.width.Width.{Width}
 use Rattle.occ_syntax.specs.declared.expr.Op.{Op}
 use Rattle.occ_syntax.specs.declared.expr.Op.TheVariants as op
 use Rattle.occ_syntax.specs.declared.scope.Kind.{Kind}
 use Rattle.occ_syntax.specs.declared.scope.Kind.TheVariants as kind
-use Rattle.occ_lex_symbols.specs.declared.symbol.Keyword.{Keyword}
-use Rattle.occ_lex_symbols.specs.declared.symbol.Keyword.TheVariants as word
-use Rattle.occ_lex_symbols.specs.declared.symbol.Sign.{Sign}
-use Rattle.occ_lex_symbols.specs.declared.symbol.Sign.TheVariants as sign
-use Rattle.occ_lex_symbols.specs.declared.symbol.Symbol.{Symbol}
-use Rattle.occ_lex_symbols.specs.declared.symbol.Symbol.TheVariants as symbol
+use Rattle.occ_lex.specs.declared.symbol.Keyword.{Keyword}
+use Rattle.occ_lex.specs.declared.symbol.Keyword.TheVariants as word
+use Rattle.occ_lex.specs.declared.symbol.Sign.{Sign}
+use Rattle.occ_lex.specs.declared.symbol.Sign.TheVariants as sign
+use Rattle.occ_lex.specs.declared.symbol.Symbol.{Symbol}
+use Rattle.occ_lex.specs.declared.symbol.Symbol.TheVariants as symbol
 use Rattle.occ_parse_forms.specs.declared.declaration.Front.{Front}
 use Rattle.occ_parse_forms.specs.declared.form.Declared.{Declared}
 use Rattle.occ_parse_forms.specs.declared.form.Declared.TheVariants as declared

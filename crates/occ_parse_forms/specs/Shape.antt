@@ -1,7 +1,7 @@
 -- What a line says, apart from where its parts lie in memory.
 use Rattle.std.specs.Prelude.{ℕ, Bool, List, map, Option}
-use Rattle.occ_base.specs.declared.names.Name.{Name}
-use Rattle.occ_base.specs.declared.width.Width.{Width}
+use Rattle.occ_lex.specs.occ_base.declared.names.Name.{Name}
+use Rattle.occ_lex.specs.occ_base.declared.width.Width.{Width}
 use Rattle.occ_syntax.specs.declared.expr.Op.{Op}
 use Rattle.occ_syntax.specs.declared.scope.Kind.{Kind}
 use Rattle.occ_parse_forms.specs.declared.form.Item.{Item}

@@ -2,8 +2,7 @@ ghost use Rattle.std.specs.Prelude.{◌≡◌, IfOk, map};
 ghost use Rattle.occ_parse_forms.specs.Gives.{Finds};
 ghost use Rattle.occ_parse_forms.specs.Symbols.{alone, behind, behind_sign, behind_word, cut, groups_of, name_first, numeral_first, width_first};
 
-use occ_base::{Memory, Name, Width};
-use occ_lex_symbols::{Keyword, Sign, Symbol};
+use occ_lex::{Keyword, Memory, Name, Sign, Symbol, Width};
 use std::alloc::Global;
 
 /// The symbols behind one, where it comes first.

@@ -8,8 +8,7 @@ use crate::cursor::{
 };
 use crate::fault::Fault;
 use crate::{Count, Declaration, Declared, Param};
-use occ_base::{Dir, List, Name, Width};
-use occ_lex_symbols::{Keyword, Sign, Symbol};
+use occ_lex::{Dir, Keyword, List, Name, Sign, Symbol, Width};
 use occ_syntax::Kind;
 use std::alloc::Global;
 

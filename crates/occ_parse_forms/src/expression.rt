@@ -9,8 +9,7 @@ use crate::cursor::{behind_sign, behind_word, groups, width_first};
 use crate::fault::Fault;
 use crate::item::item_behind;
 use crate::{Phrase, Phrases};
-use occ_base::{Memory, Width};
-use occ_lex_symbols::{Keyword, Sign, Symbol};
+use occ_lex::{Keyword, Memory, Sign, Symbol, Width};
 use occ_syntax::Op;
 use std::alloc::Global;
 

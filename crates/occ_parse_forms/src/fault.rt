@@ -1,7 +1,7 @@
 ghost use Rattle.std.specs.Prelude.{◌≡◌};
 ghost use Rattle.occ_parse_forms.specs.declared.fault.Fault.TheVariants as fault;
 
-use occ_base::Memory;
+use occ_lex::Memory;
 use std::alloc::AllocFailed;
 
 /// Why symbols aren't read.

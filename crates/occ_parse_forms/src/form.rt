@@ -1,5 +1,5 @@
 use crate::{Index, Phrase, Phrases};
-use occ_base::{List, Name};
+use occ_lex::{List, Name};
 use occ_syntax::Kind;
 
 /// A name, or an element of the array of that name.

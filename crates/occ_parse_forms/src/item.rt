@@ -6,8 +6,7 @@ ghost use Rattle.occ_parse_forms.specs.Symbols.{each, groups_of};
 use crate::cursor::{alone, behind_sign, behind_word, groups, name_first, numeral_first};
 use crate::fault::Fault;
 use crate::{Index, Item, Items};
-use occ_base::Name;
-use occ_lex_symbols::{Keyword, Sign, Symbol};
+use occ_lex::{Keyword, Name, Sign, Symbol};
 use std::alloc::Global;
 
 /// An index that begins with a name: the name alone, or with a numeral that is added or taken away.

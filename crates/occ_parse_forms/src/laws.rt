@@ -1,5 +1,5 @@
 ghost use Rattle.std.specs.Prelude.{◌≡◌, List};
-ghost use Rattle.occ_lex_symbols.specs.declared.symbol.Symbol.{Symbol};
+ghost use Rattle.occ_lex.specs.declared.symbol.Symbol.{Symbol};
 ghost use Rattle.occ_parse_forms.specs.Lines.{IsForm};
 ghost use Rattle.occ_parse_forms.specs.Shape.{Shape};
 

@@ -11,8 +11,7 @@ use crate::expression::{expression, expressions};
 use crate::fault::Fault;
 use crate::item::{item, items};
 use crate::{Form, Group, Item, Items, Param, Phrase, Phrases, Times, Wants};
-use occ_base::{List, Name};
-use occ_lex_symbols::{Keyword, Sign, Symbol};
+use occ_lex::{Keyword, List, Name, Sign, Symbol};
 use std::alloc::Global;
 
 /// How a line goes on, by its first symbol.

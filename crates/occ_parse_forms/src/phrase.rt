@@ -1,7 +1,7 @@
 ghost use Rattle.std.specs.Prelude.{◌≡◌, [], ◌∷◌, ◌++◌, OnOk, OnErr};
 
 use crate::Item;
-use occ_base::{Memory, Name, Width};
+use occ_lex::{Memory, Name, Width};
 use occ_syntax::Op;
 use std::alloc::Global;
 use std::marker::Model;
@@ -67,7 +67,7 @@ impl Phrases {
         }
     }
 
-    /// Adds an expression at the end. After want of memory the list is as before.
+    /// Adds an expression at the end. Where memory runs out, the list is as before.
     pub fn push(&mut self, item: Phrase) -> Result<(), Memory>
         ensures ok { OnOk result (self.new ≡ self.old ++ item ∷ []) }
         ensures err { OnErr result (self.new ≡ self.old) }

@@ -5,8 +5,7 @@ ghost use Rattle.occ_parse_forms.specs.Shape.{shape};
 use crate::Form;
 use crate::fault::Fault;
 use crate::line::line;
-use occ_base::Memory;
-use occ_lex_symbols::Symbol;
+use occ_lex::{Memory, Symbol};
 use std::alloc::Global;
 
 /// What a line says, from its symbols alone. It is `Form::Nothing` exactly where the symbols are spelled as none of the

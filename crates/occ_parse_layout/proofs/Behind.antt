@@ -2,7 +2,7 @@
 use Rattle.std.proofs.Common.{◌≡◌, ℕ, ◌+◌, ◌<◌, ◌≤◌, Bool, true, false, eqb, cond, List, [], ◌∷◌, length, get_or, take, drop, reverse, refl, sym, subst, ap, ◌∙◌, arith, Option, Some, None}
 use Rattle.std.proofs.lemmas.Bool.{cond-true, cond-false, and_parts}
 use Rattle.std.proofs.lemmas.List.{reverse-append, map_more, drop_more, drop_all}
-use Rattle.occ_parse_forms.specs.Shape.{shape}
+use Rattle.occ_parse_rules.specs.occ_parse_forms.Shape.{shape}
 use Rattle.occ_parse_rules.specs.Forest.{Laid}
 use Rattle.occ_parse_layout.specs.declared.placed.Placed.{Placed}
 use Rattle.occ_parse_layout.specs.declared.placed.Frame.{Frame}

@@ -1,9 +1,9 @@
 -- Lines taken one after another, with the lines below them, are those of the forest that grows.
 use Rattle.std.proofs.Common.{◌≡◌, ℕ, ◌+◌, ◌<◌, ◌≤◌, List, [], ◌∷◌, ◌++◌, reverse, refl, sym, subst, ap, ◌∙◌, arith, append_assoc, Option, Some, option_to_list, Result, Ok, Err, IfOk, OnOk}
-use Rattle.occ_base.specs.declared.memory.Memory.{Memory}
+use Rattle.occ_parse_rules.specs.occ_base.declared.memory.Memory.{Memory}
 use Rattle.occ_parse_rules.specs.declared.node.Nodes.{Nodes}
 use Rattle.std.proofs.lemmas.List.{reverse-append, reverse-reverse, append-nil}
-use Rattle.occ_parse_forms.specs.Shape.{shape}
+use Rattle.occ_parse_rules.specs.occ_parse_forms.Shape.{shape}
 use Rattle.occ_parse_rules.specs.declared.node.Node.{Node, Node'}
 use Rattle.occ_parse_rules.specs.Forest.{Forest, no_line, Laid, lines_at, grafted, forest, in_nodes, IsLine}
 use Rattle.occ_parse_layout.specs.declared.placed.Placed.{Placed}

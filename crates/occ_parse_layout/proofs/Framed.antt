@@ -4,9 +4,9 @@ use Rattle.std.specs.List.{list_any, list_all}
 use Rattle.std.proofs.lemmas.Bool.{ne_eqb, and_parts, and_from, false≢true, cases_lt}
 use Rattle.std.proofs.lemmas.List.{append-nil}
 use Rattle.std.proofs.lemmas.List.Folds.{list_all-append, list_any-append}
-use Rattle.occ_base.specs.declared.names.Name.{Name}
-use Rattle.occ_parse_forms.specs.declared.form.Param.{Param}
-use Rattle.occ_parse_forms.specs.Shape.{Shape, header, close, skip, stop, assign, receive, send, group, declare, condition, guard, nothing}
+use Rattle.occ_parse_rules.specs.occ_base.declared.names.Name.{Name}
+use Rattle.occ_parse_rules.specs.occ_parse_forms.declared.form.Param.{Param}
+use Rattle.occ_parse_rules.specs.occ_parse_forms.Shape.{Shape, header, close, skip, stop, assign, receive, send, group, declare, condition, guard, nothing}
 use Rattle.occ_parse_rules.specs.Forest.{Forest, no_line, and_line, Laid, lines_at}
 use Rattle.occ_parse_layout.specs.declared.placed.Frame.{Frame}
 use Rattle.occ_parse_layout.specs.declared.placed.Frame.TheVariants as frame

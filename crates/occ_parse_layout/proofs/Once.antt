@@ -1,7 +1,7 @@
 -- Lines are those of one forest at most.
 use Rattle.std.proofs.Common.{◌≡◌, ℕ, ◌+◌, ◌<◌, List, [], ◌∷◌, ◌++◌, refl, sym, ap, ◌∙◌, arith, append_assoc}
 use Rattle.std.proofs.lemmas.List.{append-nil}
-use Rattle.occ_parse_forms.specs.Shape.{Shape}
+use Rattle.occ_parse_rules.specs.occ_parse_forms.Shape.{Shape}
 use Rattle.occ_parse_rules.specs.Forest.{Forest, no_line, and_line, Laid, lines_at}
 use Rattle.occ_parse_layout.specs.Nesting.{IsAbove}
 

@@ -2,7 +2,7 @@
 use Rattle.std.proofs.Common.{◌≡◌, ℕ, ◌+◌, ◌<◌, ◌≤◌, Bool, true, false, not, ◌&&◌, ◌||◌, List, [], ◌∷◌, ◌++◌, refl, sym, subst, ap, ◌∙◌, arith, append_assoc, None, ⊎_elim}
 use Rattle.std.proofs.lemmas.Bool.{cond-true, le-leb, and_parts, and_from, false≢true, cases_Bool}
 use Rattle.std.proofs.lemmas.List.{append-nil}
-use Rattle.occ_parse_forms.specs.Shape.{Shape}
+use Rattle.occ_parse_rules.specs.occ_parse_forms.Shape.{Shape}
 use Rattle.occ_parse_rules.specs.Forest.{Forest, no_line, and_line, Laid, lines_at}
 use Rattle.occ_parse_layout.specs.declared.placed.Frame.{Frame}
 use Rattle.occ_parse_layout.specs.declared.kind.Child.{Child}

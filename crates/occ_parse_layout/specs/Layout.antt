@@ -2,9 +2,9 @@
 -- before it (the nearest first) and from the lines after it.
 use Rattle.std.specs.Prelude.{ℕ, ◌+◌, ◌==◌, nat_lt, nat_le, Bool, true, false, not, ◌&&◌, ◌||◌, if◌then◌else◌, List, [], ◌∷◌, map, Option, Some, None, is_some}
 use Rattle.std.specs.List.{list_any}
-use Rattle.occ_parse_forms.specs.declared.form.Group.{Group}
-use Rattle.occ_parse_forms.specs.declared.form.Group.TheVariants as word
-use Rattle.occ_parse_forms.specs.Shape.{Shape, header, close, skip, stop, assign, receive, send, group, declare, condition, guard, nothing, shape}
+use Rattle.occ_parse_rules.specs.occ_parse_forms.declared.form.Group.{Group}
+use Rattle.occ_parse_rules.specs.occ_parse_forms.declared.form.Group.TheVariants as word
+use Rattle.occ_parse_rules.specs.occ_parse_forms.Shape.{Shape, header, close, skip, stop, assign, receive, send, group, declare, condition, guard, nothing, shape}
 use Rattle.occ_parse_rules.specs.Forest.{Laid}
 use Rattle.occ_parse_layout.specs.declared.placed.Placed.{Placed}
 use Rattle.occ_parse_layout.specs.declared.placed.Frame.{Frame}

@@ -1,8 +1,8 @@
 -- What good lines are together.
 use Rattle.std.specs.Prelude.{ℕ, ◌≡◌, Bool, true, not, ◌&&◌, List}
-use Rattle.occ_base.specs.declared.names.Name.{Name}
-use Rattle.occ_parse_forms.specs.declared.form.Param.{Param}
-use Rattle.occ_parse_forms.specs.Shape.{Shape, header, close}
+use Rattle.occ_parse_rules.specs.occ_base.declared.names.Name.{Name}
+use Rattle.occ_parse_rules.specs.occ_parse_forms.declared.form.Param.{Param}
+use Rattle.occ_parse_rules.specs.occ_parse_forms.Shape.{Shape, header, close}
 use Rattle.occ_parse_rules.specs.Forest.{Forest, no_line, and_line}
 use Rattle.occ_parse_layout.specs.declared.placed.Frame.{Frame}
 use Rattle.occ_parse_layout.specs.declared.placed.Frame.TheVariants as frame

@@ -4,8 +4,7 @@ ghost use Rattle.occ_parse_layout.specs.Nesting.{IsAbove, Nest, Takes, left};
 ghost use Rattle.std.specs.Prelude.{◌≡◌, ◌≤◌, ◌<◌, ◌++◌, ℕ, IfOk, MatchOption, OnOk, vec_len};
 
 use crate::Placed;
-use occ_base::Memory;
-use occ_parse_rules::{Node, Nodes};
+use occ_parse_rules::{Memory, Node, Nodes};
 use std::alloc::Global;
 
 /// Takes the next line where that is at the level. The rows lie the other way round, the next one last.

@@ -1,9 +1,9 @@
 ghost use Rattle.std.specs.Prelude.{◌≡◌};
-ghost use Rattle.occ_parse_forms.specs.Shape.{shape};
+ghost use Rattle.occ_parse_rules.specs.occ_parse_forms.Shape.{shape};
 ghost use Rattle.occ_parse_layout.specs.Layout.{child_of, fits, fits_child, is_close, is_declaration, is_header, kind_of, may_repeat, needs_child, takes};
 
 use crate::Frame;
-use occ_parse_forms::{Form, Group};
+use occ_parse_rules::{Form, Group};
 
 /// What can stand below a line: a slot is declaration lines and then a process line.
 #[derive(Clone, Copy, Debug, PartialEq, Eq)]

@@ -2,7 +2,7 @@ ghost use Rattle.std.specs.Prelude.{◌≡◌, ◌<◌, ◌∷◌, ◌&&◌, ◌
 ghost use Rattle.occ_parse_rules.specs.Forest.{Laid};
 ghost use Rattle.occ_parse_layout.specs.Layout.{closes, is_declaration, is_good, is_placed, is_served, kind_of, laid, laid_rows, room_at, stands_outermost, takes};
 ghost use Rattle.occ_parse_layout.specs.Scan.{Describes, IsRunServed, declared_level, shut};
-ghost use Rattle.occ_parse_forms.specs.Shape.{shape};
+ghost use Rattle.occ_parse_rules.specs.occ_parse_forms.Shape.{shape};
 
 use crate::kind::{
     Child, Kind, Room, fits, is_close, is_declaration, is_header, kind_of, may_repeat, needs_child,
@@ -10,7 +10,7 @@ use crate::kind::{
 };
 use crate::looking::{closes, has_child, has_close, has_process};
 use crate::{Frame, Placed};
-use occ_base::Memory;
+use occ_parse_rules::Memory;
 use std::alloc::Global;
 
 /// What stands at a level behind the lines that have been passed, and whether no child is there yet.

@@ -1,4 +1,4 @@
-use occ_parse_forms::Form;
+use occ_parse_rules::Form;
 
 /// A line of a text: its number counted from 1, its level, and what it says.
 #[derive(Debug, Drop)]

@@ -3,7 +3,7 @@ ghost use Rattle.occ_parse_layout.specs.Layout.{laid_rows, least_bad, least_bad_
 
 use crate::passed::Passed;
 use crate::{Frame, Placed};
-use occ_base::Memory;
+use occ_parse_rules::Memory;
 use std::alloc::Global;
 
 fn least_bad_of_none(frame: Frame, more: bool) -> Option<u32>

@@ -2,11 +2,11 @@
 use Rattle.std.proofs.Common.{◌≡◌, ℕ, zero, suc, ◌+◌, ◌-◌, ◌<◌, ◌≤◌, List, [], ◌∷◌, ◌++◌, length, get_or, drop, Some, refl, sym, ap, ◌∙◌, arith, append_assoc}
 use Rattle.std.specs.List.{AllByRecursion}
 use Rattle.std.proofs.lemmas.List.{drop_more, drop_all, append-nil}
-use Rattle.occ_base.specs.declared.names.Name.{Name}
+use Rattle.occ_parse.specs.occ_base.declared.names.Name.{Name}
 use Rattle.occ_parse_rules.specs.Places.{elements_from}
-use Rattle.occ_parse_unroll.specs.Elements.{with_places}
-use Rattle.occ_parse_unroll.specs.Numbers.{number_in}
-use Rattle.occ_parse_unroll.proofs.Known.{all_at_or}
+use Rattle.occ_parse.specs.occ_parse_unroll.Elements.{with_places}
+use Rattle.occ_parse.specs.occ_parse_unroll.Numbers.{number_in}
+use Rattle.occ_parse.proofs.from_parse_unroll.Known.{all_at_or}
 use Rattle.occ_parse_part.specs.Elements.{Elements, element_count, row_in, with_arrays, with_arrays_in, with_row}
 
 pub count_is : element_count ≡ 256

@@ -2,11 +2,11 @@
 use Rattle.std.proofs.Common.{◌≡◌, ℕ, zero, suc, ◌+◌, ◌<◌, ◌≤◌, ◌==◌, Bool, true, false, true≢false, cond, nat_lt, List, [], ◌∷◌, Some, refl, sym, ap, subst, ◌∙◌, arith, ⊎_elim}
 use Rattle.std.specs.List.{AllByRecursion}
 use Rattle.std.proofs.lemmas.Bool.{and_parts, eqb-true, ltb-true, cases_lt}
-use Rattle.occ_base.specs.declared.names.Name.{Name}
+use Rattle.occ_parse.specs.occ_base.declared.names.Name.{Name}
 use Rattle.occ_parse_forms.specs.declared.form.Declared.{Declared}
 use Rattle.occ_parse_forms.specs.declared.form.Declared.TheVariants as declared
-use Rattle.occ_parse_sound.specs.Agreement.{Has}
-use Rattle.occ_parse_unroll.specs.Numbers.{number_in}
+use Rattle.occ_parse_rules.specs.Agreement.{Has}
+use Rattle.occ_parse.specs.occ_parse_unroll.Numbers.{number_in}
 use Rattle.occ_parse.proofs.Places.{knows as in_table}
 use Rattle.occ_parse_part.specs.Elements.{Elements, element_count, elements_in, named_row, no_elements, row_in, row_number, with_arrays_in, with_row}
 use Rattle.occ_parse_part.proofs.Equal.{eqb-refl}

@@ -3,26 +3,26 @@ use Rattle.std.proofs.Common.{◌≡◌, ℕ, zero, suc, ◌+◌, ◌<◌, ◌�
 use Rattle.std.specs.List.{AllByRecursion, list_all, list_any, flat_map}
 use Rattle.std.proofs.lemmas.Bool.{and_from, eqb-true, ltb-true, cases_lt}
 use Rattle.std.proofs.lemmas.Grind.{flat_map-append}
-use Rattle.occ_base.specs.declared.names.Name.{Name}
-use Rattle.occ_base.specs.Names.{IsDistinct}
+use Rattle.occ_parse.specs.occ_base.declared.names.Name.{Name}
+use Rattle.occ_parse.specs.occ_base.Names.{IsDistinct}
 use Rattle.occ_syntax.specs.View.{numbers as numbers_of}
-use Rattle.occ_lex.specs.declared.token.Line.{Line}
-use Rattle.occ_lex.specs.Placed.{IsLineOf as IsTextLine}
-use Rattle.occ_lex_symbols.specs.Symbols.{Extends, with_names_of_all}
-use Rattle.occ_lex_symbols.proofs.Interned.{extends_eq, extends_same}
-use Rattle.occ_names.specs.Once.{has, same_number, with_one, with_all}
+use Rattle.occ_parse.specs.occ_lex.declared.token.Line.{Line}
+use Rattle.occ_parse.specs.occ_lex.Placed.{IsLineOf as IsTextLine}
+use Rattle.occ_parse.specs.occ_lex.Symbols.{Extends, with_names_of_all}
+use Rattle.occ_parse.proofs.from_lex.Interned.{extends_eq, extends_same}
+use Rattle.occ_parse.specs.occ_names.Once.{has, same_number, with_one, with_all}
 use Rattle.occ_parse_forms.specs.declared.form.Declared.{Declared}
 use Rattle.occ_parse_forms.specs.declared.form.Declared.TheVariants as declared
 use Rattle.occ_parse_forms.specs.declared.form.Param.{Param}
 use Rattle.occ_parse_forms.specs.Shape.{Shape, header, close, skip, stop, assign, receive, send, group, declare, condition, guard, nothing}
 use Rattle.occ_parse_rules.specs.Forest.{Forest, no_line, and_line, Laid, lines_at}
 use Rattle.occ_parse_rules.specs.Places.{Place, places, elements_from}
-use Rattle.occ_parse_sound.specs.Agreement.{Has, declared_places, AreKnown}
-use Rattle.occ_parse_sound.specs.Passing.{shape_passes}
-use Rattle.occ_parse_unroll.specs.Elements.{with_element, with_places}
-use Rattle.occ_parse_unroll.specs.Numbers.{number_in}
-use Rattle.occ_parse_unroll.proofs.Elements.{places_behind}
-use Rattle.occ_parse_reading.specs.declared.fault.ParseFault.{ParseFault}
+use Rattle.occ_parse_rules.specs.Agreement.{Has, declared_places, AreKnown}
+use Rattle.occ_parse_rules.specs.Passing.{shape_passes}
+use Rattle.occ_parse.specs.occ_parse_unroll.Elements.{with_element, with_places}
+use Rattle.occ_parse.specs.occ_parse_unroll.Numbers.{number_in}
+use Rattle.occ_parse.proofs.from_parse_unroll.Elements.{places_behind}
+use Rattle.occ_parse.specs.declared.fault.ParseFault.{ParseFault}
 use Rattle.occ_parse.proofs.Texts.{is_plain, plain_table}
 use Rattle.occ_parse.proofs.Small.{shape_small}
 use Rattle.occ_parse.proofs.Knowing.{EachLine, IsLineOf, each_map, each_of_lines, line_passes, line_small, lines_sound}

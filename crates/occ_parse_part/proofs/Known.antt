@@ -2,12 +2,12 @@
 use Rattle.std.proofs.Common.{◌≡◌, ℕ, ◌<◌, Bool, true, false, cond, nat_lt, List, [], ◌∷◌, ◌++◌, length, Option, Some, None, refl, ap, ◌∙◌}
 use Rattle.std.specs.List.{AllByRecursion, list_all, flat_map}
 use Rattle.std.proofs.lemmas.Bool.{and_parts, and_from, ltb-true}
-use Rattle.occ_base.specs.declared.names.Name.{Name}
+use Rattle.occ_parse.specs.occ_base.declared.names.Name.{Name}
 use Rattle.occ_syntax.specs.View.{numbers}
-use Rattle.occ_lex.specs.declared.token.Line.{Line}
-use Rattle.occ_lex.specs.Placed.{IsLineOf as IsTextLine}
-use Rattle.occ_lex_symbols.specs.Symbols.{Extends, rows_of, with_names_of_all}
-use Rattle.occ_names.specs.Once.{has, same_number, with_one, with_all}
+use Rattle.occ_parse.specs.occ_lex.declared.token.Line.{Line}
+use Rattle.occ_parse.specs.occ_lex.Placed.{IsLineOf as IsTextLine}
+use Rattle.occ_parse.specs.occ_lex.Symbols.{Extends, rows_of, with_names_of_all}
+use Rattle.occ_parse.specs.occ_names.Once.{has, same_number, with_one, with_all}
 use Rattle.occ_parse_forms.specs.declared.form.Declared.{Declared}
 use Rattle.occ_parse_forms.specs.declared.form.Declared.TheVariants as declared
 use Rattle.occ_parse_forms.specs.declared.form.Item.{Item}
@@ -16,10 +16,10 @@ use Rattle.occ_parse_forms.specs.declared.phrase.Index.{Index}
 use Rattle.occ_parse_forms.specs.Shape.{Said, item, numeral, typed, truth, negation, complement, operation, Waiting, ready, input, output, Shape, header, close, skip, stop, assign, receive, send, group, declare, condition, guard, nothing}
 use Rattle.occ_parse_rules.specs.Forest.{Laid}
 use Rattle.occ_parse_rules.specs.Names.{items_in, items_in_all, items_of_waiting}
-use Rattle.occ_parse_sound.specs.Passing.{place_passes, item_passes, declared_passes, said_passes, waiting_passes, param_passes, shape_passes}
-use Rattle.occ_parse_reading.specs.declared.bound.Bound.TheVariants as bound
-use Rattle.occ_parse_reading.specs.declared.fault.ParseFault.{ParseFault}
-use Rattle.occ_parse_reading.specs.Limits.{stopped}
+use Rattle.occ_parse_rules.specs.Passing.{place_passes, item_passes, declared_passes, said_passes, waiting_passes, param_passes, shape_passes}
+use Rattle.occ_parse.specs.declared.bound.Bound.TheVariants as bound
+use Rattle.occ_parse.specs.declared.fault.ParseFault.{ParseFault}
+use Rattle.occ_parse.specs.Limits.{stopped}
 use Rattle.occ_parse.proofs.Texts.{AreOf, OfNames, rows_are, in_table}
 use Rattle.occ_parse.proofs.Knowing.{IsLineOf, line_passes, lines_of_rows, stopped_keeps}
 use Rattle.occ_parse_part.specs.Arrays.{array_at, item_array, declared_array, line_arrays, arrays_of}

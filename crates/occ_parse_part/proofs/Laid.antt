@@ -1,28 +1,28 @@
 -- Lines as a part.
 use Rattle.std.proofs.Common.{◌≡◌, ℕ, Bool, true, false, List, [], ◌∷◌, map, Option, Some, None, refl, sym, ap, subst, ◌∙◌}
 use Rattle.std.specs.Prelude.{is_some}
-use Rattle.occ_base.specs.declared.names.Name.{Name}
+use Rattle.occ_parse.specs.occ_base.declared.names.Name.{Name}
 use Rattle.occ_syntax.specs.View.{numbers}
-use Rattle.occ_lex.specs.declared.token.Line.{Line}
-use Rattle.occ_lex_symbols.specs.declared.symbol.Row.{Row}
-use Rattle.occ_lex_symbols.specs.Symbols.{rows_of}
+use Rattle.occ_parse.specs.occ_lex.declared.token.Line.{Line}
+use Rattle.occ_parse.specs.occ_lex.declared.symbol.Row.{Row}
+use Rattle.occ_parse.specs.occ_lex.Symbols.{rows_of}
 use Rattle.occ_parse_rules.specs.Forest.{Forest, Laid, lines_at}
-use Rattle.occ_parse_layout.specs.declared.placed.Frame.TheVariants as frame
-use Rattle.occ_parse_layout.specs.Layout.{least_bad}
-use Rattle.occ_parse_layout.specs.Nesting.{Nest}
-use Rattle.occ_parse_layout.specs.Whole.{every_line, is_single}
-use Rattle.occ_parse_layout.proofs.Levels.{good_nest}
-use Rattle.occ_parse_layout.proofs.Framed.{single_of}
-use Rattle.occ_parse_layout.proofs.Options.{options_of}
-use Rattle.occ_parse_sound.specs.Sound.{are_placed}
+use Rattle.occ_parse.specs.occ_parse_layout.declared.placed.Frame.TheVariants as frame
+use Rattle.occ_parse.specs.occ_parse_layout.Layout.{least_bad}
+use Rattle.occ_parse.specs.occ_parse_layout.Nesting.{Nest}
+use Rattle.occ_parse.specs.occ_parse_layout.Whole.{every_line, is_single}
+use Rattle.occ_parse.proofs.from_parse_layout.Levels.{good_nest}
+use Rattle.occ_parse.proofs.from_parse_layout.Framed.{single_of}
+use Rattle.occ_parse.proofs.from_parse_layout.Options.{options_of}
+use Rattle.occ_parse_rules.specs.Sound.{are_placed}
 use Rattle.occ_parse.proofs.Placed.{placed_from}
-use Rattle.occ_parse_reading.specs.declared.bound.Bound.TheVariants as bound
-use Rattle.occ_parse_reading.specs.declared.fault.ParseFault.{ParseFault}
-use Rattle.occ_parse_reading.specs.declared.fault.ParseFault.TheVariants as fault
-use Rattle.occ_parse_reading.specs.Limits.{stopped}
-use Rattle.occ_parse_reading.specs.Reading.{AreForms}
+use Rattle.occ_parse.specs.declared.bound.Bound.TheVariants as bound
+use Rattle.occ_parse.specs.declared.fault.ParseFault.{ParseFault}
+use Rattle.occ_parse.specs.declared.fault.ParseFault.TheVariants as fault
+use Rattle.occ_parse.specs.Limits.{stopped}
+use Rattle.occ_parse.specs.Reading.{AreForms}
 use Rattle.occ_parse_part.specs.Arrays.{array_names, arrays_of}
-use Rattle.occ_parse_part.specs.Parts.{AreJudged, IsWellLaid, IsIllLaid, badly, behind, IsPart}
+use Rattle.occ_parse_part.specs.Parts.{AreJudged, IsWellLaid, IsIllLaid, badly, behind}
 
 module _ (rows : List Laid) (stop : Option ParseFault) (more : Bool) (r : Option ℕ) (m : more ≡ is_some stop) (h : r ≡ least_bad frame.Part more rows) where
   good : r ≡ None → stop ≡ None → least_bad frame.Part false rows ≡ None
@@ -52,10 +52,6 @@ judged_of text old lines rows laid stop e f s = record {
   forms = subst (λ rs. AreForms (stopped bound.Script rs None).0 laid) e f;
   stop_is = sym (ap (λ rs. (stopped bound.Script rs None).1) e) ∙ s;
 }
-
-pub is_part : (text : List ℕ) (old : List (List ℕ)) (lines : List Line) (laid : List Laid) (stop : Option ParseFault) (f : Forest) → AreJudged text old lines laid stop → IsWellLaid laid stop f
-    → IsPart text old lines f
-is_part text old lines laid stop f j w = record { laid = laid; stop = stop; judged = j; well = w }
 
 -- arrays by their numbers
 pub names_are : (arrays : List Name) (xs : List ℕ) → numbers arrays ≡ xs → arrays ≡ map (λ x. record { 0 = x }) xs

@@ -2,14 +2,14 @@
 use Rattle.std.proofs.Common.{◌≡◌, ℕ, ◌+◌, ◌<◌, ◌≤◌, List, [], ◌∷◌, ◌++◌, length, get_or, drop, refl, sym, ap, ◌∙◌, append_assoc}
 use Rattle.std.specs.List.{flat_map}
 use Rattle.std.proofs.lemmas.List.{drop_more, drop_all}
-use Rattle.occ_names.specs.Once.{same_number, with_one, with_all}
+use Rattle.occ_parse.specs.occ_names.Once.{same_number, with_one, with_all}
 use Rattle.occ_syntax.specs.declared.expr.Op.{Op}
 use Rattle.occ_parse_forms.specs.declared.phrase.Phrase.{Phrase}
 use Rattle.occ_parse_forms.specs.Shape.{Said, operation, said, all_said, shape}
 use Rattle.occ_parse_rules.specs.Names.{items_in, items_in_all}
 use Rattle.occ_parse_rules.specs.Forest.{Laid}
-use Rattle.occ_parse_layout.specs.declared.placed.Placed.{Placed}
-use Rattle.occ_parse_layout.specs.Layout.{laid_rows}
+use Rattle.occ_parse.specs.occ_parse_layout.declared.placed.Placed.{Placed}
+use Rattle.occ_parse.specs.occ_parse_layout.Layout.{laid_rows}
 use Rattle.occ_parse_part.specs.Arrays.{item_array, line_arrays}
 
 abbrev noted : List ℕ → List ℕ → List ℕ

@@ -1,17 +1,17 @@
 -- Lines have one reading as a part, since a line has one form and lines are those of one forest.
 use Rattle.std.proofs.Common.{◌≡◌, ℕ, false, List, Option, Some, None, sym, ap, ◌∙◌}
 use Rattle.std.specs.Prelude.{is_some}
-use Rattle.occ_lex.specs.declared.token.Line.{Line}
-use Rattle.occ_lex_symbols.specs.Symbols.{rows_of}
+use Rattle.occ_parse.specs.occ_lex.declared.token.Line.{Line}
+use Rattle.occ_parse.specs.occ_lex.Symbols.{rows_of}
 use Rattle.occ_parse_rules.specs.Forest.{Forest, Laid}
-use Rattle.occ_parse_layout.specs.declared.placed.Frame.TheVariants as frame
-use Rattle.occ_parse_layout.specs.Layout.{least_bad}
-use Rattle.occ_parse_layout.proofs.Once.{one_forest_of}
-use Rattle.occ_parse_reading.specs.declared.bound.Bound.TheVariants as bound
-use Rattle.occ_parse_reading.specs.declared.fault.ParseFault.{ParseFault}
-use Rattle.occ_parse_reading.specs.declared.fault.ParseFault.TheVariants as fault
-use Rattle.occ_parse_reading.specs.Limits.{stopped}
-use Rattle.occ_parse_reading.proofs.Once.{OneForm, some_one, none_some, forms_once}
+use Rattle.occ_parse.specs.occ_parse_layout.declared.placed.Frame.TheVariants as frame
+use Rattle.occ_parse.specs.occ_parse_layout.Layout.{least_bad}
+use Rattle.occ_parse.proofs.from_parse_layout.Once.{one_forest_of}
+use Rattle.occ_parse.specs.declared.bound.Bound.TheVariants as bound
+use Rattle.occ_parse.specs.declared.fault.ParseFault.{ParseFault}
+use Rattle.occ_parse.specs.declared.fault.ParseFault.TheVariants as fault
+use Rattle.occ_parse.specs.Limits.{stopped}
+use Rattle.occ_parse.proofs.Once.{OneForm, some_one, none_some, forms_once}
 use Rattle.occ_parse_part.specs.Parts.{AreJudged, IsIllLaid, badly, behind, IsPart, IsNoPart}
 
 module _ (one : OneForm) where

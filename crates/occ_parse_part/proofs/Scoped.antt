@@ -2,21 +2,21 @@
 use Rattle.std.proofs.Common.{◌≡◌, ℕ, ◌+◌, ◌≤◌, true, List, [], ◌∷◌, ◌++◌, length, drop, Option, Some, refl, ap, ◌∙◌, append-nil}
 use Rattle.std.proofs.lemmas.List.{drop_all}
 use Rattle.std.proofs.lemmas.Bool.{and_from}
-use Rattle.occ_base.specs.declared.names.Name.{Name}
+use Rattle.occ_parse.specs.occ_base.declared.names.Name.{Name}
 use Rattle.occ_syntax.specs.declared.scope.Kind.{Kind}
 use Rattle.occ_syntax.specs.declared.scope.Kind.TheVariants as kind
 use Rattle.occ_parse_forms.specs.declared.form.Declared.{Declared}
 use Rattle.occ_parse_forms.specs.declared.form.Declared.TheVariants as declared
 use Rattle.occ_parse_forms.specs.declared.form.Param.{Param}
 use Rattle.occ_parse_rules.specs.Places.{Sorts, declared_in, param_entries, sort_of}
-use Rattle.occ_parse_sound.specs.Programs.{param_scope}
-use Rattle.occ_parse_types.specs.Asking.{is_plain, plain_counters}
+use Rattle.occ_parse_rules.specs.Programs.{param_scope}
+use Rattle.occ_parse.specs.occ_parse_types.Asking.{is_plain, plain_counters}
 use Rattle.occ_syntax.specs.Tree.{Tree}
 use Rattle.occ_parse_rules.specs.Forest.{Forest}
 use Rattle.occ_parse_rules.specs.Unrolled.{slot, unrolled}
-use Rattle.occ_parse_unroll.specs.declared.values.Present.{Present}
-use Rattle.occ_parse_unroll.specs.Present.{values_of}
-use Rattle.occ_parse_reading.specs.declared.fault.ParseFault.{ParseFault}
+use Rattle.occ_parse.specs.occ_parse_unroll.declared.values.Present.{Present}
+use Rattle.occ_parse.specs.occ_parse_unroll.Present.{values_of}
+use Rattle.occ_parse.specs.declared.fault.ParseFault.{ParseFault}
 use Rattle.occ_parse_part.specs.Elements.{Elements, numbers}
 use Rattle.occ_parse_part.specs.Parts.{Part}
 use Rattle.occ_parse_part.specs.Resolving.{fault_in, part_fault, part_process, scope_of, scope_params}

@@ -2,7 +2,7 @@
 use Rattle.std.proofs.Common.{◌≡◌, ℕ, Bool, true, false, true≢false, cond, ◌==◌, ◌&&◌, ◌||◌, List, [], ◌∷◌, ◌++◌, Option, Some, None, is_none, is_some, refl, sym, ap, ◌∙◌}
 use Rattle.std.specs.List.{AllByRecursion, list_all, list_any, flat_map}
 use Rattle.std.proofs.lemmas.Bool.{and_parts, and_from, eqb-true}
-use Rattle.occ_base.specs.declared.names.Name.{Name}
+use Rattle.occ_parse.specs.occ_base.declared.names.Name.{Name}
 use Rattle.occ_syntax.specs.declared.scope.Kind.{Kind}
 use Rattle.occ_syntax.specs.Scopes.{environment}
 use Rattle.occ_syntax.specs.Tree.{Tree}
@@ -16,14 +16,14 @@ use Rattle.occ_parse_rules.specs.Names.{is_there, name_fault, redeclares_some}
 use Rattle.occ_parse_rules.specs.Places.{Place, Sorts, places, param_entries, sort_of, sort_at}
 use Rattle.occ_parse_rules.specs.Types.{type_fault}
 use Rattle.occ_parse_rules.specs.Unrolled.{named, params_named}
-use Rattle.occ_parse_sound.specs.Agreement.{AreIn, Has, IsOneToOne}
-use Rattle.occ_parse_sound.specs.Programs.{KeepsTypes}
-use Rattle.occ_parse_sound.specs.Sound.{has_width}
-use Rattle.occ_parse_sound.proofs.Facts.{or_else_none}
-use Rattle.occ_parse_sound.proofs.Params.{program_kept}
+use Rattle.occ_parse_rules.specs.Agreement.{AreIn, Has, IsOneToOne}
+use Rattle.occ_parse_rules.specs.Programs.{KeepsTypes}
+use Rattle.occ_parse_rules.specs.Sound.{has_width}
+use Rattle.occ_parse_rules.proofs.Facts.{or_else_none}
+use Rattle.occ_parse_rules.proofs.Params.{program_kept}
 use Rattle.occ_parse.proofs.Faultless.{as_fault_none}
-use Rattle.occ_parse_reading.specs.declared.fault.ParseFault.TheVariants as fault
-use Rattle.occ_parse_reading.specs.Drafts.{as_fault, name_fault_on, type_fault_on}
+use Rattle.occ_parse.specs.declared.fault.ParseFault.TheVariants as fault
+use Rattle.occ_parse.specs.Drafts.{as_fault, name_fault_on, type_fault_on}
 use Rattle.occ_parse_part.specs.Elements.{Elements, numbers}
 use Rattle.occ_parse_part.proofs.Equal.{eqb-refl}
 use Rattle.occ_parse_part.specs.Parts.{Part, IsGood, IsNumbered, is_element, is_itself, knows}

@@ -1,8 +1,8 @@
 -- The arrays of which lines name elements.
 use Rattle.std.specs.Prelude.{ℕ, List, [], ◌∷◌, map, Option, Some, None}
 use Rattle.std.specs.List.{flat_map}
-use Rattle.occ_base.specs.declared.names.Name.{Name}
-use Rattle.occ_names.specs.Once.{same_number, with_all}
+use Rattle.occ_parse.specs.occ_base.declared.names.Name.{Name}
+use Rattle.occ_parse.specs.occ_names.Once.{same_number, with_all}
 use Rattle.occ_parse_forms.specs.declared.form.Declared.{Declared}
 use Rattle.occ_parse_forms.specs.declared.form.Declared.TheVariants as declared
 use Rattle.occ_parse_forms.specs.declared.form.Item.{Item}

@@ -1,13 +1,13 @@
 -- The names of the elements of arrays, as a table of names gives them.
 use Rattle.std.specs.Prelude.{ℕ, zero, suc, ◌+◌, ◌==◌, if◌then◌else◌, List, [], ◌∷◌, get_or, Option, Some, None, unwrap_or}
 use Rattle.std.specs.Map.{lookup}
-use Rattle.occ_base.specs.declared.names.Name.{Name}
+use Rattle.occ_parse.specs.occ_base.declared.names.Name.{Name}
 use Rattle.occ_parse_forms.specs.declared.form.Declared.{Declared}
 use Rattle.occ_parse_forms.specs.declared.form.Declared.TheVariants as declared
 use Rattle.occ_parse_rules.specs.Places.{elements_from}
 use Rattle.occ_parse_rules.specs.Unrolled.{Numbers}
-use Rattle.occ_parse_unroll.specs.Elements.{with_places}
-use Rattle.occ_parse_unroll.specs.Numbers.{number_in, numbering}
+use Rattle.occ_parse.specs.occ_parse_unroll.Elements.{with_places}
+use Rattle.occ_parse.specs.occ_parse_unroll.Numbers.{number_in, numbering}
 
 -- The number of the element of an array at a place, and what a name is: an element, or else a name by itself.
 pub record Elements : Type 0 where

@@ -2,18 +2,18 @@
 use Rattle.std.specs.Prelude.{ℕ, ◌==◌, ◌≡◌, Bool, true, false, ◌&&◌, List, Option, Some, None, is_some}
 use Rattle.occ_parse_forms.specs.declared.form.Declared.{Declared}
 use Rattle.occ_parse_forms.specs.declared.form.Declared.TheVariants as declared
-use Rattle.occ_parse_sound.specs.Agreement.{Known, AreKnown}
-use Rattle.occ_parse_sound.specs.Sound.{are_sound, are_placed}
-use Rattle.occ_lex.specs.declared.token.Line.{Line}
-use Rattle.occ_lex_symbols.specs.Symbols.{rows_of}
+use Rattle.occ_parse_rules.specs.Agreement.{Known, AreKnown}
+use Rattle.occ_parse_rules.specs.Sound.{are_sound, are_placed}
+use Rattle.occ_parse.specs.occ_lex.declared.token.Line.{Line}
+use Rattle.occ_parse.specs.occ_lex.Symbols.{rows_of}
 use Rattle.occ_parse_rules.specs.Forest.{Forest, Laid, lines_at}
-use Rattle.occ_parse_layout.specs.declared.placed.Frame.TheVariants as frame
-use Rattle.occ_parse_layout.specs.Layout.{least_bad}
-use Rattle.occ_parse_reading.specs.declared.bound.Bound.TheVariants as bound
-use Rattle.occ_parse_reading.specs.declared.fault.ParseFault.{ParseFault}
-use Rattle.occ_parse_reading.specs.declared.fault.ParseFault.TheVariants as fault
-use Rattle.occ_parse_reading.specs.Limits.{stopped}
-use Rattle.occ_parse_reading.specs.Reading.{AreForms}
+use Rattle.occ_parse.specs.occ_parse_layout.declared.placed.Frame.TheVariants as frame
+use Rattle.occ_parse.specs.occ_parse_layout.Layout.{least_bad}
+use Rattle.occ_parse.specs.declared.bound.Bound.TheVariants as bound
+use Rattle.occ_parse.specs.declared.fault.ParseFault.{ParseFault}
+use Rattle.occ_parse.specs.declared.fault.ParseFault.TheVariants as fault
+use Rattle.occ_parse.specs.Limits.{stopped}
+use Rattle.occ_parse.specs.Reading.{AreForms}
 use Rattle.occ_parse_part.specs.Elements.{Elements}
 
 -- a part: its lines, and the names of the elements of the arrays that they name

@@ -1,6 +1,6 @@
 -- A part in a scope: its faults, and the scope of its lines.
 use Rattle.std.specs.Prelude.{List, map, Option}
-use Rattle.occ_base.specs.declared.names.Name.{Name}
+use Rattle.occ_parse.specs.occ_base.declared.names.Name.{Name}
 use Rattle.occ_syntax.specs.declared.scope.Kind.{Kind}
 use Rattle.occ_syntax.specs.Tree.{Tree}
 use Rattle.occ_parse_forms.specs.declared.form.Param.{Param}
@@ -10,10 +10,10 @@ use Rattle.occ_parse_rules.specs.Names.{name_fault}
 use Rattle.occ_parse_rules.specs.Places.{Sorts}
 use Rattle.occ_parse_rules.specs.Types.{type_fault, direction_fault}
 use Rattle.occ_parse_rules.specs.Unrolled.{slot_process}
-use Rattle.occ_parse_sound.specs.Programs.{param_scope}
-use Rattle.occ_parse_reading.specs.declared.fault.ParseFault.{ParseFault}
-use Rattle.occ_parse_reading.specs.declared.fault.ParseFault.TheVariants as fault
-use Rattle.occ_parse_reading.specs.Drafts.{as_fault, name_fault_on, type_fault_on}
+use Rattle.occ_parse_rules.specs.Programs.{param_scope}
+use Rattle.occ_parse.specs.declared.fault.ParseFault.{ParseFault}
+use Rattle.occ_parse.specs.declared.fault.ParseFault.TheVariants as fault
+use Rattle.occ_parse.specs.Drafts.{as_fault, name_fault_on, type_fault_on}
 use Rattle.occ_parse_part.specs.Elements.{Elements, numbers}
 use Rattle.occ_parse_part.specs.Parts.{Part}
 

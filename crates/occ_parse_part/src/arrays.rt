@@ -2,18 +2,16 @@
 
 ghost use Rattle.std.specs.Prelude.{◌≡◌, [], ◌∷◌, ◌++◌, OnOk, IfOk};
 ghost use Rattle.std.specs.List.{flat_map};
-ghost use Rattle.occ_names.specs.Once.{same_number, with_all};
+ghost use Rattle.occ_parse.specs.occ_names.Once.{same_number, with_all};
 ghost use Rattle.occ_parse_forms.specs.Shape.{all_said, said, shape, waiting};
 ghost use Rattle.occ_parse_forms.specs.declared.form.Param.{Param};
 ghost use Rattle.occ_parse_rules.specs.Forest.{Laid};
 ghost use Rattle.occ_parse_rules.specs.Names.{items_in, items_in_all, items_of_waiting};
-ghost use Rattle.occ_parse_layout.specs.Layout.{laid_rows};
+ghost use Rattle.occ_parse.specs.occ_parse_layout.Layout.{laid_rows};
 ghost use Rattle.occ_parse_part.specs.Arrays.{arrays_of, declared_array, item_array, line_arrays};
 
-use occ_base::Memory;
-use occ_names::NameSet;
+use occ_parse::{Memory, NameSet, ParseLayoutPlaced as Placed};
 use occ_parse_forms::{Declared, Form, Item, Param, Phrase, Wants};
-use occ_parse_layout::Placed;
 use std::alloc::Global;
 
 fn add_item(arrays: &mut NameSet, item: Item) -> Result<(), Memory>

@@ -5,7 +5,7 @@ ghost use Rattle.occ_parse_part.specs.Elements.{named_row, names_found, no_eleme
 ghost use Rattle.occ_parse_part.specs.Seen.{seen};
 
 use indexmap::IndexMap;
-use occ_base::{Memory, Name};
+use occ_parse::{Memory, Name};
 use occ_parse_forms::Declared;
 use std::alloc::Global;
 

@@ -2,15 +2,12 @@
 
 ghost use Rattle.std.specs.Prelude.{◌≡◌, None, true, IfOk};
 ghost use Rattle.occ_parse_rules.specs.Forest.{forest};
-ghost use Rattle.occ_parse_types.specs.Asking.{plain_counters};
-ghost use Rattle.occ_parse_reading.specs.Drafts.{name_fault_on, type_fault_on};
+ghost use Rattle.occ_parse.specs.occ_parse_types.Asking.{plain_counters};
+ghost use Rattle.occ_parse.specs.Drafts.{name_fault_on, type_fault_on};
 ghost use Rattle.occ_parse_part.specs.Resolving.{fault_in};
 
-use occ_base::Memory;
-use occ_parse_reading::ParseFault;
+use occ_parse::{Memory, ParseFault, Scopes, direction_fault_in, name_fault_in, type_fault_in};
 use occ_parse_rules::{NameFault, Node, TypeFault};
-use occ_parse_scopes::{Scopes, name_fault_in};
-use occ_parse_types::{direction_fault_in, type_fault_in};
 use std::alloc::Global;
 
 fn of_names(line: u32, fault: NameFault) -> ParseFault

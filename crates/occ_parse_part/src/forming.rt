@@ -1,9 +1,9 @@
 ghost use Rattle.std.specs.Prelude.{◌≡◌, ◌⊎◌, ℕ, List, IfOk, IfErr};
 ghost use Rattle.std.specs.List.{AllByRecursion};
-ghost use Rattle.occ_lex.specs.Placed.{IsLineOf};
-ghost use Rattle.occ_lex_symbols.specs.Symbols.{Extends, with_names_of_all};
+ghost use Rattle.occ_parse.specs.occ_lex.Placed.{IsLineOf};
+ghost use Rattle.occ_parse.specs.occ_lex.Symbols.{Extends, with_names_of_all};
 ghost use Rattle.occ_parse_rules.specs.Forest.{forest, in_nodes, lines_at};
-ghost use Rattle.occ_parse_layout.specs.Layout.{laid_rows};
+ghost use Rattle.occ_parse.specs.occ_parse_layout.Layout.{laid_rows};
 ghost use Rattle.occ_parse_part.specs.Arrays.{array_names, arrays_of};
 ghost use Rattle.occ_parse_part.specs.Elements.{elements_in, with_arrays};
 ghost use Rattle.occ_parse_part.specs.Shown.{elements_of, lines_of};
@@ -12,12 +12,10 @@ ghost use Rattle.occ_parse_part.specs.Parts.{IsIllLaid, IsNoPart, IsPart, IsWell
 use crate::arrays::arrays;
 use crate::raw::Raw;
 use crate::rows::elements;
-use occ_base::Names;
-use occ_lex::Line;
-use occ_lex_symbols::rows;
-use occ_names::NameSet;
-use occ_parse::{Bound, Judged, ParseFault, judge_rows};
-use occ_parse_layout::{Frame, grown, least_bad};
+use occ_parse::{
+    Bound, Frame, Judged, Line, NameSet, Names, ParseFault, grown, judge_rows, least_bad,
+    lex_rows as rows,
+};
 use occ_parse_rules::Nodes;
 use std::alloc::Global;
 
@@ -50,7 +48,7 @@ fn laid_out(alloc: Global, judged: Judged) -> Result<Laid, ParseFault>
 
 /// Reads the lines of one part. They are lines that `occ_lex` read from the text, in order. The names of the lines are in the
 /// table then, also where they are refused, and where they are read the elements 0 to 255 of each array that they name stand
-/// behind those. `Memory` comes only for want of memory, and each other fault is the first one: the least line that is over the
+/// behind those. `Memory` comes only where memory runs out, and each other fault is the first one: the least line that is over the
 /// limit on tokens or badly laid out.
 pub fn form(
     alloc: Global,

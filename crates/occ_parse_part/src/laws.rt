@@ -1,8 +1,8 @@
 ghost use Rattle.std.specs.Prelude.{◌≡◌, ℕ, List};
-ghost use Rattle.occ_lex.specs.declared.token.Line.{Line};
+ghost use Rattle.occ_parse.specs.occ_lex.declared.token.Line.{Line};
 ghost use Rattle.occ_parse_rules.specs.Forest.{Forest};
 ghost use Rattle.occ_parse_part.specs.Parts.{IsNoPart, IsPart};
-ghost use Rattle.occ_parse_reading.specs.declared.fault.ParseFault.{ParseFault};
+ghost use Rattle.occ_parse.specs.declared.fault.ParseFault.{ParseFault};
 
 use occ_parse_forms::one_form;
 

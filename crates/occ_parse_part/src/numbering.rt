@@ -3,8 +3,7 @@
 ghost use Rattle.occ_parse_part.specs.Seen.{seen};
 
 use crate::elements::Elements;
-use occ_base::{Memory, Name, Names};
-use occ_parse_unroll::Numbering;
+use occ_parse::{Memory, Name, Names, Numbering};
 use std::alloc::Global;
 
 /// Elements that have names: nothing is brought into a table.

@@ -1,6 +1,6 @@
 ghost use Rattle.std.specs.Prelude.{◌≡◌, true};
 ghost use Rattle.occ_parse_rules.specs.Forest.{forest, in_nodes};
-ghost use Rattle.occ_parse_layout.specs.Whole.{every_line, is_single};
+ghost use Rattle.occ_parse.specs.occ_parse_layout.Whole.{every_line, is_single};
 ghost use Rattle.occ_parse_part.specs.Parts.{IsGood};
 ghost use Rattle.occ_parse_part.specs.Seen.{seen};
 

@@ -10,10 +10,8 @@ use crate::elements::Elements;
 use crate::faults::fault_in;
 use crate::numbering::Known;
 use crate::raw::Raw;
-use occ_base::{Memory, Name, Names};
+use occ_parse::{Context, Memory, Name, Names, ParseFault, slot};
 use occ_parse_forms::Param;
-use occ_parse_reading::ParseFault;
-use occ_parse_unroll::{Context, slot};
 use occ_syntax::{Kind, Proc, Scope};
 use std::alloc::Global;
 
@@ -38,7 +36,7 @@ fn params_of(
 
 /// The process that a part is in a scope, with the width of each numeral. The scope has the names round the part with their
 /// kinds, from outside in. Refused is the first fault: of names, then of types, then of directions, each on the least line that
-/// has one. `Memory` comes only for want of memory. Where no name stands twice in the scope and its widths are widths, the process
+/// has one. `Memory` comes only where memory runs out. Where no name stands twice in the scope and its widths are widths, the process
 /// keeps names, types and directions in it.
 pub fn resolve(alloc: Global, scope: &Scope, raw: &Raw) -> Result<Proc, ParseFault>
     ensures fault { IfOk result (λ p. part_fault (part_of raw.now) scope.now ≡ None) }

@@ -2,16 +2,15 @@
 
 ghost use Rattle.std.specs.Prelude.{◌≡◌, ◌<◌, ℕ, List, length, IfOk, OnOk};
 ghost use Rattle.std.specs.List.{AllByRecursion};
-ghost use Rattle.occ_base.specs.Names.{IsDistinct};
+ghost use Rattle.occ_parse.specs.occ_base.Names.{IsDistinct};
 ghost use Rattle.occ_parse_rules.specs.Places.{elements_from};
-ghost use Rattle.occ_lex_symbols.specs.Symbols.{Extends};
-ghost use Rattle.occ_parse_unroll.specs.Elements.{with_places};
+ghost use Rattle.occ_parse.specs.occ_lex.Symbols.{Extends};
+ghost use Rattle.occ_parse.specs.occ_parse_unroll.Elements.{with_places};
 ghost use Rattle.occ_parse_part.specs.Elements.{elements_in, row_in, with_arrays};
 ghost use Rattle.occ_parse_part.specs.Seen.{seen};
 
 use crate::elements::Elements;
-use occ_base::{Memory, Name, Names};
-use occ_parse_unroll::element;
+use occ_parse::{Memory, Name, Names, element};
 use std::alloc::Global;
 
 /// How many elements of an array have names.

@@ -1,7 +1,7 @@
 -- Which lines pass a limit of the language.
 use Rattle.std.specs.Prelude.{ℕ, ◌+◌, ◌*◌, Bool, true, false, nat_lt, if◌then◌else◌, [], ◌∷◌, Option, Some, None, length}
 use Rattle.std.specs.List.{list_any}
-use Rattle.occ_base.specs.Width.{bits_of}
+use Rattle.occ_meaning.specs.occ_base.Width.{bits_of}
 use Rattle.occ_parse_forms.specs.declared.form.Declared.{Declared}
 use Rattle.occ_parse_forms.specs.declared.form.Declared.TheVariants as declared
 use Rattle.occ_parse_forms.specs.Shape.{Shape, group, declare}

@@ -1,8 +1,8 @@
 -- What names stand for on a line: names and elements of arrays are places, and declarations in scope give them sorts.
 use Rattle.std.specs.Prelude.{ℕ, zero, suc, ◌+◌, ◌-◌, ◌==◌, Bool, false, ◌&&◌, nat_lt, nat_le, if◌then◌else◌, List, [], ◌∷◌, map, Option, Some, None}
 use Rattle.std.specs.List.{list_any}
-use Rattle.occ_syntax.specs.declared.scope.Kind.{Kind}
-use Rattle.occ_syntax.specs.declared.scope.Kind.TheVariants as kind
+use Rattle.occ_meaning.specs.occ_syntax.declared.scope.Kind.{Kind}
+use Rattle.occ_meaning.specs.occ_syntax.declared.scope.Kind.TheVariants as kind
 use Rattle.occ_parse_forms.specs.declared.form.Declared.{Declared}
 use Rattle.occ_parse_forms.specs.declared.form.Declared.TheVariants as declared
 use Rattle.occ_parse_forms.specs.declared.form.Item.{Item}

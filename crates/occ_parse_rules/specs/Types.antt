@@ -1,14 +1,14 @@
 -- What is wrong with the types and the directions of a line in its scope, where its names are in order.
 use Rattle.std.specs.Prelude.{ℕ, zero, suc, ◌+◌, ◌^◌, Bool, true, false, not, ◌&&◌, ◌||◌, nat_lt, if◌then◌else◌, List, [], ◌∷◌, Option, Some, None, is_none}
 use Rattle.std.specs.List.{list_any}
-use Rattle.occ_base.specs.declared.event.Dir.{Dir}
-use Rattle.occ_base.specs.declared.event.Dir.TheVariants as dir
-use Rattle.occ_base.specs.declared.width.Width.{Width}
-use Rattle.occ_base.specs.declared.width.Width.TheVariants.{Bool as TruthValue, Word}
-use Rattle.occ_syntax.specs.declared.expr.Op.{Op}
-use Rattle.occ_syntax.specs.declared.expr.Op.TheVariants as op
-use Rattle.occ_syntax.specs.Scopes.{same_dir}
-use Rattle.occ_syntax.specs.Types.{same_width}
+use Rattle.occ_meaning.specs.occ_base.declared.event.Dir.{Dir}
+use Rattle.occ_meaning.specs.occ_base.declared.event.Dir.TheVariants as dir
+use Rattle.occ_meaning.specs.occ_base.declared.width.Width.{Width}
+use Rattle.occ_meaning.specs.occ_base.declared.width.Width.TheVariants.{Bool as TruthValue, Word}
+use Rattle.occ_meaning.specs.occ_syntax.declared.expr.Op.{Op}
+use Rattle.occ_meaning.specs.occ_syntax.declared.expr.Op.TheVariants as op
+use Rattle.occ_meaning.specs.occ_syntax.Scopes.{same_dir}
+use Rattle.occ_meaning.specs.occ_syntax.Types.{same_width}
 use Rattle.occ_parse_forms.specs.declared.form.Item.{Item}
 use Rattle.occ_parse_forms.specs.Shape.{Said, item, numeral, typed, truth, negation, complement, operation, Waiting, ready, input, output, Shape, assign, receive, send, condition, guard}
 use Rattle.occ_parse_rules.specs.declared.fault.TypeFault.{TypeFault}

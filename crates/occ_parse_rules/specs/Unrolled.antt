@@ -2,13 +2,13 @@
 -- among alternatives as choices and alternatives in that place, and every numeral with the width that its place asks for.
 use Rattle.std.specs.Prelude.{ℕ, zero, suc, min, true, List, [], ◌∷◌, ◌++◌, map, replicate, Option, Some, None, unwrap_or, length}
 use Rattle.std.specs.List.{flat_map}
-use Rattle.occ_base.specs.declared.names.Name.{Name}
-use Rattle.occ_base.specs.declared.width.Width.{Width}
-use Rattle.occ_base.specs.declared.width.Width.TheVariants.{Bool as TruthValue}
-use Rattle.occ_base.specs.Width.{bits_of}
-use Rattle.occ_syntax.specs.declared.scope.Kind.{Kind}
-use Rattle.occ_syntax.specs.Tree.{Exp, variable, numeral, truth, negation, complement, operation, Waiting, ready, input, output, Tree, skip, stop, assign, receive, send, seq, par, select, alt, Trees, no_tree, and_tree, Cases, no_case, and_case, Branches, no_branch, and_branch}
-use Rattle.occ_syntax.specs.Declarations.{declaring_all}
+use Rattle.occ_meaning.specs.occ_base.declared.names.Name.{Name}
+use Rattle.occ_meaning.specs.occ_base.declared.width.Width.{Width}
+use Rattle.occ_meaning.specs.occ_base.declared.width.Width.TheVariants.{Bool as TruthValue}
+use Rattle.occ_meaning.specs.occ_base.Width.{bits_of}
+use Rattle.occ_meaning.specs.occ_syntax.declared.scope.Kind.{Kind}
+use Rattle.occ_meaning.specs.occ_syntax.Tree.{Exp, variable, numeral, truth, negation, complement, operation, Waiting, ready, input, output, Tree, skip, stop, assign, receive, send, seq, par, select, alt, Trees, no_tree, and_tree, Cases, no_case, and_case, Branches, no_branch, and_branch}
+use Rattle.occ_meaning.specs.occ_syntax.Declarations.{declaring_all}
 use Rattle.occ_parse_forms.specs.declared.form.Declared.{Declared}
 use Rattle.occ_parse_forms.specs.declared.form.Group.{Group}
 use Rattle.occ_parse_forms.specs.declared.form.Group.TheVariants as word

@@ -1,7 +1,7 @@
 ghost use Rattle.std.specs.Prelude.{◌≡◌, [], ◌∷◌, ◌++◌, OnOk, OnErr};
 ghost use Rattle.occ_parse_rules.specs.Forest.{IsLine, IsSeen, in_nodes};
 
-use occ_base::Memory;
+use occ_meaning::Memory;
 use occ_parse_forms::Form;
 use std::alloc::Global;
 
@@ -49,7 +49,7 @@ impl Nodes {
         }
     }
 
-    /// Adds a line at the end. After want of memory the list is as before.
+    /// Adds a line at the end. Where memory runs out, the list is as before.
     pub fn push(&mut self, item: Node) -> Result<(), Memory>
         ensures ok { OnOk result (in_nodes self.new ≡ in_nodes self.old ++ item ∷ []) }
         ensures err { OnErr result (in_nodes self.new ≡ in_nodes self.old) }

@@ -1,4 +1,4 @@
-use occ_base::{Dir, Width};
+use occ_meaning::{Dir, Width};
 use occ_parse_forms::Declared;
 
 /// What a name in scope stands for.

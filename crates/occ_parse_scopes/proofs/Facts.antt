@@ -1,7 +1,7 @@
 -- Facts on tests and on lists that the proofs here share.
 use Rattle.std.specs.Prelude.{ℕ, ◌≡◌, ◌==◌, Bool, true, false, ◌||◌, if◌then◌else◌, List, [], ◌∷◌}
 use Rattle.std.specs.List.{list_any}
-use Rattle.std.proofs.Common.{refl, sym, subst, ◌∙◌, inl, inr}
+use Rattle.std.proofs.Common.{refl, sym, subst, inl, inr}
 use Rattle.std.proofs.lemmas.Bool.{eqb-true, eq-eqb, or_cases, or_left, or_right}
 use Rattle.occ_parse_scopes.specs.Taken.{is_among}
 
@@ -10,9 +10,6 @@ true_not_false h = absurd (cc)
 
 pub false_not_true : {B : Type 0} → false ≡ true → B
 false_not_true h = absurd (cc)
-
-pub clash : {B : Type 0} (b : Bool) → b ≡ true → b ≡ false → B
-clash b is_true is_false = true_not_false (sym is_true ∙ is_false)
 
 pub at_itself : (x : ℕ) → (x == x) ≡ true
 at_itself x = eq-eqb x x refl

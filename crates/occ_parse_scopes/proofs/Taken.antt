@@ -112,12 +112,6 @@ taken (entry ∷ Γ) test ρ t h =
 pub never : (Γ : Sorts) (test : Indices → Bool) → for_some Γ test ≡ false → (ρ : Indices) → Takes Γ ρ → test ρ ≡ false
 never Γ test h ρ t = elim (cases_Bool (test ρ)) [ inl k ↦ true_not_false (sym (taken Γ test ρ t k) ∙ h) | inr k ↦ k ]
 
-pub nowhere : (Γ : Sorts) (test : Indices → Bool) → ((ρ : Indices) → Takes Γ ρ → test ρ ≡ false) → for_some Γ test ≡ false
-nowhere Γ test h = elim (cases_Bool (for_some Γ test)) [
-  | inl k ↦ let w = found Γ test k in true_not_false (sym w.2 ∙ h w.0 w.1)
-  | inr k ↦ k
-]
-
 -- tests that agree on the values that the indices take
 pub for_some_same : (Γ : Sorts) (f g : Indices → Bool) → ((ρ : Indices) → Takes Γ ρ → f ρ ≡ g ρ) → for_some Γ f ≡ for_some Γ g
 for_some_same Γ f g h = same_truth (for_some Γ f) (for_some Γ g)

@@ -10,9 +10,8 @@ ghost use Rattle.occ_parse_scopes.specs.Checking.{StandsOn};
 use crate::reach::some_meet;
 use crate::uses::Check;
 use crate::{Scopes, entry_of};
-use occ_base::Memory;
 use occ_parse_forms::{Declared, Form, Param};
-use occ_parse_rules::{NameFault, Node};
+use occ_parse_rules::{Memory, NameFault, Node};
 use occ_syntax::Kind;
 use std::alloc::Global;
 

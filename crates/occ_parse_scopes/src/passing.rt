@@ -4,9 +4,8 @@ ghost use Rattle.occ_parse_rules.specs.Places.{declared_in, entries_of, entry_of
 ghost use Rattle.occ_parse_rules.specs.Judging.{inside, behind};
 
 use crate::Scopes;
-use occ_base::Memory;
 use occ_parse_forms::{Declared, Form, Param, Times};
-use occ_parse_rules::{Entry, Sort};
+use occ_parse_rules::{Entry, Memory, Sort};
 use occ_syntax::Kind;
 
 /// What a name of that kind stands for. It takes no memory.
@@ -43,7 +42,7 @@ pub fn counter_of(times: Times) -> Entry
 }
 
 impl Scopes {
-    /// Brings declarations of one kind into scope, in order. After want of memory some of them are.
+    /// Brings declarations of one kind into scope, in order. Where memory runs out, some of them are.
     pub fn declare_all(&mut self, kind: Kind, declared: &[Declared]) -> Result<(), Memory>
         ensures { OnOk result (self.new ≡ declared_in self.old (entries_of kind declared.now)) }
     {
@@ -53,7 +52,7 @@ impl Scopes {
         Ok(())
     }
 
-    /// Brings parameters into scope, in order. After want of memory some of them are.
+    /// Brings parameters into scope, in order. Where memory runs out, some of them are.
     pub fn declare_params(&mut self, params: &[Param]) -> Result<(), Memory>
         ensures { OnOk result (self.new ≡ declared_in self.old (param_entries params.now)) }
     {
@@ -64,7 +63,7 @@ impl Scopes {
     }
 
     /// Goes from a line to the lines below it: a header's parameters and a replicator's index come into scope.
-    /// After want of memory some of them are.
+    /// Where memory runs out, some of them are.
     pub fn enter(&mut self, form: &Form) -> Result<(), Memory>
         ensures { OnOk result (self.new ≡ inside self.old (shape form.now)) }
     {
@@ -79,7 +78,7 @@ impl Scopes {
     }
 
     /// Goes from a line to the next one at its level: what it declares comes into scope, and behind any other line only
-    /// the outer declarations are left, so many. After want of memory some of what it declares is in scope.
+    /// the outer declarations are left, so many. Where memory runs out, some of what it declares is in scope.
     pub fn pass(&mut self, form: &Form, outer: usize) -> Result<(), Memory>
         requires { outer ≤ length self.old }
         ensures { OnOk result

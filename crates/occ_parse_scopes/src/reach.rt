@@ -5,9 +5,8 @@ ghost use Rattle.occ_parse_rules.specs.Names.{some_meet};
 ghost use Rattle.occ_parse_scopes.specs.Chain.{IsTableOf};
 
 use crate::Scopes;
-use occ_base::{Memory, Name};
 use occ_parse_forms::{Index, Item};
-use occ_parse_rules::Sort;
+use occ_parse_rules::{Memory, Name, Sort};
 use std::alloc::Global;
 
 /// The elements of an array that an item reaches: its index takes so many values from the base on, and the element is at

@@ -2,9 +2,8 @@ ghost use Rattle.std.specs.Prelude.{◌≡◌, ℕ, ◌≤◌, ◌<◌, ◌-◌,
 ghost use Rattle.occ_parse_rules.specs.Places.{declares, declares_some, has_elements, sort_at};
 ghost use Rattle.occ_parse_scopes.specs.Chain.{IsTableOf, declares_below, declares_element, has_elements_below, name_of};
 
-use occ_base::{Memory, Name};
 use occ_parse_forms::Declared;
-use occ_parse_rules::{Entry, Sort};
+use occ_parse_rules::{Entry, Memory, Name, Sort};
 use std::alloc::Global;
 use std::marker::Model;
 
@@ -105,7 +104,7 @@ fn mark(table: &mut [bool; 256], declared: Declared)
     }
 }
 
-/// Lengthens a table with places of nothing, so that it has a place for the name. After want of memory it says the same.
+/// Lengthens a table with places of nothing, so that it has a place for the name. Where memory runs out, it says the same.
 fn make_room(newest: &mut Vec<usize>, name: Name) -> Result<(), Memory>
     ensures ok { OnOk result (name.0 < vec_len newest.new) }
     ensures same { (x : ℕ) → get_or newest.new.items x 0 ≡ get_or newest.old.items x 0 }
@@ -137,7 +136,7 @@ impl Scopes {
         }
     }
 
-    /// Brings a declaration into scope. After want of memory the scope is as before.
+    /// Brings a declaration into scope. Where memory runs out, the scope is as before.
     pub fn declare(&mut self, entry: Entry) -> Result<(), Memory>
         ensures ok { OnOk result (self.new ≡ entry ∷ self.old) }
         ensures err { OnErr result (self.new ≡ self.old) }

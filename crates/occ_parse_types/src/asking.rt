@@ -4,9 +4,9 @@ ghost use Rattle.occ_syntax.specs.Types.{same_width};
 ghost use Rattle.occ_parse_rules.specs.Types.{channel_sort, class, fits, greatest, is_against, is_truth_value, sort_clashes, variable_sort, width_of_sort};
 ghost use Rattle.occ_parse_types.specs.Asking.{class_of, holds_of, refuses_width};
 
-use occ_base::{Dir, Width};
 use occ_parse_forms::Item;
 use occ_parse_rules::Sort;
+use occ_parse_scopes::{Dir, Width};
 use occ_syntax::Op;
 
 /// Who asks for a width: something that has one, whatever values the indices take, or an item with the width that it

@@ -8,10 +8,9 @@ ghost use Rattle.occ_parse_types.specs.Walking.{line_of};
 
 use crate::asking::Test;
 use crate::turns::some_value;
-use occ_base::{Dir, Memory};
 use occ_parse_forms::{Form, Wants};
 use occ_parse_rules::Node;
-use occ_parse_scopes::Scopes;
+use occ_parse_scopes::{Dir, Memory, Scopes};
 use std::alloc::Global;
 
 fn wants_against(scopes: &Scopes, wants: &Wants) -> bool

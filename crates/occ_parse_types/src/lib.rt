@@ -10,4 +10,5 @@ mod turns;
 mod types;
 
 pub use directions::{direction_fault, direction_fault_in};
+pub use occ_parse_scopes::{Scopes, name_fault, name_fault_in};
 pub use types::{type_fault, type_fault_in};

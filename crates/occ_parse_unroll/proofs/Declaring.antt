@@ -1,7 +1,7 @@
 -- Names of declarations, one by one.
-use Rattle.std.proofs.Common.{◌≡◌, ℕ, ◌+◌, ◌-◌, ◌<◌, List, [], ◌∷◌, ◌++◌, length, get_or, drop, map, sym, ap, ◌∙◌, arith, append_assoc, Some, suc}
-use Rattle.std.proofs.lemmas.List.{drop_more, append-nil}
-use Rattle.occ_base.specs.declared.names.Name.{Name}
+use Rattle.std.proofs.Common.{◌≡◌, ℕ, ◌+◌, ◌<◌, List, [], ◌∷◌, ◌++◌, length, get_or, drop, map, sym, ap, ◌∙◌, arith, append_assoc, Some, suc}
+use Rattle.std.proofs.lemmas.List.{drop_more}
+use Rattle.occ_parse_scopes.specs.occ_base.declared.names.Name.{Name}
 use Rattle.occ_syntax.specs.declared.scope.Kind.{Kind}
 use Rattle.occ_parse_forms.specs.declared.form.Declared.{Declared}
 use Rattle.occ_parse_forms.specs.declared.form.Declared.TheVariants as declared
@@ -22,11 +22,6 @@ one_element N kind x k n m name w w' e h p =
     ∙ append_assoc w ((name, kind) ∷ []) (elements_named N kind x (k + 1) m)
     ∙ ap (λ a. w ++ (record { 0 = a }, kind) ∷ elements_named N kind x (k + 1) m) h
     ∙ sym (ap (λ c. w ++ elements_named N kind x k c) two)
-
-pub no_elements : (N : Numbers) (kind : Kind) (x count : ℕ) (w : List (Name × Kind)) → w ++ elements_named N kind x count (count - count) ≡ w
-no_elements N kind x count w =
-    let none : count - count ≡ 0 = omega arith in
-    ap (λ n. w ++ elements_named N kind x count n) none ∙ append-nil w
 
 -- one declaration's names
 pub one_declared : (N : Numbers) (kind : Kind) (ds : List Declared) (i : ℕ) (z : Declared) (w w' : List (Name × Kind)) → i < length ds → w' ≡ w ++ named N kind (get_or ds i z)

@@ -1,7 +1,7 @@
 -- What lines stand for, piece by piece.
 use Rattle.std.proofs.Common.{◌≡◌, ℕ, suc, ◌+◌, ◌-◌, ◌*◌, ◌<◌, ◌≤◌, true, false, List, [], ◌∷◌, ◌++◌, length, drop, Option, Some, refl, ap, sym, subst, ◌∙◌, arith, length-append}
 use Rattle.std.proofs.Math.Seq.{drop-append_seam}
-use Rattle.occ_base.specs.declared.names.Name.{Name}
+use Rattle.occ_parse_scopes.specs.occ_base.declared.names.Name.{Name}
 use Rattle.occ_syntax.specs.declared.expr.Expr.{Expr}
 use Rattle.occ_syntax.specs.declared.expr.Guard.{Guard}
 use Rattle.occ_syntax.specs.declared.proc.Proc.{Proc, Skip, Seq, Par, If, Alt}
@@ -23,7 +23,7 @@ use Rattle.occ_parse_forms.specs.Shape as line
 use Rattle.occ_parse_rules.specs.declared.sort.Entry.{Entry}
 use Rattle.occ_parse_rules.specs.Forest.{Forest, and_line}
 use Rattle.occ_parse_rules.specs.Places.{Sorts, Indices, declared_in, entries_of, counter_of, with_index, numbers_from}
-use Rattle.occ_parse_rules.specs.Unrolled.{Numbers, Lines, no_lines, condition, all_named, trees_then, cases_then, branches_then, copies, copied, first_tree, as_parts, slot, construct, process, part_line, case_line, branch_line, unrolled, times_of}
+use Rattle.occ_parse_rules.specs.Unrolled.{Numbers, Lines, no_lines, condition, all_named, trees_then, cases_then, branches_then, copies, copied, as_parts, slot, construct, process, part_line, case_line, branch_line, unrolled, times_of}
 use Rattle.occ_parse_unroll.specs.declared.values.Present.{Present}
 use Rattle.occ_parse_unroll.specs.Guards.{guard_condition, guard_wait}
 use Rattle.occ_parse_unroll.specs.Present.{values_of, present}
@@ -199,11 +199,6 @@ module _ (N : Numbers) (f : Forest) (number : ℕ) (s : Shape) (below rest : For
   parts_here : (outer Γ : Sorts) (W : List (Name × Kind)) (ρ : Indices) → is_declaration s ≡ false
       → (unrolled N f).parts outer Γ W ρ ≡ and_tree (declaring_all W (process N s (unrolled N below) Γ ρ)) ((unrolled N rest).parts outer outer [] ρ)
   parts_here outer Γ W ρ d = ap (λ g. (unrolled N g).parts outer Γ W ρ) e ∙ part_other N s (unrolled N below) (unrolled N rest) outer Γ W ρ d
-
-  -- the first process within the declarations before it
-  pub first_part : (outer Γ : Sorts) (W : List (Name × Kind)) (ρ : Indices) (p q : Tree) → is_declaration s ≡ false
-      → p ≡ process N s (unrolled N below) Γ ρ → q ≡ declaring_all W p → q ≡ first_tree ((unrolled N f).parts outer Γ W ρ)
-  first_part outer Γ W ρ p q d h g = g ∙ ap (declaring_all W) h ∙ sym (ap first_tree (parts_here outer Γ W ρ d))
 
   pub part_more : (outer Γ : Sorts) (W : List (Name × Kind)) (ρ : Indices) (xs ys : List Proc) (q : Proc) (p : Tree) (total : Trees) → is_declaration s ≡ false
       → p ≡ process N s (unrolled N below) Γ ρ → tree q ≡ declaring_all W p → ys ≡ xs ++ q ∷ []

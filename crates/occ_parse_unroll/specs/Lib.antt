@@ -6,3 +6,4 @@ pub mod Known
 pub mod Present
 pub mod Guards
 pub mod Elements
+unfoldable pub use Rattle.occ_syntax.specs.View.{tree}

@@ -1,6 +1,6 @@
 ghost use Rattle.std.specs.Prelude.{◌≡◌, ◌<◌, ◌++◌, ℕ, List, Some, length, OnOk, OnErr, IfOk};
 ghost use Rattle.std.specs.List.{AllByRecursion};
-ghost use Rattle.occ_lex_symbols.specs.Symbols.{Extends};
+ghost use Rattle.occ_parse_scopes.specs.occ_lex.Symbols.{Extends};
 ghost use Rattle.occ_parse_rules.specs.Places.{declared_in, entries_of, places};
 ghost use Rattle.occ_parse_rules.specs.Unrolled.{all_named, item_number, named};
 ghost use Rattle.occ_parse_unroll.specs.Elements.{all_places, item_places, with_place, brought};
@@ -11,10 +11,9 @@ ghost use Rattle.occ_parse_unroll.specs.Present.{values_of};
 use crate::context::Context;
 use crate::numbering::Numbering;
 use itoa::Buffer;
-use occ_base::{Memory, Name, Names};
 use occ_parse_forms::{Declared, Item};
 use occ_parse_rules::Entry;
-use occ_parse_scopes::sort_of;
+use occ_parse_scopes::{Memory, Name, Names, sort_of};
 use occ_syntax::{Kind, Scope};
 use std::alloc::Global;
 
@@ -30,7 +29,7 @@ fn element_text(alloc: Global, array: &[u8], k: u16) -> Result<Vec<u8>, Memory>
 }
 
 /// The number of an array's element, whose text is in the table from then on. It stays the same in every table that goes on
-/// from the table behind it. After want of memory the table is as before.
+/// from the table behind it. Where memory runs out, the table is as before.
 pub fn element(alloc: Global, names: &mut Names, array: Name, k: u16) -> Result<Name, Memory>
     requires { array.0 < length names.old }
     ensures number { IfOk result (λ name. (t : List (List ℕ)) → Extends names.new t → name.0 ≡ number_in t array.0 (Some k)) }

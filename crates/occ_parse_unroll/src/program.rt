@@ -1,7 +1,7 @@
 ghost use Rattle.std.specs.Prelude.{◌≡◌, ◌++◌, ℕ, List, [], length, OnOk, IfOk};
 ghost use Rattle.std.specs.List.{AllByRecursion};
 ghost use Rattle.occ_syntax.specs.View.{tree};
-ghost use Rattle.occ_lex_symbols.specs.Symbols.{Extends};
+ghost use Rattle.occ_parse_scopes.specs.occ_lex.Symbols.{Extends};
 ghost use Rattle.occ_parse_rules.specs.Forest.{forest};
 ghost use Rattle.occ_parse_rules.specs.Places.{declared_in, param_entries};
 ghost use Rattle.occ_parse_rules.specs.Unrolled.{lined, params_named, slot_process};
@@ -14,10 +14,9 @@ use crate::lined::line_numbers;
 use crate::naming::name_places;
 use crate::numbering::InTable;
 use crate::unrolling::slot;
-use occ_base::{List, Memory, Names};
 use occ_parse_forms::Param;
 use occ_parse_rules::{Entry, Node};
-use occ_parse_scopes::sort_of;
+use occ_parse_scopes::{List, Memory, Names, sort_of};
 use occ_syntax::{Proc, Scope};
 use std::alloc::Global;
 
@@ -35,7 +34,7 @@ pub struct Unrolled {
 /// numeral with the width that its place asks for. An element has its own name in the table, that of its text, as `x[3]`.
 /// The table then has the elements that the parameters and the lines speak of (`with_elements`), which the old table, the
 /// parameters and the lines alone determine; each table that goes on from it has the same numbers for them. It answers
-/// Memory only for want of memory, and then the table has some of them.
+/// `Memory` only where memory runs out, and then the table has some of them.
 pub fn unroll(
     alloc: Global,
     names: &mut Names,

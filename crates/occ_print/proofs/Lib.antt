@@ -3,3 +3,7 @@ pub mod Texts
 pub mod Naming
 pub mod Parts
 pub mod Counting
+pub mod Declaring
+pub mod Bounded
+pub use Rattle.occ_parse_forms.proofs.from_base as from_base
+pub use Rattle.occ_parse_forms.proofs.from_lex as from_lex

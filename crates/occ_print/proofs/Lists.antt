@@ -4,7 +4,7 @@ use Rattle.std.specs.List.{AllByRecursion, flat_map}
 use Rattle.std.proofs.lemmas.List.{append-nil, take_more, map-append}
 use Rattle.std.proofs.lemmas.Bool.{ne_eqb}
 use Rattle.std.proofs.lemmas.Grind.{flat_map-append}
-use Rattle.occ_lex_symbols.specs.declared.symbol.Symbol.{Symbol}
+use Rattle.occ_parse_forms.specs.occ_lex.declared.symbol.Symbol.{Symbol}
 use Rattle.occ_parse_forms.specs.Lines.{comma}
 use Rattle.occ_print.specs.Symbols.{comma_behind, separated}
 

@@ -2,17 +2,17 @@
 use Rattle.std.proofs.Common.{ℕ, ◌+◌, ◌<◌, Bool, true, false, not, ◌&&◌, ◌||◌, List, [], ◌∷◌, ◌++◌, length, None, Some}
 use Rattle.std.specs.Prelude.{if◌then◌else◌}
 use Rattle.std.specs.List.{AllByRecursion, flat_map}
-use Rattle.occ_base.specs.declared.event.Dir.TheVariants as dir
-use Rattle.occ_base.specs.declared.names.Name.{Name}
+use Rattle.occ_parse_forms.specs.occ_base.declared.event.Dir.TheVariants as dir
+use Rattle.occ_parse_forms.specs.occ_base.declared.names.Name.{Name}
 use Rattle.occ_syntax.specs.declared.expr.Op.{Op}
 use Rattle.occ_syntax.specs.declared.expr.Op.TheVariants as op
 use Rattle.occ_syntax.specs.declared.scope.Kind.{Kind}
 use Rattle.occ_syntax.specs.declared.scope.Kind.TheVariants as kind
 use Rattle.occ_syntax.specs.Tree.{Exp, variable, numeral, truth, negation, complement, operation, Waiting, ready, input, output, Tree, skip, stop, assign, receive, send, seq, par, select, alt, declare, connect, Trees, no_tree, and_tree, Cases, no_case, and_case, Branches, no_branch, and_branch}
-use Rattle.occ_lex_symbols.specs.declared.symbol.Symbol.{Symbol}
-use Rattle.occ_lex_symbols.specs.declared.symbol.Sign.TheVariants as sign
-use Rattle.occ_lex_symbols.specs.declared.symbol.Symbol.TheVariants as symbol
-use Rattle.occ_lex_symbols.specs.Symbols.{IsKnown}
+use Rattle.occ_parse_forms.specs.occ_lex.declared.symbol.Symbol.{Symbol}
+use Rattle.occ_parse_forms.specs.occ_lex.declared.symbol.Sign.TheVariants as sign
+use Rattle.occ_parse_forms.specs.occ_lex.declared.symbol.Symbol.TheVariants as symbol
+use Rattle.occ_parse_forms.specs.occ_lex.Symbols.{IsKnown}
 use Rattle.occ_parse_forms.specs.Lines.{comma, kind_words, mark_words}
 use Rattle.occ_parse_forms.specs.Written.{op_word, truth_word}
 use Rattle.occ_print.specs.Symbols.{name_symbol, separated, is_operation, goes_on, compares_numerals, in_brackets, width_symbols, exp_symbols, whole_symbols, assign_symbols, waiting_symbols, is_true, is_ready, guard_symbols, named_symbols, declaration_symbols, header_symbols}

@@ -9,8 +9,8 @@ use Rattle.occ_syntax.specs.declared.scope.Kind.TheVariants.{Var, Chan}
 use Rattle.occ_syntax.specs.Declarations.{declaring}
 use Rattle.occ_syntax.specs.Tree.{Tree}
 use Rattle.occ_syntax.specs.View.{exp, waiting, tree, trees, cases, branches}
-use Rattle.occ_lex.specs.Printed.{printed_line}
-use Rattle.occ_lex_symbols.specs.Symbols.{IsKnown}
+use Rattle.occ_parse_forms.specs.occ_lex.Printed.{printed_line}
+use Rattle.occ_parse_forms.specs.occ_lex.Symbols.{IsKnown}
 use Rattle.std.specs.List.{AllByRecursion}
 use Rattle.std.specs.Prelude.{Result, Ok, Err, OnOk}
 use Rattle.occ_print.specs.Symbols.{declaration_symbols, guard_symbols, whole_symbols}

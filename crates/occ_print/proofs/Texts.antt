@@ -4,10 +4,10 @@ use Rattle.std.specs.Prelude.{decimal}
 use Rattle.std.specs.List.{prefix_len}
 use Rattle.std.proofs.lemmas.List.{append-nil, take-append-drop, at_drop_more, map-append}
 use Rattle.std.proofs.lemmas.Grind.{flat_map-append}
-use Rattle.occ_lex.specs.Printed.{Piece, piece_text, pieces_text, printed_line, printed_text}
-use Rattle.occ_lex.specs.Spelling.{is_name_byte}
-use Rattle.occ_lex_symbols.specs.declared.symbol.Symbol.{Symbol}
-use Rattle.occ_lex_symbols.specs.declared.symbol.Symbol.TheVariants as symbol
+use Rattle.occ_parse_forms.specs.occ_lex.Printed.{Piece, piece_text, pieces_text, printed_line, printed_text}
+use Rattle.occ_parse_forms.specs.occ_lex.Spelling.{is_name_byte}
+use Rattle.occ_parse_forms.specs.occ_lex.declared.symbol.Symbol.{Symbol}
+use Rattle.occ_parse_forms.specs.occ_lex.declared.symbol.Symbol.TheVariants as symbol
 use Rattle.occ_print.specs.Lines.{TextLine}
 use Rattle.occ_print.specs.Spelled.{keyword_text, sign_text, name_text, symbol_text, gap, index_pieces, name_pieces, symbol_pieces, pieces_behind, printed, lines_text}
 

@@ -1,9 +1,9 @@
 -- The names of a program stand in a table of so many names.
 use Rattle.std.specs.Prelude.{ℕ, ◌<◌, List, length}
 use Rattle.std.specs.List.{AllByRecursion}
-use Rattle.occ_base.specs.declared.names.Name.{Name}
+use Rattle.occ_parse_forms.specs.occ_base.declared.names.Name.{Name}
 use Rattle.occ_syntax.specs.declared.scope.Kind.{Kind}
-use Rattle.occ_lex_symbols.specs.Symbols.{IsKnown}
+use Rattle.occ_parse_forms.specs.occ_lex.Symbols.{IsKnown}
 use Rattle.occ_print.specs.Lines.{TextLine}
 use Rattle.occ_syntax.specs.Tree.{Exp, variable, numeral, truth, negation, complement, operation, Waiting, ready, input, output, Tree, skip, stop, assign, receive, send, seq, par, select, alt, declare, connect, Trees, no_tree, and_tree, Cases, no_case, and_case, Branches, no_branch, and_branch}
 

@@ -1,13 +1,13 @@
 -- The lines of a printed part and of a printed program, from top to bottom.
 use Rattle.std.specs.Prelude.{ℕ, ◌+◌, max, List, [], ◌∷◌, ◌++◌, length, None}
-use Rattle.occ_base.specs.declared.names.Name.{Name}
+use Rattle.occ_parse_forms.specs.occ_base.declared.names.Name.{Name}
 use Rattle.occ_syntax.specs.declared.scope.Kind.{Kind}
 use Rattle.occ_syntax.specs.declared.scope.Kind.TheVariants as kind
 use Rattle.occ_syntax.specs.Tree.{Tree, skip, stop, assign, receive, send, seq, par, select, alt, declare, connect, Trees, no_tree, and_tree, Cases, no_case, and_case, Branches, no_branch, and_branch}
-use Rattle.occ_lex_symbols.specs.declared.symbol.Keyword.TheVariants as word
-use Rattle.occ_lex_symbols.specs.declared.symbol.Sign.TheVariants as sign
-use Rattle.occ_lex_symbols.specs.declared.symbol.Symbol.{Symbol}
-use Rattle.occ_lex_symbols.specs.declared.symbol.Symbol.TheVariants as symbol
+use Rattle.occ_parse_forms.specs.occ_lex.declared.symbol.Keyword.TheVariants as word
+use Rattle.occ_parse_forms.specs.occ_lex.declared.symbol.Sign.TheVariants as sign
+use Rattle.occ_parse_forms.specs.occ_lex.declared.symbol.Symbol.{Symbol}
+use Rattle.occ_parse_forms.specs.occ_lex.declared.symbol.Symbol.TheVariants as symbol
 use Rattle.occ_print.specs.Symbols.{word_symbol, whole_symbols, assign_symbols, receive_symbols, send_symbols, guard_symbols, declaration_symbols, header_symbols}
 
 -- a line: its level and its symbols

@@ -1,20 +1,20 @@
 -- How lines are spelled: the text of each symbol, and the space between two symbols.
 use Rattle.std.specs.Prelude.{ℕ, ◌-◌, Bool, true, false, ◌&&◌, ◌||◌, if◌then◌else◌, List, [], ◌∷◌, ◌++◌, length, map, take, drop, Option, None, Some, codes, decimal, slice_get, unwrap_or}
 use Rattle.std.specs.List.{prefix_len}
-use Rattle.occ_base.specs.declared.names.Name.{Name}
-use Rattle.occ_base.specs.declared.width.Width.TheVariants as width
+use Rattle.occ_parse_forms.specs.occ_base.declared.names.Name.{Name}
+use Rattle.occ_parse_forms.specs.occ_base.declared.width.Width.TheVariants as width
 use Rattle.occ_syntax.specs.declared.scope.Kind.{Kind}
 use Rattle.occ_syntax.specs.Tree.{Tree}
-use Rattle.occ_lex.specs.declared.token.TokenKind.{TokenKind}
-use Rattle.occ_lex.specs.declared.token.TokenKind.TheVariants as token
-use Rattle.occ_lex.specs.Printed.{Piece, Printed, printed_text}
-use Rattle.occ_lex.specs.Spelling.{is_name_byte}
-use Rattle.occ_lex_symbols.specs.declared.symbol.Keyword.{Keyword}
-use Rattle.occ_lex_symbols.specs.declared.symbol.Keyword.TheVariants as word
-use Rattle.occ_lex_symbols.specs.declared.symbol.Sign.{Sign}
-use Rattle.occ_lex_symbols.specs.declared.symbol.Sign.TheVariants as sign
-use Rattle.occ_lex_symbols.specs.declared.symbol.Symbol.{Symbol}
-use Rattle.occ_lex_symbols.specs.declared.symbol.Symbol.TheVariants as symbol
+use Rattle.occ_parse_forms.specs.occ_lex.declared.token.TokenKind.{TokenKind}
+use Rattle.occ_parse_forms.specs.occ_lex.declared.token.TokenKind.TheVariants as token
+use Rattle.occ_parse_forms.specs.occ_lex.Printed.{Piece, Printed, printed_text}
+use Rattle.occ_parse_forms.specs.occ_lex.Spelling.{is_name_byte}
+use Rattle.occ_parse_forms.specs.occ_lex.declared.symbol.Keyword.{Keyword}
+use Rattle.occ_parse_forms.specs.occ_lex.declared.symbol.Keyword.TheVariants as word
+use Rattle.occ_parse_forms.specs.occ_lex.declared.symbol.Sign.{Sign}
+use Rattle.occ_parse_forms.specs.occ_lex.declared.symbol.Sign.TheVariants as sign
+use Rattle.occ_parse_forms.specs.occ_lex.declared.symbol.Symbol.{Symbol}
+use Rattle.occ_parse_forms.specs.occ_lex.declared.symbol.Symbol.TheVariants as symbol
 use Rattle.occ_print.specs.Lines.{TextLine, part_lines, program_lines}
 
 -- ---- the text of a symbol

@@ -1,17 +1,17 @@
 -- The symbols of each line of a printed program, from left to right. An element of an array is one name.
 use Rattle.std.specs.Prelude.{ℕ, Bool, true, false, not, ◌&&◌, ◌||◌, if◌then◌else◌, List, [], ◌∷◌, ◌++◌}
 use Rattle.std.specs.List.{flat_map}
-use Rattle.occ_base.specs.declared.names.Name.{Name}
-use Rattle.occ_base.specs.declared.width.Width.TheVariants as width
+use Rattle.occ_parse_forms.specs.occ_base.declared.names.Name.{Name}
+use Rattle.occ_parse_forms.specs.occ_base.declared.width.Width.TheVariants as width
 use Rattle.occ_syntax.specs.declared.expr.Op.{Op}
 use Rattle.occ_syntax.specs.declared.expr.Op.TheVariants as op
 use Rattle.occ_syntax.specs.declared.scope.Kind.{Kind}
 use Rattle.occ_syntax.specs.Tree.{Exp, variable, numeral, truth, negation, complement, operation, Waiting, ready, input, output}
-use Rattle.occ_lex_symbols.specs.declared.symbol.Keyword.{Keyword}
-use Rattle.occ_lex_symbols.specs.declared.symbol.Keyword.TheVariants as word
-use Rattle.occ_lex_symbols.specs.declared.symbol.Sign.TheVariants as sign
-use Rattle.occ_lex_symbols.specs.declared.symbol.Symbol.{Symbol}
-use Rattle.occ_lex_symbols.specs.declared.symbol.Symbol.TheVariants as symbol
+use Rattle.occ_parse_forms.specs.occ_lex.declared.symbol.Keyword.{Keyword}
+use Rattle.occ_parse_forms.specs.occ_lex.declared.symbol.Keyword.TheVariants as word
+use Rattle.occ_parse_forms.specs.occ_lex.declared.symbol.Sign.TheVariants as sign
+use Rattle.occ_parse_forms.specs.occ_lex.declared.symbol.Symbol.{Symbol}
+use Rattle.occ_parse_forms.specs.occ_lex.declared.symbol.Symbol.TheVariants as symbol
 use Rattle.occ_parse_forms.specs.Lines.{comma, kind_words, mark_words}
 use Rattle.occ_parse_forms.specs.Written.{op_word, truth_word}
 

@@ -1,15 +1,14 @@
 ghost use Rattle.std.specs.Prelude.{◌≡◌, ◌++◌, OnOk, replicate};
 ghost use Rattle.std.specs.List.{AllByRecursion};
-ghost use Rattle.occ_lex.specs.Printed.{pieces_text, printed_line};
-ghost use Rattle.occ_lex_symbols.specs.Symbols.{IsKnown};
+ghost use Rattle.occ_parse_forms.specs.occ_lex.Printed.{pieces_text, printed_line};
+ghost use Rattle.occ_parse_forms.specs.occ_lex.Symbols.{IsKnown};
 ghost use Rattle.occ_print.specs.Levels.{level_of};
 ghost use Rattle.occ_print.specs.Lines.{line};
 ghost use Rattle.occ_print.specs.Spelled.{gap, is_header, is_mark, is_numeral, is_tight, leans, opens, pieces, printed};
 
 use crate::level::{Level, push_margin};
 use crate::spelling::push_symbol;
-use occ_base::{Memory, Names};
-use occ_lex_symbols::{Keyword, Sign, Symbol};
+use occ_parse_forms::{Keyword, Memory, Names, Sign, Symbol};
 
 /// Adds a line: its margin, its symbols and a line feed.
 pub fn push_line(

@@ -1,8 +1,8 @@
 ghost use Rattle.std.specs.Prelude.{◌≡◌, ◌++◌, false, OnOk};
 ghost use Rattle.occ_syntax.specs.Declarations.{is_declaration};
 ghost use Rattle.std.specs.List.{AllByRecursion};
-ghost use Rattle.occ_lex.specs.Printed.{printed_line};
-ghost use Rattle.occ_lex_symbols.specs.Symbols.{IsKnown};
+ghost use Rattle.occ_parse_forms.specs.occ_lex.Printed.{printed_line};
+ghost use Rattle.occ_parse_forms.specs.occ_lex.Symbols.{IsKnown};
 ghost use Rattle.occ_syntax.specs.View.{exp, exps, numbers, tree, trees, cases, branches, waiting};
 ghost use Rattle.occ_print.specs.Known.{LinesAreKnown};
 ghost use Rattle.occ_print.specs.Levels.{level_of};
@@ -14,8 +14,7 @@ use crate::expression::push_expression;
 use crate::level::Level;
 use crate::line::push_line;
 use crate::simple::{push_assignment, push_declaration, push_guard, push_input, push_output};
-use occ_base::{Memory, Name, Names};
-use occ_lex_symbols::{Keyword, Symbol, Symbols};
+use occ_parse_forms::{Keyword, Memory, Name, Names, Symbol, Symbols};
 use occ_syntax::{Expr, Guard, Kind, Proc};
 use std::alloc::Global;
 
@@ -39,7 +38,7 @@ pub fn push_part(
     push_undeclared(alloc, text, names, level, rest)
 }
 
-#[tactic(auto, unfolding(occ_syntax::specs::View::tree))]
+#[tactic(auto, unfolding(crate::specs::tree))]
 #[cycle(part)]
 fn push_undeclared(
     alloc: Global,

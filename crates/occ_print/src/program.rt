@@ -7,13 +7,12 @@ use crate::level::Level;
 use crate::line::push_line;
 use crate::part::push_part;
 use crate::simple::push_header;
-use occ_base::{Memory, Names};
-use occ_lex_symbols::{Sign, Symbol, Symbols};
+use occ_parse_forms::{Memory, Names, Sign, Symbol, Symbols};
 use occ_syntax::{Proc, Program};
 use std::alloc::Global;
 
 /// The text of a program: its header, its body one level below, and the closing line. Its names are names of the table;
-/// the one refusal is want of memory.
+/// it is refused only where memory runs out.
 pub fn print(alloc: Global, names: &Names, program: &Program) -> Result<Vec<u8>, Memory>
     requires { ProgramIsKnown names.now program.now.name.0 program.now.params (tree program.now.body) }
     ensures { IfOk result (λ text. text.items ≡ program_text names.now program.now.name.0 program.now.params (tree program.now.body)) }
@@ -32,8 +31,8 @@ pub fn print(alloc: Global, names: &Names, program: &Program) -> Result<Vec<u8>,
     Ok(text)
 }
 
-/// The text of a part whose first line stands at a level. Its names are names of the table; the one refusal is want of
-/// memory.
+/// The text of a part whose first line stands at a level. Its names are names of the table; it is refused only where
+/// memory runs out.
 pub fn print_part(alloc: Global, names: &Names, part: &Proc, level: u32) -> Result<Vec<u8>, Memory>
     requires { PartIsKnown (length names.now) (tree part.now) }
     ensures { IfOk result (λ text. text.items ≡ part_text names.now level (tree part.now)) }

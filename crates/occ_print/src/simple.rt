@@ -4,8 +4,7 @@ ghost use Rattle.occ_syntax.specs.View.{exp, exps, numbers, waiting};
 ghost use Rattle.occ_print.specs.Symbols.{assign_symbols, comma_behind, declaration_symbols, guard_symbols, header_symbols, is_ready, is_true, name_symbol, named_symbols, receive_symbols, send_symbols, separated, waiting_symbols, whole_symbols};
 
 use crate::expression::push_expression;
-use occ_base::{Dir, Memory, Name};
-use occ_lex_symbols::{Keyword, Sign, Symbol, Symbols};
+use occ_parse_forms::{Dir, Keyword, Memory, Name, Sign, Symbol, Symbols};
 use occ_syntax::{Expr, Guard, Kind, Wait};
 
 /// Adds the symbols of an assignment.

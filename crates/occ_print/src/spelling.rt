@@ -1,10 +1,9 @@
 ghost use Rattle.std.specs.Prelude.{◌≡◌, ◌++◌, ◌<◌, length, decimal, OnOk};
-ghost use Rattle.occ_lex_symbols.specs.Symbols.{IsKnown};
+ghost use Rattle.occ_parse_forms.specs.occ_lex.Symbols.{IsKnown};
 ghost use Rattle.occ_print.specs.Spelled.{word_text, keyword_text, sign_text, symbol_text};
 
 use itoa::Buffer;
-use occ_base::{Memory, Names, Width};
-use occ_lex_symbols::{Keyword, Sign, Symbol};
+use occ_parse_forms::{Keyword, Memory, Names, Sign, Symbol, Width};
 
 /// Adds the text of a symbol.
 pub fn push_symbol(text: &mut Vec<u8>, names: &Names, symbol: Symbol) -> Result<(), Memory>

@@ -7,7 +7,7 @@ ghost use Rattle.occ_print.specs.Symbols.{declaration_symbols, exp_symbols, guar
 
 use crate::expression::{has_numerals_alone, has_operator, is_chained};
 use crate::simple::has_no_condition;
-use occ_base::Name;
+use occ_parse_forms::Name;
 use occ_syntax::{Expr, Guard, Kind, Proc, Wait};
 
 /// The greatest number of tokens on a printed line of a part. An element of an array counts as one token, as a name
@@ -25,7 +25,7 @@ pub fn line_tokens(part: &Proc) -> u64
     most.max(undeclared_tokens(rest))
 }
 
-#[tactic(auto, unfolding(occ_syntax::specs::View::tree))]
+#[tactic(auto, unfolding(crate::specs::tree))]
 #[cycle(widest)]
 fn undeclared_tokens(part: &Proc) -> u64
     requires { is_declaration (tree part.now) ≡ false }

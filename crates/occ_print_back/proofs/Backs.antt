@@ -1,27 +1,27 @@
 -- A printed program reads back.
 use Rattle.std.proofs.Common.{◌≡◌, ℕ, false, List, [], length, Option, None, refl, ap, sym, ◌∙◌, subst}
-use Rattle.occ_base.specs.declared.names.Name.{Name}
-use Rattle.occ_syntax.specs.declared.scope.Kind.{Kind}
-use Rattle.occ_syntax.specs.Tree.{Tree}
-use Rattle.occ_lex.specs.Rows.{reading_of}
-use Rattle.occ_lex_symbols.specs.declared.symbol.Row.{Row}
-use Rattle.occ_parse_rules.specs.Forest.{lines_at}
-use Rattle.occ_parse_rules.specs.Judging.{or_else, first_fault}
-use Rattle.occ_parse_rules.specs.Names.{name_fault}
-use Rattle.occ_parse_rules.specs.Types.{type_fault, direction_fault}
-use Rattle.occ_parse_rules.specs.Places.{Place}
+use Rattle.occ_print.specs.occ_base.declared.names.Name.{Name}
+use Rattle.occ_print.specs.occ_syntax.declared.scope.Kind.{Kind}
+use Rattle.occ_print.specs.occ_syntax.Tree.{Tree}
+use Rattle.occ_print.specs.occ_lex.Rows.{reading_of}
+use Rattle.occ_print.specs.occ_lex.declared.symbol.Row.{Row}
+use Rattle.occ_parse.specs.occ_parse_rules.Forest.{lines_at}
+use Rattle.occ_parse.specs.occ_parse_rules.Judging.{or_else, first_fault}
+use Rattle.occ_parse.specs.occ_parse_rules.Names.{name_fault}
+use Rattle.occ_parse.specs.occ_parse_rules.Types.{type_fault, direction_fault}
+use Rattle.occ_parse.specs.occ_parse_rules.Places.{Place}
 use Rattle.occ_print.specs.Lines.{program_lines}
 use Rattle.occ_print.specs.Spelled.{program_text}
-use Rattle.occ_parse_layout.specs.Layout.{least_bad}
-use Rattle.occ_parse_reading.specs.declared.bound.Bound.{Bound}
-use Rattle.occ_parse_reading.specs.declared.bound.Bound.TheVariants as bound
-use Rattle.occ_parse_reading.specs.declared.fault.ParseFault.{ParseFault}
-use Rattle.occ_parse_reading.specs.declared.fault.ParseFault.TheVariants as fault
-use Rattle.occ_parse_reading.specs.Limits.{is_too_long, frame_of, stopped}
-use Rattle.occ_parse_reading.specs.Drafts.{name_fault_on, type_fault_on, as_fault, limit_fault_of, draft_fault}
-use Rattle.occ_parse_reading.specs.Reading.{AreForms, rows_in}
-use Rattle.occ_parse_unroll.specs.Numbers.{number_in}
-use Rattle.occ_parse_unroll.specs.Elements.{with_elements}
+use Rattle.occ_parse.specs.occ_parse_layout.Layout.{least_bad}
+use Rattle.occ_parse.specs.declared.bound.Bound.{Bound}
+use Rattle.occ_parse.specs.declared.bound.Bound.TheVariants as bound
+use Rattle.occ_parse.specs.declared.fault.ParseFault.{ParseFault}
+use Rattle.occ_parse.specs.declared.fault.ParseFault.TheVariants as fault
+use Rattle.occ_parse.specs.Limits.{is_too_long, frame_of, stopped}
+use Rattle.occ_parse.specs.Drafts.{name_fault_on, type_fault_on, as_fault, limit_fault_of, draft_fault}
+use Rattle.occ_parse.specs.Reading.{AreForms, rows_in}
+use Rattle.occ_parse.specs.occ_parse_unroll.Numbers.{number_in}
+use Rattle.occ_parse.specs.occ_parse_unroll.Elements.{with_elements}
 use Rattle.occ_print_back.specs.Program.{IsPrintable, params_said, body_forest, program_forest}
 use Rattle.occ_print_back.specs.Read.{ReadsAs, line_rows}
 use Rattle.occ_print_back.proofs.Programs.{program_read, program_formed, program_good, program_back, params_back}

@@ -3,22 +3,22 @@ use Rattle.std.proofs.Common.{◌≡◌, ℕ, ◌<◌, ◌^◌, Bool, true, fals
 use Rattle.std.specs.Prelude.{if◌then◌else◌, is_none}
 use Rattle.std.specs.List.{AllByRecursion, list_any}
 use Rattle.std.proofs.lemmas.Bool.{and_parts, and_from, eq-eqb, lt-ltb, ltb-true}
-use Rattle.occ_base.specs.declared.width.Width.{Width}
-use Rattle.occ_base.specs.declared.width.Width.TheVariants.{Bool as TruthValue, Word}
-use Rattle.occ_syntax.specs.declared.expr.Op.{Op}
-use Rattle.occ_syntax.specs.Scopes.{Environment}
-use Rattle.occ_syntax.specs.Tree.{Exp, variable, numeral, truth, negation, complement, operation}
-use Rattle.occ_syntax.specs.Types.{same_width, is_width, type_of, if_truth_value, if_word}
-use Rattle.occ_parse_forms.specs.declared.form.Declared.{Declared}
-use Rattle.occ_parse_forms.specs.declared.form.Declared.TheVariants as declared
-use Rattle.occ_parse_forms.specs.declared.form.Item.{Item}
-use Rattle.occ_parse_rules.specs.declared.sort.Entry.{Entry}
-use Rattle.occ_parse_rules.specs.declared.sort.Sort.{Sort}
-use Rattle.occ_parse_rules.specs.declared.sort.Sort.TheVariants as sort
-use Rattle.occ_parse_rules.specs.Places.{Place, Sorts, Indices, declares, declares_some, sort_at, has_elements, values_of, with_index, taken_by, for_some_from, for_some, place_at, sort_of_place}
-use Rattle.occ_parse_rules.specs.Names.{index_counts, is_undeclared, is_outside}
-use Rattle.occ_parse_rules.specs.Types.{is_truth_value, fits, class, Class, of_words, of_truth_values, comparing, ordering, own, or_width, asks, refuses, if_asked, compares, sort_clashes, clashes, has_untyped}
-use Rattle.occ_parse_rules.specs.Unrolled.{Numbers}
+use Rattle.occ_print.specs.occ_base.declared.width.Width.{Width}
+use Rattle.occ_print.specs.occ_base.declared.width.Width.TheVariants.{Bool as TruthValue, Word}
+use Rattle.occ_print.specs.occ_syntax.declared.expr.Op.{Op}
+use Rattle.occ_print.specs.occ_syntax.Scopes.{Environment}
+use Rattle.occ_print.specs.occ_syntax.Tree.{Exp, variable, numeral, truth, negation, complement, operation}
+use Rattle.occ_print.specs.occ_syntax.Types.{same_width, is_width, type_of, if_truth_value, if_word}
+use Rattle.occ_print.specs.occ_parse_forms.declared.form.Declared.{Declared}
+use Rattle.occ_print.specs.occ_parse_forms.declared.form.Declared.TheVariants as declared
+use Rattle.occ_print.specs.occ_parse_forms.declared.form.Item.{Item}
+use Rattle.occ_parse.specs.occ_parse_rules.declared.sort.Entry.{Entry}
+use Rattle.occ_parse.specs.occ_parse_rules.declared.sort.Sort.{Sort}
+use Rattle.occ_parse.specs.occ_parse_rules.declared.sort.Sort.TheVariants as sort
+use Rattle.occ_parse.specs.occ_parse_rules.Places.{Place, Sorts, Indices, declares, declares_some, sort_at, has_elements, values_of, with_index, taken_by, for_some_from, for_some, place_at, sort_of_place}
+use Rattle.occ_parse.specs.occ_parse_rules.Names.{index_counts, is_undeclared, is_outside}
+use Rattle.occ_parse.specs.occ_parse_rules.Types.{is_truth_value, fits, class, Class, of_words, of_truth_values, comparing, ordering, own, or_width, asks, refuses, if_asked, compares, sort_clashes, clashes, has_untyped}
+use Rattle.occ_parse.specs.occ_parse_rules.Unrolled.{Numbers}
 use Rattle.occ_print.specs.Symbols.{is_comparison, of_numerals, compares_numerals}
 use Rattle.occ_print.specs.Known.{ExpIsKnown}
 use Rattle.occ_print_back.specs.Said.{item_of, numeral_said, said}

@@ -2,19 +2,19 @@
 use Rattle.std.proofs.Common.{◌≡◌, ℕ, ◌≤◌, ◌+◌, Bool, true, false, ◌&&◌, List, [], ◌∷◌, ◌++◌, length, Option, None, Some, refl, ap, sym, ◌∙◌, arith}
 use Rattle.std.specs.Prelude.{if◌then◌else◌, nat_lt}
 use Rattle.std.proofs.lemmas.Bool.{le-ltb}
-use Rattle.occ_lex_symbols.specs.declared.symbol.Row.{Row}
-use Rattle.occ_lex_symbols.specs.declared.symbol.Symbol.{Symbol}
-use Rattle.occ_lex_symbols.specs.declared.symbol.Symbol.TheVariants as symbol
-use Rattle.occ_parse_forms.specs.Written.{item_words}
-use Rattle.occ_parse_rules.specs.Forest.{Laid}
-use Rattle.occ_parse_rules.specs.Places.{Place}
+use Rattle.occ_print.specs.occ_lex.declared.symbol.Row.{Row}
+use Rattle.occ_print.specs.occ_lex.declared.symbol.Symbol.{Symbol}
+use Rattle.occ_print.specs.occ_lex.declared.symbol.Symbol.TheVariants as symbol
+use Rattle.occ_print.specs.occ_parse_forms.Written.{item_words}
+use Rattle.occ_parse.specs.occ_parse_rules.Forest.{Laid}
+use Rattle.occ_parse.specs.occ_parse_rules.Places.{Place}
 use Rattle.occ_print.specs.Lines.{TextLine, most_symbols}
-use Rattle.occ_parse_reading.specs.declared.bound.Bound.{Bound}
-use Rattle.occ_parse_reading.specs.declared.bound.Bound.TheVariants as bound
-use Rattle.occ_parse_reading.specs.declared.fault.ParseFault.{ParseFault}
-use Rattle.occ_parse_reading.specs.declared.fault.Which.TheVariants as which
-use Rattle.occ_parse_reading.specs.Limits.{counts_nothing, weight, opens, counted_from, counted, is_limited, stop_at, stopped}
-use Rattle.occ_parse_reading.specs.Reading.{AreForms}
+use Rattle.occ_parse.specs.declared.bound.Bound.{Bound}
+use Rattle.occ_parse.specs.declared.bound.Bound.TheVariants as bound
+use Rattle.occ_parse.specs.declared.fault.ParseFault.{ParseFault}
+use Rattle.occ_parse.specs.declared.fault.Which.TheVariants as which
+use Rattle.occ_parse.specs.Limits.{counts_nothing, weight, opens, counted_from, counted, is_limited, stop_at, stopped}
+use Rattle.occ_parse.specs.Reading.{AreForms}
 use Rattle.occ_print_back.specs.Said.{item_of}
 use Rattle.occ_print_back.specs.Read.{symbols_read, line_rows}
 use Rattle.occ_print_back.specs.Formed.{AreFormed}

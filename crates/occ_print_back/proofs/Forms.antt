@@ -4,23 +4,23 @@ use Rattle.std.specs.Prelude.{if◌then◌else◌, is_some}
 use Rattle.std.specs.List.{AllByRecursion, IsDistinct, list_any}
 use Rattle.std.proofs.lemmas.Bool.{and_parts, or_parts, not-true, eqb-true, eq-eqb, false_from_ne_true}
 use Rattle.std.proofs.lemmas.List.{append-nil, length-append, length-map}
-use Rattle.occ_syntax.specs.declared.scope.Kind.{Kind}
-use Rattle.occ_syntax.specs.declared.scope.Kind.TheVariants as kind
-use Rattle.occ_syntax.specs.Scopes.{Environment, with_name, variable_width}
-use Rattle.occ_syntax.specs.Tree.{Exp, Waiting, ready, input, output, Tree, skip, stop, assign, receive, send, seq, par, select, alt, declare, connect, Trees, no_tree, and_tree, Cases, no_case, and_case, Branches, no_branch, and_branch}
-use Rattle.occ_syntax.specs.Types.{type_of, agree, pairs_kept, is_pair, is_condition, can_declare, types_kept, all_types_kept, cases_kept, branches_kept}
-use Rattle.occ_lex_symbols.specs.declared.symbol.Keyword.TheVariants as word
-use Rattle.occ_lex_symbols.specs.declared.symbol.Sign.TheVariants as sign
-use Rattle.occ_lex_symbols.specs.declared.symbol.Symbol.{Symbol}
-use Rattle.occ_lex_symbols.specs.declared.symbol.Symbol.TheVariants as symbol
-use Rattle.occ_parse_forms.specs.declared.form.Group.TheVariants as group
-use Rattle.occ_parse_forms.specs.declared.form.Item.{Item}
-use Rattle.occ_parse_forms.specs.Lines.{list_words, IsUnmarked, kind_words, plain_names, IsInput, IsOutput, IsWaiting, IsGuard, IsDeclaration, IsForm}
-use Rattle.occ_parse_forms.specs.Shape as line
-use Rattle.occ_parse_forms.specs.Written.{item_words, words, meant}
-use Rattle.occ_parse_rules.specs.Forest.{Laid, Forest, no_line, and_line, lines_at}
-use Rattle.occ_parse_rules.specs.Places.{Place}
-use Rattle.occ_parse_rules.specs.Unrolled.{Numbers}
+use Rattle.occ_print.specs.occ_syntax.declared.scope.Kind.{Kind}
+use Rattle.occ_print.specs.occ_syntax.declared.scope.Kind.TheVariants as kind
+use Rattle.occ_print.specs.occ_syntax.Scopes.{Environment, with_name, variable_width}
+use Rattle.occ_print.specs.occ_syntax.Tree.{Exp, Waiting, ready, input, output, Tree, skip, stop, assign, receive, send, seq, par, select, alt, declare, connect, Trees, no_tree, and_tree, Cases, no_case, and_case, Branches, no_branch, and_branch}
+use Rattle.occ_print.specs.occ_syntax.Types.{type_of, agree, pairs_kept, is_pair, is_condition, can_declare, types_kept, all_types_kept, cases_kept, branches_kept}
+use Rattle.occ_print.specs.occ_lex.declared.symbol.Keyword.TheVariants as word
+use Rattle.occ_print.specs.occ_lex.declared.symbol.Sign.TheVariants as sign
+use Rattle.occ_print.specs.occ_lex.declared.symbol.Symbol.{Symbol}
+use Rattle.occ_print.specs.occ_lex.declared.symbol.Symbol.TheVariants as symbol
+use Rattle.occ_print.specs.occ_parse_forms.declared.form.Group.TheVariants as group
+use Rattle.occ_print.specs.occ_parse_forms.declared.form.Item.{Item}
+use Rattle.occ_print.specs.occ_parse_forms.Lines.{list_words, IsUnmarked, kind_words, plain_names, IsInput, IsOutput, IsWaiting, IsGuard, IsDeclaration, IsForm}
+use Rattle.occ_print.specs.occ_parse_forms.Shape as line
+use Rattle.occ_print.specs.occ_parse_forms.Written.{item_words, words, meant}
+use Rattle.occ_parse.specs.occ_parse_rules.Forest.{Laid, Forest, no_line, and_line, lines_at}
+use Rattle.occ_parse.specs.occ_parse_rules.Places.{Place}
+use Rattle.occ_parse.specs.occ_parse_rules.Unrolled.{Numbers}
 use Rattle.occ_print.specs.Symbols.{word_symbol, name_symbol, separated, whole_symbols, assign_symbols, receive_symbols, send_symbols, waiting_symbols, is_true, is_ready, guard_symbols, declaration_symbols}
 use Rattle.occ_print.specs.Lines.{TextLine, part_lines, all_lines, case_lines, branch_lines}
 use Rattle.occ_print.specs.Known.{PartIsKnown, PartsAreKnown, CasesAreKnown, BranchesAreKnown}

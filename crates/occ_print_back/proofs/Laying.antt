@@ -4,16 +4,16 @@ use Rattle.std.specs.Prelude.{if◌then◌else◌}
 use Rattle.std.specs.List.{AllByRecursion}
 use Rattle.std.proofs.lemmas.Bool.{and_from, eq-eqb, ne_eqb, lt-ltb, le-leb, lt-leb, le-ltb}
 use Rattle.std.proofs.lemmas.List.{append-nil}
-use Rattle.occ_syntax.specs.declared.scope.Kind.TheVariants as sort
-use Rattle.occ_syntax.specs.Tree.{Exp, Waiting, ready, input, output, Tree, skip, stop, assign, receive, send, seq, par, select, alt, declare, connect, Trees, no_tree, and_tree, Cases, no_case, and_case, Branches, no_branch, and_branch}
-use Rattle.occ_parse_forms.specs.declared.form.Group.{Group}
-use Rattle.occ_parse_forms.specs.declared.form.Group.TheVariants as word
-use Rattle.occ_parse_forms.specs.Shape.{Shape}
-use Rattle.occ_parse_forms.specs.Shape as line
-use Rattle.occ_parse_rules.specs.Forest.{Laid, Forest, no_line, and_line, lines_at}
-use Rattle.occ_parse_rules.specs.Places.{Place}
-use Rattle.occ_parse_layout.specs.declared.placed.Frame.TheVariants as frame
-use Rattle.occ_parse_layout.specs.Layout.{child_of, kind_of, is_declaration, has_alternatives, takes, fits_child, fits, room_at, is_free, stands_outermost, may_repeat, is_placed, has_child, has_process, is_served, is_good, least_bad_behind}
+use Rattle.occ_print.specs.occ_syntax.declared.scope.Kind.TheVariants as sort
+use Rattle.occ_print.specs.occ_syntax.Tree.{Exp, Waiting, ready, input, output, Tree, skip, stop, assign, receive, send, seq, par, select, alt, declare, connect, Trees, no_tree, and_tree, Cases, no_case, and_case, Branches, no_branch, and_branch}
+use Rattle.occ_print.specs.occ_parse_forms.declared.form.Group.{Group}
+use Rattle.occ_print.specs.occ_parse_forms.declared.form.Group.TheVariants as word
+use Rattle.occ_print.specs.occ_parse_forms.Shape.{Shape}
+use Rattle.occ_print.specs.occ_parse_forms.Shape as line
+use Rattle.occ_parse.specs.occ_parse_rules.Forest.{Laid, Forest, no_line, and_line, lines_at}
+use Rattle.occ_parse.specs.occ_parse_rules.Places.{Place}
+use Rattle.occ_parse.specs.occ_parse_layout.declared.placed.Frame.TheVariants as frame
+use Rattle.occ_parse.specs.occ_parse_layout.Layout.{child_of, kind_of, is_declaration, has_alternatives, takes, fits_child, fits, room_at, is_free, stands_outermost, may_repeat, is_placed, has_child, has_process, is_served, is_good, least_bad_behind}
 use Rattle.occ_print.specs.Symbols.{is_true, is_ready}
 use Rattle.occ_print_back.specs.Said.{item_of, assign_shape, receive_shape, send_shape, whole_said, bare_guard, waited_for, guard_shape, declaration_shape}
 use Rattle.occ_print_back.specs.Forest.{height, part_forest, parts_forest, cases_forest, branches_forest}

@@ -3,30 +3,30 @@ use Rattle.std.proofs.Common.{◌≡◌, ℕ, ◌<◌, ◌+◌, Bool, true, fals
 use Rattle.std.specs.Prelude.{if◌then◌else◌, is_none, is_some}
 use Rattle.std.specs.List.{AllByRecursion, list_any}
 use Rattle.std.proofs.lemmas.Bool.{and_parts, or_parts, not-true, eqb-true, eq-eqb, false_from_ne_true}
-use Rattle.occ_base.specs.declared.event.Dir.{Dir}
-use Rattle.occ_base.specs.declared.event.Dir.TheVariants as dir
-use Rattle.occ_base.specs.declared.names.Name.{Name}
-use Rattle.occ_base.specs.declared.width.Width.{Width}
-use Rattle.occ_base.specs.declared.width.Width.TheVariants.{Bool as TruthValue, Word}
-use Rattle.occ_syntax.specs.declared.scope.Kind.{Kind}
-use Rattle.occ_syntax.specs.declared.scope.Kind.TheVariants as kind
-use Rattle.occ_syntax.specs.Scopes.{Environment, environment, with_name, variable_width, channel_width, allows}
-use Rattle.occ_syntax.specs.Tree.{Exp, variable, numeral, truth, negation, complement, operation, Waiting, ready, input, output, Tree, skip, stop, assign, receive, send, seq, par, select, alt, declare, connect, Trees, no_tree, and_tree, Cases, no_case, and_case, Branches, no_branch, and_branch}
-use Rattle.occ_syntax.specs.Types.{type_of, agree, is_condition, input_kept, output_kept, waiting_kept, pairs_kept, is_pair, can_declare, width_of_kind, scope_kept, types_kept, all_types_kept, cases_kept, branches_kept, if_truth_value, if_word}
-use Rattle.occ_parse_forms.specs.declared.form.Group.{Group}
-use Rattle.occ_parse_forms.specs.declared.form.Group.TheVariants as word
-use Rattle.occ_parse_forms.specs.declared.form.Item.{Item}
-use Rattle.occ_parse_forms.specs.Shape.{Shape}
-use Rattle.occ_parse_forms.specs.Shape as line
-use Rattle.occ_parse_rules.specs.declared.fault.NameFault.TheVariants as name
-use Rattle.occ_parse_rules.specs.declared.fault.TypeFault.TheVariants as type
-use Rattle.occ_parse_rules.specs.declared.sort.Sort.TheVariants as sort
-use Rattle.occ_parse_rules.specs.Forest.{Forest, no_line, and_line}
-use Rattle.occ_parse_rules.specs.Judging.{or_else, on_line, inside, behind, first_fault}
-use Rattle.occ_parse_rules.specs.Names.{items_in, items_in_all, items_of_waiting, uses, left_items, index_counts, is_outside, same_element, same_place, may_meet, some_meet, is_there, redeclares_some, redeclares, name_fault}
-use Rattle.occ_parse_rules.specs.Places.{Place, Sorts, Indices, places, sort_at, sort_of, entry_of, param_entries, for_some, place_at}
-use Rattle.occ_parse_rules.specs.Types.{value_clashes, variable_here, channel_here, pairs_clash, widths_differ, waiting_clashes, line_clashes, has_untyped, waiting_untyped, line_untyped, type_fault, is_against, waiting_against, line_against, direction_fault, sort_here, variable_sort, channel_sort}
-use Rattle.occ_parse_rules.specs.Unrolled.{Numbers}
+use Rattle.occ_print.specs.occ_base.declared.event.Dir.{Dir}
+use Rattle.occ_print.specs.occ_base.declared.event.Dir.TheVariants as dir
+use Rattle.occ_print.specs.occ_base.declared.names.Name.{Name}
+use Rattle.occ_print.specs.occ_base.declared.width.Width.{Width}
+use Rattle.occ_print.specs.occ_base.declared.width.Width.TheVariants.{Bool as TruthValue, Word}
+use Rattle.occ_print.specs.occ_syntax.declared.scope.Kind.{Kind}
+use Rattle.occ_print.specs.occ_syntax.declared.scope.Kind.TheVariants as kind
+use Rattle.occ_print.specs.occ_syntax.Scopes.{Environment, environment, with_name, variable_width, channel_width, allows}
+use Rattle.occ_print.specs.occ_syntax.Tree.{Exp, variable, numeral, truth, negation, complement, operation, Waiting, ready, input, output, Tree, skip, stop, assign, receive, send, seq, par, select, alt, declare, connect, Trees, no_tree, and_tree, Cases, no_case, and_case, Branches, no_branch, and_branch}
+use Rattle.occ_print.specs.occ_syntax.Types.{type_of, agree, is_condition, input_kept, output_kept, waiting_kept, pairs_kept, is_pair, can_declare, width_of_kind, scope_kept, types_kept, all_types_kept, cases_kept, branches_kept, if_truth_value, if_word}
+use Rattle.occ_print.specs.occ_parse_forms.declared.form.Group.{Group}
+use Rattle.occ_print.specs.occ_parse_forms.declared.form.Group.TheVariants as word
+use Rattle.occ_print.specs.occ_parse_forms.declared.form.Item.{Item}
+use Rattle.occ_print.specs.occ_parse_forms.Shape.{Shape}
+use Rattle.occ_print.specs.occ_parse_forms.Shape as line
+use Rattle.occ_parse.specs.occ_parse_rules.declared.fault.NameFault.TheVariants as name
+use Rattle.occ_parse.specs.occ_parse_rules.declared.fault.TypeFault.TheVariants as type
+use Rattle.occ_parse.specs.occ_parse_rules.declared.sort.Sort.TheVariants as sort
+use Rattle.occ_parse.specs.occ_parse_rules.Forest.{Forest, no_line, and_line}
+use Rattle.occ_parse.specs.occ_parse_rules.Judging.{or_else, on_line, inside, behind, first_fault}
+use Rattle.occ_parse.specs.occ_parse_rules.Names.{items_in, items_in_all, items_of_waiting, uses, left_items, index_counts, is_outside, same_element, same_place, may_meet, some_meet, is_there, redeclares_some, redeclares, name_fault}
+use Rattle.occ_parse.specs.occ_parse_rules.Places.{Place, Sorts, Indices, places, sort_at, sort_of, entry_of, param_entries, for_some, place_at}
+use Rattle.occ_parse.specs.occ_parse_rules.Types.{value_clashes, variable_here, channel_here, pairs_clash, widths_differ, waiting_clashes, line_clashes, has_untyped, waiting_untyped, line_untyped, type_fault, is_against, waiting_against, line_against, direction_fault, sort_here, variable_sort, channel_sort}
+use Rattle.occ_parse.specs.occ_parse_rules.Unrolled.{Numbers}
 use Rattle.occ_print.specs.Symbols.{compares_numerals, is_true, is_ready}
 use Rattle.occ_print.specs.Known.{ExpIsKnown, WaitingIsKnown, PartIsKnown, PartsAreKnown, CasesAreKnown, BranchesAreKnown}
 use Rattle.occ_print_back.specs.Said.{item_of, declared_at, declared_of, said, whole_said, bare_guard, waited_for, guard_shape, assign_shape, receive_shape, send_shape, declaration_shape}

@@ -3,18 +3,18 @@ use Rattle.std.proofs.Common.{◌≡◌, ℕ, Bool, true, false, not, ◌&&◌, 
 use Rattle.std.specs.List.{flat_map}
 use Rattle.std.proofs.lemmas.List.{append-nil}
 use Rattle.std.proofs.lemmas.Grind.{flat_map-append}
-use Rattle.occ_base.specs.declared.width.Width.TheVariants as width
-use Rattle.occ_syntax.specs.declared.expr.Op.{Op}
-use Rattle.occ_syntax.specs.declared.expr.Op.TheVariants as op
-use Rattle.occ_syntax.specs.Tree.{Exp, variable, numeral, truth, negation, complement, operation}
-use Rattle.occ_lex_symbols.specs.declared.symbol.Keyword.TheVariants as word
-use Rattle.occ_lex_symbols.specs.declared.symbol.Sign.TheVariants as sign
-use Rattle.occ_lex_symbols.specs.declared.symbol.Symbol.{Symbol}
-use Rattle.occ_lex_symbols.specs.declared.symbol.Symbol.TheVariants as symbol
-use Rattle.occ_parse_forms.specs.Lines.{comma, joined, list_words, IsWritten}
-use Rattle.occ_parse_forms.specs.Shape as line
-use Rattle.occ_parse_forms.specs.Written.{Operand, named, number, number_of, constant, bracketed, Chain, pair, longer, Written, only, negated, complemented, between, all, any, op_word, item_words, truth_word, operand_words, words, operand_meant, chain_meant, meant}
-use Rattle.occ_parse_rules.specs.Places.{Place}
+use Rattle.occ_print.specs.occ_base.declared.width.Width.TheVariants as width
+use Rattle.occ_print.specs.occ_syntax.declared.expr.Op.{Op}
+use Rattle.occ_print.specs.occ_syntax.declared.expr.Op.TheVariants as op
+use Rattle.occ_print.specs.occ_syntax.Tree.{Exp, variable, numeral, truth, negation, complement, operation}
+use Rattle.occ_print.specs.occ_lex.declared.symbol.Keyword.TheVariants as word
+use Rattle.occ_print.specs.occ_lex.declared.symbol.Sign.TheVariants as sign
+use Rattle.occ_print.specs.occ_lex.declared.symbol.Symbol.{Symbol}
+use Rattle.occ_print.specs.occ_lex.declared.symbol.Symbol.TheVariants as symbol
+use Rattle.occ_print.specs.occ_parse_forms.Lines.{comma, joined, list_words, IsWritten}
+use Rattle.occ_print.specs.occ_parse_forms.Shape as line
+use Rattle.occ_print.specs.occ_parse_forms.Written.{Operand, named, number, number_of, constant, bracketed, Chain, pair, longer, Written, only, negated, complemented, between, all, any, op_word, item_words, truth_word, operand_words, words, operand_meant, chain_meant, meant}
+use Rattle.occ_parse.specs.occ_parse_rules.Places.{Place}
 use Rattle.occ_print.specs.Symbols.{separated, is_operation, is_and, is_or, goes_on, compares_numerals, in_brackets, exp_symbols, whole_symbols}
 use Rattle.occ_print_back.specs.Said.{item_of, said, whole_said}
 use Rattle.occ_print_back.specs.Read.{symbol_read, symbols_read}

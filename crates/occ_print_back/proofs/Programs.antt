@@ -4,25 +4,25 @@ use Rattle.std.specs.Prelude.{if◌then◌else◌, is_none}
 use Rattle.std.specs.List.{AllByRecursion, list_any}
 use Rattle.std.proofs.lemmas.Bool.{and_parts, and_from, ne_eqb, eqb-true, leb-true}
 use Rattle.std.proofs.lemmas.List.{append-nil}
-use Rattle.occ_base.specs.declared.event.Dir.TheVariants as dir
-use Rattle.occ_base.specs.declared.names.Name.{Name}
-use Rattle.occ_syntax.specs.declared.scope.Kind.{Kind}
-use Rattle.occ_syntax.specs.declared.scope.Kind.TheVariants as kind
-use Rattle.occ_syntax.specs.Scopes.{Environment, environment, with_name}
-use Rattle.occ_syntax.specs.Tree.{Tree}
-use Rattle.occ_syntax.specs.Types.{is_width, can_declare, width_of_kind, scope_kept}
-use Rattle.occ_lex_symbols.specs.declared.symbol.Keyword.TheVariants as word
-use Rattle.occ_lex_symbols.specs.declared.symbol.Sign.TheVariants as sign
-use Rattle.occ_lex_symbols.specs.declared.symbol.Symbol.{Symbol}
-use Rattle.occ_lex_symbols.specs.declared.symbol.Symbol.TheVariants as symbol
-use Rattle.occ_parse_forms.specs.Lines.{list_words, HasCount, IsMarked, tail_words, param_front, AreParams, IsHeader}
-use Rattle.occ_parse_forms.specs.Shape as line
-use Rattle.occ_parse_forms.specs.Written.{place_words, item_words}
-use Rattle.occ_parse_rules.specs.Forest.{Laid, no_line, lines_at}
-use Rattle.occ_parse_rules.specs.Places.{Place, Sorts, declared_in, entry_of, param_entries}
-use Rattle.occ_parse_rules.specs.Unrolled.{Numbers, params_named, slot_process, first_tree}
-use Rattle.occ_parse_layout.specs.declared.placed.Frame.TheVariants as frame
-use Rattle.occ_parse_layout.specs.Layout.{is_close, closes, has_child, has_close, kind_of, is_good, least_bad}
+use Rattle.occ_print.specs.occ_base.declared.event.Dir.TheVariants as dir
+use Rattle.occ_print.specs.occ_base.declared.names.Name.{Name}
+use Rattle.occ_print.specs.occ_syntax.declared.scope.Kind.{Kind}
+use Rattle.occ_print.specs.occ_syntax.declared.scope.Kind.TheVariants as kind
+use Rattle.occ_print.specs.occ_syntax.Scopes.{Environment, environment, with_name}
+use Rattle.occ_print.specs.occ_syntax.Tree.{Tree}
+use Rattle.occ_print.specs.occ_syntax.Types.{is_width, can_declare, width_of_kind, scope_kept}
+use Rattle.occ_print.specs.occ_lex.declared.symbol.Keyword.TheVariants as word
+use Rattle.occ_print.specs.occ_lex.declared.symbol.Sign.TheVariants as sign
+use Rattle.occ_print.specs.occ_lex.declared.symbol.Symbol.{Symbol}
+use Rattle.occ_print.specs.occ_lex.declared.symbol.Symbol.TheVariants as symbol
+use Rattle.occ_print.specs.occ_parse_forms.Lines.{list_words, HasCount, IsMarked, tail_words, param_front, AreParams, IsHeader}
+use Rattle.occ_print.specs.occ_parse_forms.Shape as line
+use Rattle.occ_print.specs.occ_parse_forms.Written.{place_words, item_words}
+use Rattle.occ_parse.specs.occ_parse_rules.Forest.{Laid, no_line, lines_at}
+use Rattle.occ_parse.specs.occ_parse_rules.Places.{Place, Sorts, declared_in, entry_of, param_entries}
+use Rattle.occ_parse.specs.occ_parse_rules.Unrolled.{Numbers, params_named, slot_process, first_tree}
+use Rattle.occ_parse.specs.occ_parse_layout.declared.placed.Frame.TheVariants as frame
+use Rattle.occ_parse.specs.occ_parse_layout.Layout.{is_close, closes, has_child, has_close, kind_of, is_good, least_bad}
 use Rattle.occ_print.specs.Symbols.{separated, named_symbols, header_symbols}
 use Rattle.occ_print.specs.Lines.{TextLine, part_lines, program_lines}
 use Rattle.occ_print.specs.Spelled.{program_text}

@@ -1,17 +1,17 @@
 -- The text of printed lines reads as their symbols.
 use Rattle.std.proofs.Common.{◌≡◌, ℕ, ◌+◌, List, [], ◌∷◌, length, map, Option, None, refl, ap, ◌∙◌}
-use Rattle.occ_lex.specs.declared.token.Line.{Line}
-use Rattle.occ_lex.specs.declared.token.Token.{Token}
-use Rattle.occ_lex.specs.declared.token.TokenKind.{TokenKind}
-use Rattle.occ_lex.specs.Printed.{Piece, printed_line, printed_lines}
-use Rattle.occ_lex.specs.Rows.{reading_of}
-use Rattle.occ_lex.specs.Token.{text_of}
-use Rattle.occ_lex.specs.Words.{words_of, printed_words}
-use Rattle.occ_lex.specs.declared.fault.LineFault.{LineFault}
-use Rattle.occ_lex.proofs.Printing.{rows_again}
-use Rattle.occ_lex.proofs.WordLemmas.{lines_spelled}
-use Rattle.occ_lex_symbols.specs.Symbols.{symbol_of, names_with, with_names, with_names_of_all, symbols_of, rows_of}
-use Rattle.occ_parse_rules.specs.Places.{Place}
+use Rattle.occ_print.specs.occ_lex.declared.token.Line.{Line}
+use Rattle.occ_print.specs.occ_lex.declared.token.Token.{Token}
+use Rattle.occ_print.specs.occ_lex.declared.token.TokenKind.{TokenKind}
+use Rattle.occ_print.specs.occ_lex.Printed.{Piece, printed_line, printed_lines}
+use Rattle.occ_print.specs.occ_lex.Rows.{reading_of}
+use Rattle.occ_print.specs.occ_lex.Token.{text_of}
+use Rattle.occ_print.specs.occ_lex.Words.{words_of, printed_words}
+use Rattle.occ_print.specs.occ_lex.declared.fault.LineFault.{LineFault}
+use Rattle.occ_print.proofs.from_lex.Printing.{rows_again}
+use Rattle.occ_print.proofs.from_lex.WordLemmas.{lines_spelled}
+use Rattle.occ_print.specs.occ_lex.Symbols.{symbol_of, names_with, with_names, with_names_of_all, symbols_of, rows_of}
+use Rattle.occ_parse.specs.occ_parse_rules.Places.{Place}
 use Rattle.occ_print.specs.Lines.{TextLine}
 use Rattle.occ_print.specs.Spelled.{is_header, pieces, printed, lines_text}
 use Rattle.occ_print_back.specs.Placed.{IsTable, LinesAreSayable, piece_symbols}

@@ -3,27 +3,27 @@ use Rattle.std.proofs.Common.{◌≡◌, ℕ, ◌<◌, ◌≤◌, ◌+◌, ◌^�
 use Rattle.std.specs.Prelude.{if◌then◌else◌}
 use Rattle.std.specs.List.{AllByRecursion, flat_map}
 use Rattle.std.proofs.lemmas.Bool.{and_parts, leb-true, ltb-true, agree_below_at}
-use Rattle.occ_base.specs.declared.event.Dir.TheVariants as dir
-use Rattle.occ_base.specs.declared.width.Width.{Width}
-use Rattle.occ_base.specs.declared.width.Width.TheVariants.{Bool as TruthValue, Word}
-use Rattle.occ_syntax.specs.declared.expr.Op.{Op}
-use Rattle.occ_syntax.specs.declared.expr.Op.TheVariants as op
-use Rattle.occ_syntax.specs.declared.scope.Kind.{Kind}
-use Rattle.occ_syntax.specs.declared.scope.Kind.TheVariants as kind
-use Rattle.occ_syntax.specs.Scopes.{Environment, with_name, allows, variable_width, channel_width}
-use Rattle.occ_syntax.specs.Tree.{Exp, variable, numeral, truth, negation, complement, operation, Waiting, ready, input, output, Tree, skip, stop, assign, receive, send, seq, par, select, alt, declare, connect, Trees, no_tree, and_tree, Cases, no_case, and_case, Branches, no_branch, and_branch}
-use Rattle.occ_syntax.specs.Types.{is_width, type_of, agree, is_condition, output_kept, waiting_kept, pairs_kept, is_pair, can_declare, width_of_kind, types_kept, all_types_kept, cases_kept, branches_kept}
-use Rattle.occ_lex_symbols.specs.declared.symbol.Sign.TheVariants as sign
-use Rattle.occ_lex_symbols.specs.declared.symbol.Symbol.{Symbol}
-use Rattle.occ_lex_symbols.specs.declared.symbol.Symbol.TheVariants as symbol
-use Rattle.occ_parse_forms.specs.Lines.{comma, kind_words, mark_words}
-use Rattle.occ_parse_forms.specs.Written.{op_word, truth_word}
+use Rattle.occ_print.specs.occ_base.declared.event.Dir.TheVariants as dir
+use Rattle.occ_print.specs.occ_base.declared.width.Width.{Width}
+use Rattle.occ_print.specs.occ_base.declared.width.Width.TheVariants.{Bool as TruthValue, Word}
+use Rattle.occ_print.specs.occ_syntax.declared.expr.Op.{Op}
+use Rattle.occ_print.specs.occ_syntax.declared.expr.Op.TheVariants as op
+use Rattle.occ_print.specs.occ_syntax.declared.scope.Kind.{Kind}
+use Rattle.occ_print.specs.occ_syntax.declared.scope.Kind.TheVariants as kind
+use Rattle.occ_print.specs.occ_syntax.Scopes.{Environment, with_name, allows, variable_width, channel_width}
+use Rattle.occ_print.specs.occ_syntax.Tree.{Exp, variable, numeral, truth, negation, complement, operation, Waiting, ready, input, output, Tree, skip, stop, assign, receive, send, seq, par, select, alt, declare, connect, Trees, no_tree, and_tree, Cases, no_case, and_case, Branches, no_branch, and_branch}
+use Rattle.occ_print.specs.occ_syntax.Types.{is_width, type_of, agree, is_condition, output_kept, waiting_kept, pairs_kept, is_pair, can_declare, width_of_kind, types_kept, all_types_kept, cases_kept, branches_kept}
+use Rattle.occ_print.specs.occ_lex.declared.symbol.Sign.TheVariants as sign
+use Rattle.occ_print.specs.occ_lex.declared.symbol.Symbol.{Symbol}
+use Rattle.occ_print.specs.occ_lex.declared.symbol.Symbol.TheVariants as symbol
+use Rattle.occ_print.specs.occ_parse_forms.Lines.{comma, kind_words, mark_words}
+use Rattle.occ_print.specs.occ_parse_forms.Written.{op_word, truth_word}
 use Rattle.occ_print.specs.Symbols.{name_symbol, separated, is_operation, goes_on, compares_numerals, in_brackets, numeral_symbols, exp_symbols, whole_symbols, assign_symbols, waiting_symbols, is_true, is_ready, named_symbols, declaration_symbols}
 use Rattle.occ_print.specs.Lines.{TextLine, part_lines, all_lines, case_lines, branch_lines}
 use Rattle.occ_print.specs.Known.{ExpIsKnown, WaitingIsKnown, PartIsKnown, PartsAreKnown, CasesAreKnown, BranchesAreKnown}
 use Rattle.occ_print.proofs.Lists.{all-append}
 use Rattle.occ_print_back.specs.Placed.{IsSayable, AreSayable, IsBegun, LinesAreSayable}
-use Rattle.occ_syntax.specs.Types.{if_truth_value, if_word}
+use Rattle.occ_print.specs.occ_syntax.Types.{if_truth_value, if_word}
 use Rattle.occ_print_back.proofs.Widths.{operands_of}
 use Rattle.occ_print_back.proofs.Standing.{agree_is}
 

@@ -2,11 +2,11 @@
 use Rattle.std.proofs.Common.{◌≡◌, ℕ, Bool, true, false, ◌&&◌, ◌||◌, List, [], ◌∷◌, ◌++◌, length, map, Option, None, Some, refl, ⊎_elim}
 use Rattle.std.specs.Prelude.{if◌then◌else◌}
 use Rattle.std.proofs.lemmas.Bool.{and_parts, or_cases}
-use Rattle.occ_lex.specs.Printed.{Piece, pieces_text, ArePieces, BeginsAtOnce, IsPrinted, ArePrinted}
-use Rattle.occ_lex_symbols.specs.declared.symbol.Sign.TheVariants as sign
-use Rattle.occ_lex_symbols.specs.declared.symbol.Symbol.{Symbol}
-use Rattle.occ_lex_symbols.specs.declared.symbol.Symbol.TheVariants as symbol
-use Rattle.occ_parse_rules.specs.Places.{Place}
+use Rattle.occ_print.specs.occ_lex.Printed.{Piece, pieces_text, ArePieces, BeginsAtOnce, IsPrinted, ArePrinted}
+use Rattle.occ_print.specs.occ_lex.declared.symbol.Sign.TheVariants as sign
+use Rattle.occ_print.specs.occ_lex.declared.symbol.Symbol.{Symbol}
+use Rattle.occ_print.specs.occ_lex.declared.symbol.Symbol.TheVariants as symbol
+use Rattle.occ_parse.specs.occ_parse_rules.Places.{Place}
 use Rattle.occ_print.specs.Lines.{TextLine}
 use Rattle.occ_print.specs.Spelled.{opens, leans, is_mark, is_numeral as is_number, is_tight, gap, is_header, symbol_pieces, pieces_behind, printed}
 use Rattle.occ_print_back.specs.Placed.{IsTable, AreSayable, IsBegun, LinesAreSayable}

@@ -3,21 +3,21 @@ use Rattle.std.proofs.Common.{◌≡◌, ℕ, ◌<◌, ◌+◌, Bool, true, fals
 use Rattle.std.specs.Prelude.{if◌then◌else◌, decimal, codes, slice_index_or, unwrap_or}
 use Rattle.std.specs.List.{AllByRecursion}
 use Rattle.std.proofs.lemmas.Option.{slice_get-get_or}
-use Rattle.occ_base.specs.declared.names.Name.{Name}
-use Rattle.occ_base.specs.Names.{place_of}
-use Rattle.occ_base.proofs.Naming.{with_there}
-use Rattle.occ_syntax.specs.declared.scope.Kind.{Kind}
-use Rattle.occ_syntax.specs.declared.scope.Kind.TheVariants as kind
-use Rattle.occ_syntax.specs.Tree.{Exp, variable, numeral, truth, negation, complement, operation, Waiting, ready, input, output, Tree, skip, stop, assign, receive, send, seq, par, select, alt, declare, connect, Trees, no_tree, and_tree, Cases, no_case, and_case, Branches, no_branch, and_branch}
-use Rattle.occ_parse_forms.specs.Shape.{Said, Shape}
-use Rattle.occ_parse_forms.specs.Shape as line
-use Rattle.occ_parse_rules.specs.declared.sort.Sort.{Sort}
-use Rattle.occ_parse_rules.specs.declared.sort.Sort.TheVariants as sort
-use Rattle.occ_parse_rules.specs.Forest.{Forest, no_line}
-use Rattle.occ_parse_rules.specs.Places.{Place, Sorts, Indices, places, entry_of}
-use Rattle.occ_parse_rules.specs.Types.{sort_here}
-use Rattle.occ_parse_unroll.specs.Numbers.{element_text, number_in}
-use Rattle.occ_parse_unroll.specs.Elements.{with_place, with_places, params_places, item_places, items_places, operand_places, places_in, values_places, waiting_places, branch_places, Elements, elements, program_places, with_elements}
+use Rattle.occ_print.specs.occ_base.declared.names.Name.{Name}
+use Rattle.occ_print.specs.occ_base.Names.{place_of}
+use Rattle.occ_print.proofs.from_base.Naming.{with_there}
+use Rattle.occ_print.specs.occ_syntax.declared.scope.Kind.{Kind}
+use Rattle.occ_print.specs.occ_syntax.declared.scope.Kind.TheVariants as kind
+use Rattle.occ_print.specs.occ_syntax.Tree.{Exp, variable, numeral, truth, negation, complement, operation, Waiting, ready, input, output, Tree, skip, stop, assign, receive, send, seq, par, select, alt, declare, connect, Trees, no_tree, and_tree, Cases, no_case, and_case, Branches, no_branch, and_branch}
+use Rattle.occ_print.specs.occ_parse_forms.Shape.{Said, Shape}
+use Rattle.occ_print.specs.occ_parse_forms.Shape as line
+use Rattle.occ_parse.specs.occ_parse_rules.declared.sort.Sort.{Sort}
+use Rattle.occ_parse.specs.occ_parse_rules.declared.sort.Sort.TheVariants as sort
+use Rattle.occ_parse.specs.occ_parse_rules.Forest.{Forest, no_line}
+use Rattle.occ_parse.specs.occ_parse_rules.Places.{Place, Sorts, Indices, places, entry_of}
+use Rattle.occ_parse.specs.occ_parse_rules.Types.{sort_here}
+use Rattle.occ_parse.specs.occ_parse_unroll.Numbers.{element_text, number_in}
+use Rattle.occ_parse.specs.occ_parse_unroll.Elements.{with_place, with_places, params_places, item_places, items_places, operand_places, places_in, values_places, waiting_places, branch_places, Elements, elements, program_places, with_elements}
 use Rattle.occ_print.specs.Symbols.{compares_numerals, is_true, is_ready}
 use Rattle.occ_print.specs.Known.{ExpIsKnown, WaitingIsKnown, PartIsKnown, PartsAreKnown, CasesAreKnown, BranchesAreKnown}
 use Rattle.occ_print.specs.Spelled.{name_text}

@@ -3,22 +3,22 @@ use Rattle.std.proofs.Common.{◌≡◌, ℕ, ◌<◌, ◌+◌, Bool, true, fals
 use Rattle.std.specs.Prelude.{unwrap_or, if◌then◌else◌}
 use Rattle.std.specs.List.{AllByRecursion, flat_map}
 use Rattle.std.proofs.lemmas.Bool.{and_parts, eqb-true, eq-eqb, false_from_ne_true}
-use Rattle.occ_base.specs.declared.names.Name.{Name}
-use Rattle.occ_base.specs.declared.width.Width.{Width}
-use Rattle.occ_base.specs.declared.width.Width.TheVariants.{Bool as TruthValue}
-use Rattle.occ_syntax.specs.declared.scope.Kind.{Kind}
-use Rattle.occ_syntax.specs.declared.scope.Kind.TheVariants as kind
-use Rattle.occ_syntax.specs.Scopes.{Environment, with_name, channel_kind, variable_width, channel_width, allows}
-use Rattle.occ_base.specs.declared.event.Dir.TheVariants as dir
-use Rattle.occ_syntax.specs.Declarations.{declaring, declaring_all}
-use Rattle.occ_syntax.specs.Tree.{Exp, variable, numeral, truth, negation, complement, operation, Waiting, ready, input, output, Tree, skip, stop, assign, receive, send, seq, par, select, alt, declare, connect, Trees, no_tree, and_tree, Cases, no_case, and_case, Branches, no_branch, and_branch}
-use Rattle.occ_syntax.specs.Types.{type_of, agree, is_condition, output_kept, waiting_kept, pairs_kept, is_pair, can_declare, types_kept, all_types_kept, cases_kept, branches_kept}
-use Rattle.occ_parse_forms.specs.Shape.{Said, Shape}
-use Rattle.occ_parse_forms.specs.Shape as line
-use Rattle.occ_parse_rules.specs.Forest.{Forest, no_line}
-use Rattle.occ_parse_rules.specs.Places.{Place, Sorts, Indices, declares, sort_at, sort_of, entry_of}
-use Rattle.occ_parse_rules.specs.Types.{variable_sort, channel_sort, variable_here, channel_here}
-use Rattle.occ_parse_rules.specs.Unrolled.{Numbers, Lines, named, item_number, expression, condition, value, values, waited, branch_line, unrolled, slot as slot_tree, first_tree as first_of}
+use Rattle.occ_print.specs.occ_base.declared.names.Name.{Name}
+use Rattle.occ_print.specs.occ_base.declared.width.Width.{Width}
+use Rattle.occ_print.specs.occ_base.declared.width.Width.TheVariants.{Bool as TruthValue}
+use Rattle.occ_print.specs.occ_syntax.declared.scope.Kind.{Kind}
+use Rattle.occ_print.specs.occ_syntax.declared.scope.Kind.TheVariants as kind
+use Rattle.occ_print.specs.occ_syntax.Scopes.{Environment, with_name, channel_kind, variable_width, channel_width, allows}
+use Rattle.occ_print.specs.occ_base.declared.event.Dir.TheVariants as dir
+use Rattle.occ_print.specs.occ_syntax.Declarations.{declaring, declaring_all}
+use Rattle.occ_print.specs.occ_syntax.Tree.{Exp, variable, numeral, truth, negation, complement, operation, Waiting, ready, input, output, Tree, skip, stop, assign, receive, send, seq, par, select, alt, declare, connect, Trees, no_tree, and_tree, Cases, no_case, and_case, Branches, no_branch, and_branch}
+use Rattle.occ_print.specs.occ_syntax.Types.{type_of, agree, is_condition, output_kept, waiting_kept, pairs_kept, is_pair, can_declare, types_kept, all_types_kept, cases_kept, branches_kept}
+use Rattle.occ_print.specs.occ_parse_forms.Shape.{Said, Shape}
+use Rattle.occ_print.specs.occ_parse_forms.Shape as line
+use Rattle.occ_parse.specs.occ_parse_rules.Forest.{Forest, no_line}
+use Rattle.occ_parse.specs.occ_parse_rules.Places.{Place, Sorts, Indices, declares, sort_at, sort_of, entry_of}
+use Rattle.occ_parse.specs.occ_parse_rules.Types.{variable_sort, channel_sort, variable_here, channel_here}
+use Rattle.occ_parse.specs.occ_parse_rules.Unrolled.{Numbers, Lines, named, item_number, expression, condition, value, values, waited, branch_line, unrolled, slot as slot_tree, first_tree as first_of}
 use Rattle.occ_print.specs.Symbols.{is_true, is_ready}
 use Rattle.occ_print.specs.Known.{ExpIsKnown, WaitingIsKnown, PartIsKnown, PartsAreKnown, CasesAreKnown, BranchesAreKnown}
 use Rattle.occ_print_back.specs.Said.{item_of, declared_at, declared_of, whole_said, bare_guard, waited_for, guard_shape}

@@ -6,30 +6,30 @@ use Rattle.std.specs.List.{AllByRecursion, list_all, prefix_len}
 use Rattle.std.proofs.lemmas.Bool.{and_parts, and_from, or_cases, not-true, eqb-true, leb-true, agree_below_at}
 use Rattle.std.proofs.lemmas.List.{append-nil, length-append, take_at, drop_at, map-append}
 use Rattle.std.proofs.lemmas.Option.{slice_get-get_or}
-use Rattle.occ_base.specs.declared.width.Width.TheVariants as width
-use Rattle.occ_base.specs.Names.{IsDistinct, place_of}
-use Rattle.occ_lex.specs.declared.fault.LineFault.{LineFault}
-use Rattle.occ_lex.specs.declared.fault.LineFault.TheVariants as fault
-use Rattle.occ_lex.specs.declared.token.TokenKind.{TokenKind}
-use Rattle.occ_lex.specs.declared.token.TokenKind.TheVariants as token
-use Rattle.occ_lex.specs.Spelling.{is_letter, is_digit, is_name_byte, signs, is_reserved, is_sign, is_name, is_numeral, kind_of, value_of}
-use Rattle.occ_lex.specs.Tokens.{judged}
-use Rattle.occ_lex.specs.Printed.{Piece, pieces_text, begins, sign_goes_on, IsPiece, ArePieces}
-use Rattle.occ_base.proofs.Naming.{naming, with_there}
-use Rattle.occ_parse_forms.specs.Written.{item_words}
+use Rattle.occ_print.specs.occ_base.declared.width.Width.TheVariants as width
+use Rattle.occ_print.specs.occ_base.Names.{IsDistinct, place_of}
+use Rattle.occ_print.specs.occ_lex.declared.fault.LineFault.{LineFault}
+use Rattle.occ_print.specs.occ_lex.declared.fault.LineFault.TheVariants as fault
+use Rattle.occ_print.specs.occ_lex.declared.token.TokenKind.{TokenKind}
+use Rattle.occ_print.specs.occ_lex.declared.token.TokenKind.TheVariants as token
+use Rattle.occ_print.specs.occ_lex.Spelling.{is_letter, is_digit, is_name_byte, signs, is_reserved, is_sign, is_name, is_numeral, kind_of, value_of}
+use Rattle.occ_print.specs.occ_lex.Tokens.{judged}
+use Rattle.occ_print.specs.occ_lex.Printed.{Piece, pieces_text, begins, sign_goes_on, IsPiece, ArePieces}
+use Rattle.occ_print.proofs.from_base.Naming.{naming, with_there}
+use Rattle.occ_print.specs.occ_parse_forms.Written.{item_words}
 use Rattle.occ_print.proofs.Lists.{all-append}
 use Rattle.occ_print_back.specs.Said.{item_of}
-use Rattle.occ_lex.proofs.Classes.{in_table}
-use Rattle.occ_lex.proofs.Printing.{spelled}
-use Rattle.occ_lex_symbols.specs.declared.symbol.Keyword.{Keyword}
-use Rattle.occ_lex_symbols.specs.declared.symbol.Keyword.TheVariants as word
-use Rattle.occ_lex_symbols.specs.declared.symbol.Sign.{Sign}
-use Rattle.occ_lex_symbols.specs.declared.symbol.Sign.TheVariants as sign
-use Rattle.occ_lex_symbols.specs.declared.symbol.Symbol.{Symbol}
-use Rattle.occ_lex_symbols.specs.declared.symbol.Symbol.TheVariants as symbol
-use Rattle.occ_lex_symbols.specs.Symbols.{symbol_of, names_with}
-use Rattle.occ_lex_symbols.specs.Words.{keyword_of, sign_of}
-use Rattle.occ_parse_rules.specs.Places.{Place}
+use Rattle.occ_print.proofs.from_lex.Classes.{in_table}
+use Rattle.occ_print.proofs.from_lex.Printing.{spelled}
+use Rattle.occ_print.specs.occ_lex.declared.symbol.Keyword.{Keyword}
+use Rattle.occ_print.specs.occ_lex.declared.symbol.Keyword.TheVariants as word
+use Rattle.occ_print.specs.occ_lex.declared.symbol.Sign.{Sign}
+use Rattle.occ_print.specs.occ_lex.declared.symbol.Sign.TheVariants as sign
+use Rattle.occ_print.specs.occ_lex.declared.symbol.Symbol.{Symbol}
+use Rattle.occ_print.specs.occ_lex.declared.symbol.Symbol.TheVariants as symbol
+use Rattle.occ_print.specs.occ_lex.Symbols.{symbol_of, names_with}
+use Rattle.occ_print.specs.occ_lex.SymbolWords.{keyword_of, sign_of}
+use Rattle.occ_parse.specs.occ_parse_rules.Places.{Place}
 use Rattle.occ_print.specs.Spelled.{keyword_text, sign_text, name_text, gap, piece, index_pieces, name_pieces, symbol_pieces, pieces_behind}
 use Rattle.occ_print_back.specs.Placed.{place_text, IsTable, IsWord, IsSayable, AreSayable, piece_symbols}
 use Rattle.occ_print_back.specs.Read.{symbol_read, symbols_read}

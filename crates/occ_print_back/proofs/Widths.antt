@@ -2,22 +2,22 @@
 use Rattle.std.proofs.Common.{◌≡◌, ℕ, ◌<◌, Bool, true, false, ◌&&◌, ◌||◌, Option, None, Some, refl, ap, sym, ◌∙◌, subst}
 use Rattle.std.specs.Prelude.{unwrap_or, if◌then◌else◌}
 use Rattle.std.proofs.lemmas.Bool.{eqb-true}
-use Rattle.occ_base.specs.declared.width.Width.{Width}
-use Rattle.occ_base.specs.declared.width.Width.TheVariants.{Bool as TruthValue, Word}
-use Rattle.occ_base.specs.Width.{bits_of}
-use Rattle.occ_syntax.specs.declared.expr.Op.{Op}
-use Rattle.occ_syntax.specs.declared.expr.Op.TheVariants as op
-use Rattle.occ_syntax.specs.declared.scope.Kind.{Kind}
-use Rattle.occ_syntax.specs.declared.scope.Kind.TheVariants as kind
-use Rattle.occ_syntax.specs.Scopes.{Environment, variable_kind, variable_width}
-use Rattle.occ_syntax.specs.Tree.{Exp, variable, numeral, truth, negation, complement, operation}
-use Rattle.occ_syntax.specs.Types.{same_width, type_given, type_of_two, if_truth_value, if_word, type_of}
-use Rattle.occ_parse_forms.specs.Shape.{Said}
-use Rattle.occ_parse_forms.specs.Shape as line
-use Rattle.occ_parse_rules.specs.declared.sort.Sort.TheVariants as sort
-use Rattle.occ_parse_rules.specs.Places.{Place, Sorts, Indices, sort_at}
-use Rattle.occ_parse_rules.specs.Types.{class, of_words, of_truth_values, comparing, ordering, own, own_of_class, or_width, asks, width_of_sort, sort_here}
-use Rattle.occ_parse_rules.specs.Unrolled.{Numbers, item_number, item_exp, expression}
+use Rattle.occ_print.specs.occ_base.declared.width.Width.{Width}
+use Rattle.occ_print.specs.occ_base.declared.width.Width.TheVariants.{Bool as TruthValue, Word}
+use Rattle.occ_print.specs.occ_base.Width.{bits_of}
+use Rattle.occ_print.specs.occ_syntax.declared.expr.Op.{Op}
+use Rattle.occ_print.specs.occ_syntax.declared.expr.Op.TheVariants as op
+use Rattle.occ_print.specs.occ_syntax.declared.scope.Kind.{Kind}
+use Rattle.occ_print.specs.occ_syntax.declared.scope.Kind.TheVariants as kind
+use Rattle.occ_print.specs.occ_syntax.Scopes.{Environment, variable_kind, variable_width}
+use Rattle.occ_print.specs.occ_syntax.Tree.{Exp, variable, numeral, truth, negation, complement, operation}
+use Rattle.occ_print.specs.occ_syntax.Types.{same_width, type_given, type_of_two, if_truth_value, if_word, type_of}
+use Rattle.occ_print.specs.occ_parse_forms.Shape.{Said}
+use Rattle.occ_print.specs.occ_parse_forms.Shape as line
+use Rattle.occ_parse.specs.occ_parse_rules.declared.sort.Sort.TheVariants as sort
+use Rattle.occ_parse.specs.occ_parse_rules.Places.{Place, Sorts, Indices, sort_at}
+use Rattle.occ_parse.specs.occ_parse_rules.Types.{class, of_words, of_truth_values, comparing, ordering, own, own_of_class, or_width, asks, width_of_sort, sort_here}
+use Rattle.occ_parse.specs.occ_parse_rules.Unrolled.{Numbers, item_number, item_exp, expression}
 use Rattle.occ_print.specs.Symbols.{gives_word, is_comparison, of_numerals, compares_numerals}
 use Rattle.occ_print.specs.Known.{ExpIsKnown}
 use Rattle.occ_print_back.specs.Said.{item_of, numeral_said, said}

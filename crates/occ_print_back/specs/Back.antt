@@ -1,15 +1,15 @@
 -- A printed program reads back.
 use Rattle.std.specs.Prelude.{ℕ, ◌≤◌, max, List, [], ◌∷◌}
-use Rattle.occ_base.specs.declared.names.Name.{Name}
-use Rattle.occ_syntax.specs.declared.scope.Kind.{Kind}
-use Rattle.occ_syntax.specs.Tree.{Tree}
-use Rattle.occ_parse_rules.specs.Places.{Place}
-use Rattle.occ_parse_rules.specs.Unrolled.{lined}
+use Rattle.occ_print.specs.occ_base.declared.names.Name.{Name}
+use Rattle.occ_print.specs.occ_syntax.declared.scope.Kind.{Kind}
+use Rattle.occ_print.specs.occ_syntax.Tree.{Tree}
+use Rattle.occ_parse.specs.occ_parse_rules.Places.{Place}
+use Rattle.occ_parse.specs.occ_parse_rules.Unrolled.{lined}
 use Rattle.occ_print.specs.Lines.{TextLine, most_symbols, program_lines}
 use Rattle.occ_print.specs.Spelled.{program_text}
-use Rattle.occ_parse_reading.specs.declared.bound.Bound.{Bound}
-use Rattle.occ_parse_reading.specs.declared.bound.Bound.TheVariants as bound
-use Rattle.occ_parse_reading.specs.Reading.{IsRead}
+use Rattle.occ_parse.specs.declared.bound.Bound.{Bound}
+use Rattle.occ_parse.specs.declared.bound.Bound.TheVariants as bound
+use Rattle.occ_parse.specs.Reading.{IsRead}
 use Rattle.occ_print_back.specs.Program.{body_forest}
 
 -- no line has more tokens than a line of a text may have

@@ -1,8 +1,8 @@
 -- Printed lines beside what they say.
 use Rattle.std.specs.Prelude.{ℕ, ◌≡◌, ◌+◌, List, [], ◌∷◌}
-use Rattle.occ_parse_forms.specs.Lines.{IsForm}
-use Rattle.occ_parse_rules.specs.Forest.{Laid}
-use Rattle.occ_parse_rules.specs.Places.{Place}
+use Rattle.occ_print.specs.occ_parse_forms.Lines.{IsForm}
+use Rattle.occ_parse.specs.occ_parse_rules.Forest.{Laid}
+use Rattle.occ_parse.specs.occ_parse_rules.Places.{Place}
 use Rattle.occ_print.specs.Lines.{TextLine}
 use Rattle.occ_print_back.specs.Read.{symbols_read}
 

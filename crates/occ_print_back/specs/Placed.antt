@@ -1,17 +1,17 @@
 -- The texts of names: what a printed name is read as.
 use Rattle.std.specs.Prelude.{ℕ, ◌≡◌, ◌<◌, nat_le, true, List, [], ◌∷◌, ◌++◌, length, map, Option, None, Some, IfSome, decimal}
 use Rattle.std.specs.List.{AllByRecursion}
-use Rattle.occ_base.specs.Names.{IsDistinct}
-use Rattle.occ_syntax.specs.Types.{is_width}
-use Rattle.occ_lex.specs.declared.token.TokenKind.TheVariants as token
-use Rattle.occ_lex.specs.Spelling.{kind_of}
-use Rattle.occ_lex.specs.Printed.{Piece}
-use Rattle.occ_lex_symbols.specs.declared.symbol.Keyword.{Keyword}
-use Rattle.occ_lex_symbols.specs.declared.symbol.Keyword.TheVariants as word
-use Rattle.occ_lex_symbols.specs.declared.symbol.Symbol.{Symbol}
-use Rattle.occ_lex_symbols.specs.declared.symbol.Symbol.TheVariants as symbol
-use Rattle.occ_lex_symbols.specs.Symbols.{symbol_of}
-use Rattle.occ_parse_rules.specs.Places.{Place}
+use Rattle.occ_print.specs.occ_base.Names.{IsDistinct}
+use Rattle.occ_print.specs.occ_syntax.Types.{is_width}
+use Rattle.occ_print.specs.occ_lex.declared.token.TokenKind.TheVariants as token
+use Rattle.occ_print.specs.occ_lex.Spelling.{kind_of}
+use Rattle.occ_print.specs.occ_lex.Printed.{Piece}
+use Rattle.occ_print.specs.occ_lex.declared.symbol.Keyword.{Keyword}
+use Rattle.occ_print.specs.occ_lex.declared.symbol.Keyword.TheVariants as word
+use Rattle.occ_print.specs.occ_lex.declared.symbol.Symbol.{Symbol}
+use Rattle.occ_print.specs.occ_lex.declared.symbol.Symbol.TheVariants as symbol
+use Rattle.occ_print.specs.occ_lex.Symbols.{symbol_of}
+use Rattle.occ_parse.specs.occ_parse_rules.Places.{Place}
 use Rattle.occ_print.specs.Spelled.{name_text}
 use Rattle.occ_print.specs.Lines.{TextLine}
 

@@ -1,16 +1,16 @@
 -- A printed program: its lines as a forest, and what is asked of it and of its names.
 use Rattle.std.specs.Prelude.{ℕ, ◌≡◌, ◌+◌, true, List, [], map, None}
 use Rattle.std.specs.List.{AllByRecursion}
-use Rattle.occ_base.specs.declared.names.Name.{Name}
-use Rattle.occ_syntax.specs.declared.scope.Kind.{Kind}
-use Rattle.occ_syntax.specs.Scopes.{environment}
-use Rattle.occ_syntax.specs.Tree.{Tree}
-use Rattle.occ_syntax.specs.Types.{scope_kept, types_kept}
-use Rattle.occ_parse_forms.specs.declared.form.Param.{Param}
-use Rattle.occ_parse_forms.specs.Lines.{IsMarked}
-use Rattle.occ_parse_forms.specs.Shape as line
-use Rattle.occ_parse_rules.specs.Forest.{Forest, no_line, and_line}
-use Rattle.occ_parse_rules.specs.Places.{Place, Sorts, declared_in, param_entries}
+use Rattle.occ_print.specs.occ_base.declared.names.Name.{Name}
+use Rattle.occ_print.specs.occ_syntax.declared.scope.Kind.{Kind}
+use Rattle.occ_print.specs.occ_syntax.Scopes.{environment}
+use Rattle.occ_print.specs.occ_syntax.Tree.{Tree}
+use Rattle.occ_print.specs.occ_syntax.Types.{scope_kept, types_kept}
+use Rattle.occ_print.specs.occ_parse_forms.declared.form.Param.{Param}
+use Rattle.occ_print.specs.occ_parse_forms.Lines.{IsMarked}
+use Rattle.occ_print.specs.occ_parse_forms.Shape as line
+use Rattle.occ_parse.specs.occ_parse_rules.Forest.{Forest, no_line, and_line}
+use Rattle.occ_parse.specs.occ_parse_rules.Places.{Place, Sorts, declared_in, param_entries}
 use Rattle.occ_print.specs.Known.{ProgramIsKnown}
 use Rattle.occ_print_back.specs.Said.{declared_of}
 use Rattle.occ_print_back.specs.Forest.{height, part_forest}

@@ -1,14 +1,14 @@
 -- The symbols of a printed line as they are read: an element of an array is the name of its array and an index.
 use Rattle.std.specs.Prelude.{ℕ, ◌≡◌, ◌+◌, List, [], ◌∷◌, None}
 use Rattle.std.specs.List.{flat_map}
-use Rattle.occ_lex.specs.Rows.{reading_of}
-use Rattle.occ_lex_symbols.specs.Symbols.{rows_of, with_names_of_all}
-use Rattle.occ_lex_symbols.specs.declared.symbol.Row.{Row}
+use Rattle.occ_print.specs.occ_lex.Rows.{reading_of}
+use Rattle.occ_print.specs.occ_lex.Symbols.{rows_of, with_names_of_all}
+use Rattle.occ_print.specs.occ_lex.declared.symbol.Row.{Row}
 use Rattle.occ_print.specs.Lines.{TextLine}
-use Rattle.occ_lex_symbols.specs.declared.symbol.Symbol.{Symbol}
-use Rattle.occ_lex_symbols.specs.declared.symbol.Symbol.TheVariants as symbol
-use Rattle.occ_parse_forms.specs.Written.{item_words}
-use Rattle.occ_parse_rules.specs.Places.{Place}
+use Rattle.occ_print.specs.occ_lex.declared.symbol.Symbol.{Symbol}
+use Rattle.occ_print.specs.occ_lex.declared.symbol.Symbol.TheVariants as symbol
+use Rattle.occ_print.specs.occ_parse_forms.Written.{item_words}
+use Rattle.occ_parse.specs.occ_parse_rules.Places.{Place}
 use Rattle.occ_print_back.specs.Said.{item_of}
 
 abbrev pub symbol_read : (ℕ → Place) → Symbol → List Symbol

@@ -1,16 +1,16 @@
 -- What the lines of a printed program say, where each number of a name is a place: a name, or the element of an array.
 use Rattle.std.specs.Prelude.{ℕ, Bool, true, false, not, ◌&&◌, ◌||◌, if◌then◌else◌, List, [], ◌∷◌, map, Option, None, Some}
-use Rattle.occ_base.specs.declared.width.Width.TheVariants as width
-use Rattle.occ_syntax.specs.declared.scope.Kind.{Kind}
-use Rattle.occ_syntax.specs.Tree.{Exp, variable, numeral, truth, negation, complement, operation, Waiting, ready, input, output}
-use Rattle.occ_parse_forms.specs.declared.form.Declared.{Declared}
-use Rattle.occ_parse_forms.specs.declared.form.Declared.TheVariants as declared
-use Rattle.occ_parse_forms.specs.declared.form.Item.{Item}
-use Rattle.occ_parse_forms.specs.declared.phrase.Index.{Index}
-use Rattle.occ_parse_forms.specs.declared.phrase.Index.TheVariants as index
-use Rattle.occ_parse_forms.specs.Shape.{Said, Shape}
-use Rattle.occ_parse_forms.specs.Shape as line
-use Rattle.occ_parse_rules.specs.Places.{Place}
+use Rattle.occ_print.specs.occ_base.declared.width.Width.TheVariants as width
+use Rattle.occ_print.specs.occ_syntax.declared.scope.Kind.{Kind}
+use Rattle.occ_print.specs.occ_syntax.Tree.{Exp, variable, numeral, truth, negation, complement, operation, Waiting, ready, input, output}
+use Rattle.occ_print.specs.occ_parse_forms.declared.form.Declared.{Declared}
+use Rattle.occ_print.specs.occ_parse_forms.declared.form.Declared.TheVariants as declared
+use Rattle.occ_print.specs.occ_parse_forms.declared.form.Item.{Item}
+use Rattle.occ_print.specs.occ_parse_forms.declared.phrase.Index.{Index}
+use Rattle.occ_print.specs.occ_parse_forms.declared.phrase.Index.TheVariants as index
+use Rattle.occ_print.specs.occ_parse_forms.Shape.{Said, Shape}
+use Rattle.occ_print.specs.occ_parse_forms.Shape as line
+use Rattle.occ_parse.specs.occ_parse_rules.Places.{Place}
 use Rattle.occ_print.specs.Symbols.{compares_numerals, is_true, is_ready}
 
 abbrev pub index_of : Option ℕ → Option Index

@@ -1,10 +1,10 @@
 -- How the numbers of names are places, and how an environment is a scope.
 use Rattle.std.specs.Prelude.{ℕ, ◌≡◌, ◌<◌, Option, None, Some}
-use Rattle.occ_syntax.specs.declared.scope.Kind.{Kind}
-use Rattle.occ_syntax.specs.Scopes.{Environment}
-use Rattle.occ_parse_rules.specs.declared.sort.Sort.{Sort}
-use Rattle.occ_parse_rules.specs.Places.{Place, Sorts, sort_at, sort_of}
-use Rattle.occ_parse_rules.specs.Unrolled.{Numbers}
+use Rattle.occ_print.specs.occ_syntax.declared.scope.Kind.{Kind}
+use Rattle.occ_print.specs.occ_syntax.Scopes.{Environment}
+use Rattle.occ_parse.specs.occ_parse_rules.declared.sort.Sort.{Sort}
+use Rattle.occ_parse.specs.occ_parse_rules.Places.{Place, Sorts, sort_at, sort_of}
+use Rattle.occ_parse.specs.occ_parse_rules.Unrolled.{Numbers}
 
 -- The first so many numbers are places, and the place of each has that number again.
 abbrev pub IsNumbered : ℕ → (ℕ → Place) → Numbers → Type 0

@@ -1,21 +1,21 @@
 ghost use Rattle.std.specs.Prelude.{◌≡◌, ℕ, List, None, [], false, length};
-ghost use Rattle.occ_base.specs.declared.names.Name.{Name};
-ghost use Rattle.occ_parse_rules.specs.Forest.{lines_at};
-ghost use Rattle.occ_parse_rules.specs.Judging.{first_fault};
-ghost use Rattle.occ_parse_rules.specs.Names.{name_fault};
-ghost use Rattle.occ_parse_rules.specs.Places.{Place};
-ghost use Rattle.occ_parse_rules.specs.Types.{direction_fault, type_fault};
-ghost use Rattle.occ_parse_rules.specs.Unrolled.{Numbers, params_named, slot_process};
-ghost use Rattle.occ_parse_layout.specs.Layout.{least_bad};
-ghost use Rattle.occ_parse_layout.specs.declared.placed.Frame.TheVariants.{Plain};
+ghost use Rattle.occ_print.specs.occ_base.declared.names.Name.{Name};
+ghost use Rattle.occ_parse.specs.occ_parse_rules.Forest.{lines_at};
+ghost use Rattle.occ_parse.specs.occ_parse_rules.Judging.{first_fault};
+ghost use Rattle.occ_parse.specs.occ_parse_rules.Names.{name_fault};
+ghost use Rattle.occ_parse.specs.occ_parse_rules.Places.{Place};
+ghost use Rattle.occ_parse.specs.occ_parse_rules.Types.{direction_fault, type_fault};
+ghost use Rattle.occ_parse.specs.occ_parse_rules.Unrolled.{Numbers, params_named, slot_process};
+ghost use Rattle.occ_parse.specs.occ_parse_layout.Layout.{least_bad};
+ghost use Rattle.occ_parse.specs.occ_parse_layout.declared.placed.Frame.TheVariants.{Plain};
 ghost use Rattle.occ_print.specs.Lines.{program_lines};
 ghost use Rattle.occ_print.specs.Spelled.{program_text};
 ghost use Rattle.occ_print_back.specs.Formed.{AreFormed};
 ghost use Rattle.occ_print_back.specs.Program.{IsPrintable, body_forest, header_scope, params_said, program_forest};
 ghost use Rattle.occ_print_back.specs.Read.{ReadsAs};
 ghost use Rattle.occ_print_back.specs.Scoped.{IsNumbered};
-ghost use Rattle.occ_syntax.specs.Tree.{Tree};
-ghost use Rattle.occ_syntax.specs.declared.scope.Kind.{Kind};
+ghost use Rattle.occ_print.specs.occ_syntax.Tree.{Tree};
+ghost use Rattle.occ_print.specs.occ_syntax.declared.scope.Kind.{Kind};
 
 /// The text of a printed program reads as its lines, each with its symbols, and leaves the table of names as it is.
 pub fn printed_text_has_its_lines()

@@ -1,10 +1,10 @@
 ghost use Rattle.std.specs.Prelude.{ℕ, List};
-ghost use Rattle.occ_base.specs.declared.names.Name.{Name};
-ghost use Rattle.occ_parse_rules.specs.Places.{Place};
+ghost use Rattle.occ_print.specs.occ_base.declared.names.Name.{Name};
+ghost use Rattle.occ_parse.specs.occ_parse_rules.Places.{Place};
 ghost use Rattle.occ_print_back.specs.Back.{IsNarrow, ReadsBack};
 ghost use Rattle.occ_print_back.specs.Program.{IsPrintable};
-ghost use Rattle.occ_syntax.specs.Tree.{Tree};
-ghost use Rattle.occ_syntax.specs.declared.scope.Kind.{Kind};
+ghost use Rattle.occ_print.specs.occ_syntax.Tree.{Tree};
+ghost use Rattle.occ_print.specs.occ_syntax.declared.scope.Kind.{Kind};
 
 /// The text of a printed program reads, as the program behind the steps of a script and with the same table of names, as
 /// that program: where its names are those of the table, names, types and directions are kept, its channel parameters are

@@ -1,8 +1,7 @@
 //! The program: `prove` over the files of the system and its standard output.
 #![tactic(auto)]
 
-use occ_desk::RealDesk;
-use occ_prove_run::prove;
+use occ_prove_run::{RealDesk, prove};
 use std::env;
 use std::io::ErrorKind;
 use std::process::ExitCode;

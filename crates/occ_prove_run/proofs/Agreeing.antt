@@ -1,9 +1,9 @@
 -- Two maps of names that agree below a number give parts whose names are below it one form.
 use Rattle.std.proofs.Common.{◌≡◌, ◌∙◌, ◌<◌, ℕ, List, [], ◌∷◌, refl, ap, ap₂}
 use Rattle.std.specs.List.{AllByRecursion}
-use Rattle.occ_meaning.specs.Rename.{all_renamed, branches_renamed, cases_renamed, renamed, renamed_exp, renamed_exps, renamed_names, renamed_waiting}
-use Rattle.occ_print.specs.Known.{BranchesAreKnown, CasesAreKnown, ExpIsKnown, PartIsKnown, PartsAreKnown, WaitingIsKnown}
-use Rattle.occ_syntax.specs.Tree.{Branches, Cases, Exp, Tree, Trees, Waiting, alt, and_branch, and_case, and_tree, assign, complement, connect, declare, input, negation, no_branch, no_case, no_tree, numeral, operation, output, par, ready, receive, select, send, seq, skip, stop, truth, variable}
+use Rattle.occ_prove_steps.specs.occ_meaning.Rename.{all_renamed, branches_renamed, cases_renamed, renamed, renamed_exp, renamed_exps, renamed_names, renamed_waiting}
+use Rattle.occ_prove_steps.specs.occ_print.Known.{BranchesAreKnown, CasesAreKnown, ExpIsKnown, PartIsKnown, PartsAreKnown, WaitingIsKnown}
+use Rattle.occ_prove_steps.specs.occ_syntax.Tree.{Branches, Cases, Exp, Tree, Trees, Waiting, alt, and_branch, and_case, and_tree, assign, complement, connect, declare, input, negation, no_branch, no_case, no_tree, numeral, operation, output, par, ready, receive, select, send, seq, skip, stop, truth, variable}
 
 module _ (n : ℕ) (f g : ℕ → ℕ) (same : (x : ℕ) → x < n → f x ≡ g x) where
   exp_agrees : (e : Exp) → ExpIsKnown n e → renamed_exp f e ≡ renamed_exp g e

@@ -1,19 +1,19 @@
 -- What is known of names stays known where the table of names grows.
 use Rattle.std.proofs.Common.{◌<◌, ◌≤◌, ◌↔◌, ℕ, List, [], ◌∷◌, length, sym, subst, arith}
 use Rattle.std.specs.List.{AllByRecursion}
-use Rattle.occ_base.specs.declared.names.Name.{Name}
-use Rattle.occ_base.specs.Names.{with_text}
-use Rattle.occ_fresh.specs.Growth.{GrowsByNames, with_texts}
-use Rattle.occ_lex_symbols.proofs.Interned.{extends_same, extends_text, extends_trans, longer}
-use Rattle.occ_lex_symbols.specs.Symbols.{Extends}
-use Rattle.occ_print.specs.Known.{PartIsKnown, ProgramIsKnown}
-use Rattle.occ_print_known.specs.Greatest.{greatest}
+use Rattle.occ_tool_run.specs.occ_base.declared.names.Name.{Name}
+use Rattle.occ_tool_run.specs.occ_base.Names.{with_text}
+use Rattle.occ_prove_steps.specs.occ_lex.Growth.{GrowsByNames, with_texts}
+use Rattle.occ_prove_steps.proofs.from_lex.Interned.{extends_same, extends_text, extends_trans, longer}
+use Rattle.occ_prove_steps.specs.occ_lex.Symbols.{Extends}
+use Rattle.occ_prove_steps.specs.occ_print.Known.{PartIsKnown, ProgramIsKnown}
+use Rattle.occ_prove_steps.specs.occ_print.Greatest.{greatest}
 use Rattle.occ_prove_steps.specs.Joined.{AreWritable}
-use Rattle.occ_script_write.specs.declared.writing.Done.{Done}
-use Rattle.occ_syntax.specs.declared.scope.Kind.{Kind}
-use Rattle.occ_syntax.specs.declared.scope.Program.{Program}
-use Rattle.occ_syntax.specs.Tree.{Tree}
-use Rattle.occ_syntax.specs.View.{tree}
+use Rattle.occ_prove_steps.specs.occ_script_write.declared.writing.Done.{Done}
+use Rattle.occ_prove_steps.specs.occ_syntax.declared.scope.Kind.{Kind}
+use Rattle.occ_prove_steps.specs.occ_syntax.declared.scope.Program.{Program}
+use Rattle.occ_prove_steps.specs.occ_syntax.Tree.{Tree}
+use Rattle.occ_prove_steps.specs.occ_syntax.View.{tree}
 
 abbrev Table : Type 0
 Table = List (List ℕ)

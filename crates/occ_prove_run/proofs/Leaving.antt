@@ -1,10 +1,10 @@
 -- What is left behind: what was written.
 use Rattle.std.proofs.Common.{◌≡◌, ℕ, List, Option, Some, None, IfSome, refl, ap, ◌∙◌, subst}
-use Rattle.occ_desk.specs.Desk.{with_more, IsCutShort}
+use Rattle.occ_tool_run.specs.occ_desk.Desk.{with_more, IsCutShort}
 use Rattle.occ_prove_run.specs.declared.proof.Proof.{Proof}
 use Rattle.occ_prove_run.specs.Answers.{Answers, AnswersNames, Ran, answered, cut_short}
 use Rattle.occ_prove_run.specs.Proofs.{Proves, status_of_proof, text_of_proof}
-use Rattle.occ_tool_words.specs.Pairs.{file_pair}
+use Rattle.occ_tool_run.specs.occ_tool_words.Pairs.{file_pair}
 use Rattle.occ_tool_run.specs.declared.load.Loaded.{Loaded}
 use Rattle.occ_tool_run.specs.Files.{Files, IsLoaded, most_bytes}
 

@@ -2,19 +2,19 @@
 use Rattle.std.proofs.Common.{◌≡◌, ◌∙◌, ℕ, Bool, true, false, List, [], Option, Some, None, Result, Ok, Err, IfOk, refl, sym, subst}
 use Rattle.std.specs.Prelude.{◌≢◌, IfNone}
 use Rattle.std.proofs.lemmas.Bool.{false≢true}
-use Rattle.occ_base.specs.declared.memory.Memory.{Memory}
-use Rattle.occ_base.specs.declared.names.Name.{Name}
-use Rattle.occ_base.specs.Names.{IsDistinct}
-use Rattle.occ_behaviour.specs.declared.behaviour.Side.{Side}
-use Rattle.occ_behaviour.specs.declared.behaviour.Side.TheVariants.{First, Second}
-use Rattle.occ_nform_table.specs.Tables.{IsInterface, are_params}
+use Rattle.occ_tool_run.specs.occ_base.declared.memory.Memory.{Memory}
+use Rattle.occ_tool_run.specs.occ_base.declared.names.Name.{Name}
+use Rattle.occ_tool_run.specs.occ_base.Names.{IsDistinct}
+use Rattle.occ_tool_run.specs.occ_behaviour.declared.behaviour.Side.{Side}
+use Rattle.occ_tool_run.specs.occ_behaviour.declared.behaviour.Side.TheVariants.{First, Second}
+use Rattle.occ_tool_run.specs.occ_nform_table.Tables.{IsInterface, are_params}
 use Rattle.occ_prove_run.specs.declared.pair.Pair.{Pair}
 use Rattle.occ_prove_run.specs.Pairs.{AreApartAll, IsPairOf}
 use Rattle.occ_prove_run.specs.Proofs.{AreHeadedAlike}
 use Rattle.occ_prove_steps.specs.Joined.{HaveOneHeader}
-use Rattle.occ_syntax.specs.declared.scope.Kind.{Kind}
-use Rattle.occ_syntax.specs.declared.scope.Program.{Program}
-use Rattle.occ_syntax.specs.View.{tree}
+use Rattle.occ_prove_steps.specs.occ_syntax.declared.scope.Kind.{Kind}
+use Rattle.occ_prove_steps.specs.occ_syntax.declared.scope.Program.{Program}
+use Rattle.occ_prove_steps.specs.occ_syntax.View.{tree}
 use Rattle.occ_tool_run.proofs.Judging.{Law, accepted_file, names_once, refusal_taken}
 use Rattle.occ_tool_run.specs.declared.accept.Refusal.{Refusal}
 use Rattle.occ_tool_run.specs.declared.accept.Refusal.TheVariants as refusal

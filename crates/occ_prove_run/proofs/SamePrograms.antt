@@ -3,27 +3,27 @@ use Rattle.std.proofs.Common.{◌≡◌, ◌∙◌, ◌↔◌, ◌<◌, ℕ, Boo
 use Rattle.std.proofs.lemmas.Option.{slice_get-get_or}
 use Rattle.std.specs.declared.cmp.Ordering.{Ordering}
 use Rattle.std.specs.declared.cmp.Ordering.TheVariants.{Less, Equal, Greater}
-use Rattle.occ_base.specs.declared.names.Name.{Name}
-use Rattle.occ_base.specs.Names.{IsDistinct}
-use Rattle.occ_behaviour.specs.declared.behaviour.Side.{Side}
-use Rattle.occ_behaviour.specs.declared.behaviour.Side.TheVariants.{First, Second}
-use Rattle.occ_behaviour.specs.declared.behaviour.Verdict.{Verdict}
-use Rattle.occ_behaviour.specs.declared.behaviour.Verdict.TheVariants.{Same, Differ}
-use Rattle.occ_lex_symbols.specs.Symbols.{Extends}
-use Rattle.occ_meaning.specs.Rename.{renamed}
-use Rattle.occ_engine_known.specs.Known.{IsKnownPart, NamesAreBelow}
-use Rattle.occ_engine_written.proofs.Known.{grown}
-use Rattle.occ_lex.specs.Rows.{reading_of}
-use Rattle.occ_lex_symbols.proofs.Interned.{extends_all, extends_same, extends_trans}
-use Rattle.occ_parse.specs.Known.{NamesAreKnown}
-use Rattle.occ_parse_reading.specs.declared.bound.Bound.{Bound}
-use Rattle.occ_parse_reading.specs.declared.bound.Bound.TheVariants as bound
-use Rattle.occ_parse_reading.specs.Reading.{IsRead, names_in}
-use Rattle.occ_parse_renamed.specs.Renamed.{kinds_renamed}
-use Rattle.occ_parse_renamed.specs.Standing.{IsOneForOne}
+use Rattle.occ_tool_run.specs.occ_base.declared.names.Name.{Name}
+use Rattle.occ_tool_run.specs.occ_base.Names.{IsDistinct}
+use Rattle.occ_tool_run.specs.occ_behaviour.declared.behaviour.Side.{Side}
+use Rattle.occ_tool_run.specs.occ_behaviour.declared.behaviour.Side.TheVariants.{First, Second}
+use Rattle.occ_tool_run.specs.occ_behaviour.declared.behaviour.Verdict.{Verdict}
+use Rattle.occ_tool_run.specs.occ_behaviour.declared.behaviour.Verdict.TheVariants.{Same, Differ}
+use Rattle.occ_prove_steps.specs.occ_lex.Symbols.{Extends}
+use Rattle.occ_prove_steps.specs.occ_meaning.Rename.{renamed}
+use Rattle.occ_tool_run.specs.occ_engine_known.Known.{IsKnownPart, NamesAreBelow}
+use Rattle.occ_tool_run.proofs.from_engine_written.Known.{grown}
+use Rattle.occ_prove_steps.specs.occ_lex.Rows.{reading_of}
+use Rattle.occ_prove_steps.proofs.from_lex.Interned.{extends_all, extends_same, extends_trans}
+use Rattle.occ_prove_steps.specs.occ_parse.Known.{NamesAreKnown}
+use Rattle.occ_prove_steps.specs.occ_parse.declared.bound.Bound.{Bound}
+use Rattle.occ_prove_steps.specs.occ_parse.declared.bound.Bound.TheVariants as bound
+use Rattle.occ_prove_steps.specs.occ_parse.Reading.{IsRead, names_in}
+use Rattle.occ_tool_run.specs.occ_renamed.Renamed.{kinds_renamed}
+use Rattle.occ_tool_run.specs.occ_renamed.Standing.{IsOneForOne}
 use Rattle.occ_prove_run.proofs.Agreeing.{part_agrees}
 use Rattle.occ_prove_run.specs.Proofs.{IsSame}
-use Rattle.occ_read_renamed.specs.Readings.{AreRenamed, IsRenumbering, StandIn}
+use Rattle.occ_tool_run.specs.occ_read_renamed.Readings.{AreRenamed, IsRenumbering, StandIn}
 use Rattle.occ_tool_run.proofs.Accepting.{read_kept}
 use Rattle.occ_tool_run.proofs.EitherOrder.{kept_bytes, one_text}
 use Rattle.occ_tool_run.proofs.Judging.{no_name_twice}
@@ -35,13 +35,13 @@ use Rattle.occ_tool_run.specs.Accepts.{IsAccepted, Program, ReadsAs}
 use Rattle.occ_tool_run.specs.Answers.{Compares, Settles, Takes, TakesBoth, Turned, accepted, accepted_behind, apart, compared, refused, refused_behind, unusable, unusable_behind}
 use Rattle.occ_tool_run.specs.Files.{order_of, short_bytes}
 use Rattle.occ_tool_run.specs.Stored.{seen}
-use Rattle.occ_syntax.specs.declared.scope.Kind.{Kind}
-use Rattle.occ_syntax.specs.declared.scope.Program.{Program as Stored}
-use Rattle.occ_syntax.specs.Same.{SAME}
-use Rattle.occ_syntax.specs.Scopes.{environment}
-use Rattle.occ_syntax.specs.Tree.{Tree}
-use Rattle.occ_syntax.specs.Types.{scope_kept, types_kept}
-use Rattle.occ_syntax.specs.View.{tree}
+use Rattle.occ_prove_steps.specs.occ_syntax.declared.scope.Kind.{Kind}
+use Rattle.occ_prove_steps.specs.occ_syntax.declared.scope.Program.{Program as Stored}
+use Rattle.occ_prove_steps.specs.occ_syntax.Same.{SAME}
+use Rattle.occ_prove_steps.specs.occ_syntax.Scopes.{environment}
+use Rattle.occ_prove_steps.specs.occ_syntax.Tree.{Tree}
+use Rattle.occ_prove_steps.specs.occ_syntax.Types.{scope_kept, types_kept}
+use Rattle.occ_prove_steps.specs.occ_syntax.View.{tree}
 
 abbrev Table : Type 0
 Table = List (List ℕ)

@@ -3,22 +3,22 @@ use Rattle.std.proofs.Common.{◌≡◌, ◌∙◌, ◌≤◌, ◌<◌, ◌++◌
 use Rattle.std.specs.Prelude.{IfNone, IfSome, OnOk}
 use Rattle.std.proofs.lemmas.Bool.{false≢true}
 use Rattle.std.specs.List.{AllByRecursion}
-use Rattle.occ_base.specs.declared.memory.Memory.{Memory}
-use Rattle.occ_base.specs.declared.names.Name.{Name}
-use Rattle.occ_derive.specs.Derived.{IsDerivation}
-use Rattle.occ_derive.specs.declared.fault.DeriveFault.{DeriveFault}
-use Rattle.occ_derive_steps.specs.Steps.{Derivable}
-use Rattle.occ_engine.specs.declared.outcome.Outcome.{Outcome}
-use Rattle.occ_engine.specs.Moved.{moves_of}
-use Rattle.occ_engine.specs.Outcomes.{IsTabled}
-use Rattle.occ_fresh.proofs.Growing.{grows_not, grows_on}
-use Rattle.occ_fresh.specs.Growth.{GrowsByNames}
-use Rattle.occ_nform_program.specs.Tabled.{IsTableOf}
-use Rattle.occ_nform_table.specs.declared.table.Table.{Table}
-use Rattle.occ_nform_table.specs.Behaviours.{Stands}
-use Rattle.occ_nform_table.specs.Normal.{Parts}
-use Rattle.occ_nform_table.specs.Tables.{IsNormal}
-use Rattle.occ_print.specs.Spelled.{program_text}
+use Rattle.occ_tool_run.specs.occ_base.declared.memory.Memory.{Memory}
+use Rattle.occ_tool_run.specs.occ_base.declared.names.Name.{Name}
+use Rattle.occ_tool_run.specs.occ_derive.Derived.{IsDerivation}
+use Rattle.occ_tool_run.specs.occ_derive.declared.fault.DeriveFault.{DeriveFault}
+use Rattle.occ_prove_steps.specs.occ_derive_moves.Steps.{Derivable}
+use Rattle.occ_prove_steps.specs.occ_engine.declared.outcome.Outcome.{Outcome}
+use Rattle.occ_prove_steps.specs.occ_engine.Moved.{moves_of}
+use Rattle.occ_prove_steps.specs.occ_engine.Outcomes.{IsTabled}
+use Rattle.occ_prove_steps.proofs.from_lex.Growing.{grows_not, grows_on}
+use Rattle.occ_prove_steps.specs.occ_lex.Growth.{GrowsByNames}
+use Rattle.occ_tool_run.specs.occ_nform.Tabled.{IsTableOf}
+use Rattle.occ_tool_run.specs.occ_nform_table.declared.table.Table.{Table}
+use Rattle.occ_tool_run.specs.occ_nform_table.Behaviours.{Stands}
+use Rattle.occ_tool_run.specs.occ_nform_table.Normal.{Parts}
+use Rattle.occ_tool_run.specs.occ_nform_table.Tables.{IsNormal}
+use Rattle.occ_prove_steps.specs.occ_print.Spelled.{program_text}
 use Rattle.occ_prove_run.specs.declared.pair.Pair.{Pair}
 use Rattle.occ_prove_run.specs.declared.proof.Proof.{Proof}
 use Rattle.occ_prove_run.specs.declared.proof.Proof.TheVariants.{Told}
@@ -28,18 +28,18 @@ use Rattle.occ_prove_run.specs.Pairs.{AreApartAll, IsPairOf}
 use Rattle.occ_prove_run.specs.Paths.{HasShortPath}
 use Rattle.occ_prove_run.specs.Proofs.{IsProved, IsSame, Proves, as_same, by_laws, proved}
 use Rattle.occ_prove_steps.specs.Joined.{AreWritable, HaveOneHeader, IsProof}
-use Rattle.occ_script_write.specs.declared.writing.Done.{Done}
-use Rattle.occ_script_write.specs.Text.{line, steps_text, text_of_program}
-use Rattle.occ_script_write_back.specs.Said.{IsSaid}
-use Rattle.occ_syntax.specs.Counts.{controls}
-use Rattle.occ_syntax.specs.declared.scope.Kind.{Kind}
-use Rattle.occ_syntax.specs.declared.scope.Program.{Program}
-use Rattle.occ_syntax.specs.Same.{SAME}
-use Rattle.occ_syntax.specs.Scopes.{environment}
-use Rattle.occ_syntax.specs.Tree.{Tree}
-use Rattle.occ_syntax.specs.Types.{scope_kept}
-use Rattle.occ_syntax.specs.View.{tree}
-use Rattle.occ_target.specs.Program.{normal_body}
+use Rattle.occ_prove_steps.specs.occ_script_write.declared.writing.Done.{Done}
+use Rattle.occ_prove_steps.specs.occ_script_write.Text.{line, steps_text, text_of_program}
+use Rattle.occ_prove_steps.specs.occ_script_back.Said.{IsSaid}
+use Rattle.occ_prove_steps.specs.occ_syntax.Counts.{controls}
+use Rattle.occ_prove_steps.specs.occ_syntax.declared.scope.Kind.{Kind}
+use Rattle.occ_prove_steps.specs.occ_syntax.declared.scope.Program.{Program}
+use Rattle.occ_prove_steps.specs.occ_syntax.Same.{SAME}
+use Rattle.occ_prove_steps.specs.occ_syntax.Scopes.{environment}
+use Rattle.occ_prove_steps.specs.occ_syntax.Tree.{Tree}
+use Rattle.occ_prove_steps.specs.occ_syntax.Types.{scope_kept}
+use Rattle.occ_prove_steps.specs.occ_syntax.View.{tree}
+use Rattle.occ_prove_steps.specs.occ_target.Program.{normal_body}
 use Rattle.occ_tool_run.proofs.Deriving.{normal_body_of}
 use Rattle.occ_tool_run.proofs.Judging.{accepted_file}
 use Rattle.occ_tool_run.specs.declared.answer.Answer.{Answer}
@@ -53,7 +53,7 @@ use Rattle.occ_tool_run.specs.Files.{IsLoaded, IsShort as IsShortFile, most_byte
 use Rattle.occ_tool_run.specs.Judged.{IsAcceptedFrom}
 use Rattle.occ_tool_run.specs.Stored.{seen}
 use Rattle.occ_tool_run.specs.Transforms.{IsScriptOf}
-use Rattle.occ_usage.specs.Accepted.{IsAccepted as IsAcceptedProgram}
+use Rattle.occ_tool_run.specs.occ_usage.Accepted.{IsAccepted as IsAcceptedProgram}
 
 -- what is found, or isn't
 pub some_of : {X : Type 0} (o : Option X) (x : X) (P : X → Type 0) → o ≡ Some x → IfSome o P → P x

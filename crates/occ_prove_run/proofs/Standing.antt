@@ -1,16 +1,16 @@
 -- A table that stands for a program stands for each that means the same.
 use Rattle.std.proofs.Common.{◌≡◌, ◌↔◌, ℕ, true, List, get_or}
 use Rattle.std.proofs.lemmas.Bool.{and_parts}
-use Rattle.occ_base.specs.declared.names.Name.{Name}
-use Rattle.occ_behaviour.specs.States.{is_state}
-use Rattle.occ_run.proofs.Holding.{holds_state}
-use Rattle.occ_nform_table.specs.Behaviours.{Stands}
-use Rattle.occ_nform_table.specs.declared.table.TableRow.{TableRow}
-use Rattle.occ_syntax.specs.declared.scope.Kind.{Kind}
-use Rattle.occ_syntax.specs.Same.{SAME}
-use Rattle.occ_syntax.specs.Scopes.{EventSet, Trace, allows, environment, in_scope, values}
-use Rattle.occ_syntax.specs.Tree.{Tree}
-use Rattle.occ_syntax.specs.Types.{scope_kept}
+use Rattle.occ_tool_run.specs.occ_base.declared.names.Name.{Name}
+use Rattle.occ_tool_run.specs.occ_behaviour.States.{is_state}
+use Rattle.occ_tool_run.proofs.from_run.Holding.{holds_state}
+use Rattle.occ_tool_run.specs.occ_nform_table.Behaviours.{Stands}
+use Rattle.occ_tool_run.specs.occ_nform_table.declared.table.TableRow.{TableRow}
+use Rattle.occ_prove_steps.specs.occ_syntax.declared.scope.Kind.{Kind}
+use Rattle.occ_prove_steps.specs.occ_syntax.Same.{SAME}
+use Rattle.occ_prove_steps.specs.occ_syntax.Scopes.{EventSet, Trace, allows, environment, in_scope, values}
+use Rattle.occ_prove_steps.specs.occ_syntax.Tree.{Tree}
+use Rattle.occ_prove_steps.specs.occ_syntax.Types.{scope_kept}
 
 -- the table of a program is that of another that means the same
 pub stands_for_same : (params : List (Name × Kind)) (rows : List TableRow) (states : List ℕ) (p q : Tree) → scope_kept params ≡ true

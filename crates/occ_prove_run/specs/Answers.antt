@@ -1,10 +1,10 @@
 -- What a command line is answered with, and what a call leaves.
 use Rattle.std.specs.Prelude.{ℕ, ◌≡◌, ◌≢◌, List, Option, None, Some}
-use Rattle.occ_desk.specs.Desk.{with_more, IsCutShort}
+use Rattle.occ_tool_run.specs.occ_desk.Desk.{with_more, IsCutShort}
 use Rattle.occ_prove_run.specs.declared.proof.Proof.{Proof}
 use Rattle.occ_prove_run.specs.declared.proof.Proof.TheVariants.{Usage, Told, Long}
 use Rattle.occ_prove_run.specs.Proofs.{Proves, status_of_proof, text_of_proof}
-use Rattle.occ_tool_words.specs.Pairs.{file_pair}
+use Rattle.occ_tool_run.specs.occ_tool_words.Pairs.{file_pair}
 use Rattle.occ_tool_run.specs.declared.answer.Answer.TheVariants as answer
 use Rattle.occ_tool_run.specs.Files.{Files}
 use Rattle.occ_tool_run.specs.Texts.{IsPrintable}

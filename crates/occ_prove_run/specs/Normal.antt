@@ -1,12 +1,12 @@
 -- Normal programs that are too long to be derived, and others.
 use Rattle.std.specs.Prelude.{ℕ, ◌≤◌, ◌<◌, List}
-use Rattle.occ_derive_check.specs.Derivations.{IsDerived}
-use Rattle.occ_engine.specs.declared.outcome.Outcome.{Outcome}
-use Rattle.occ_fresh.specs.Growth.{GrowsByNames}
-use Rattle.occ_syntax.specs.Counts.{controls}
-use Rattle.occ_syntax.specs.declared.scope.Program.{Program}
-use Rattle.occ_syntax.specs.Tree.{Tree}
-use Rattle.occ_syntax.specs.View.{tree}
+use Rattle.occ_prove_steps.specs.occ_derive_search.Derivations.{IsDerived}
+use Rattle.occ_prove_steps.specs.occ_engine.declared.outcome.Outcome.{Outcome}
+use Rattle.occ_prove_steps.specs.occ_lex.Growth.{GrowsByNames}
+use Rattle.occ_prove_steps.specs.occ_syntax.Counts.{controls}
+use Rattle.occ_prove_steps.specs.occ_syntax.declared.scope.Program.{Program}
+use Rattle.occ_prove_steps.specs.occ_syntax.Tree.{Tree}
+use Rattle.occ_prove_steps.specs.occ_syntax.View.{tree}
 use Rattle.occ_tool_run.specs.Derived.{IsNormalBody}
 
 -- The normal program has more than 4,096 controls. Its names are those of a table that has grown by names of the language.

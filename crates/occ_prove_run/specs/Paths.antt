@@ -1,6 +1,6 @@
 -- The paths of steps.
-use Rattle.occ_script_write_back.specs.Said.{IsShortPath}
-use Rattle.occ_script_write.specs.declared.writing.Done.{Done}
+use Rattle.occ_prove_steps.specs.occ_script_back.Said.{IsShortPath}
+use Rattle.occ_prove_steps.specs.occ_script_write.declared.writing.Done.{Done}
 
 -- the numbers of a step's path have 32 bits
 abbrev pub HasShortPath : Done → Type 0

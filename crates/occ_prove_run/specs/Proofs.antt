@@ -1,17 +1,17 @@
 -- What two files are answered with: a script from the one program to the other, or what `same` says of them.
 use Rattle.std.specs.Prelude.{ℕ, ◌≡◌, List, [], Option, codes}
-use Rattle.occ_behaviour.specs.declared.behaviour.Side.TheVariants.{First, Second}
-use Rattle.occ_behaviour.specs.declared.behaviour.Verdict.TheVariants.{Same}
-use Rattle.occ_derive_steps.specs.Steps.{Steps}
-use Rattle.occ_engine.specs.Moved.{moves_of}
+use Rattle.occ_tool_run.specs.occ_behaviour.declared.behaviour.Side.TheVariants.{First, Second}
+use Rattle.occ_tool_run.specs.occ_behaviour.declared.behaviour.Verdict.TheVariants.{Same}
+use Rattle.occ_prove_steps.specs.occ_derive_moves.Steps.{Steps}
+use Rattle.occ_prove_steps.specs.occ_engine.Moved.{moves_of}
 use Rattle.occ_prove_run.specs.declared.proof.Proof.{Proof}
 use Rattle.occ_prove_run.specs.declared.proof.Proof.TheVariants.{Usage, Told, Long}
 use Rattle.occ_prove_run.specs.Normal.{IsLong, IsShort}
 use Rattle.occ_prove_run.specs.Words.{usage_text}
 use Rattle.occ_prove_steps.specs.Joined.{HaveOneHeader}
-use Rattle.occ_script_write.specs.declared.writing.Done.{Done}
-use Rattle.occ_syntax.specs.declared.scope.Program.{Program as Stored}
-use Rattle.occ_syntax.specs.View.{tree}
+use Rattle.occ_prove_steps.specs.occ_script_write.declared.writing.Done.{Done}
+use Rattle.occ_prove_steps.specs.occ_syntax.declared.scope.Program.{Program as Stored}
+use Rattle.occ_prove_steps.specs.occ_syntax.View.{tree}
 use Rattle.occ_tool_run.specs.declared.answer.Answer.{Answer}
 use Rattle.occ_tool_run.specs.declared.answer.Answer.TheVariants.{Compared}
 use Rattle.occ_tool_run.specs.declared.judge.Question.TheVariants.{WhetherSame}

@@ -2,23 +2,21 @@
 
 ghost use Rattle.std.specs.Prelude.{◌≡◌, ℕ, List, [], Option};
 ghost use Rattle.occ_prove_run.specs.Proofs.{IsSame};
-ghost use Rattle.occ_syntax.specs.declared.scope.Program.{Program};
-ghost use Rattle.occ_syntax.specs.Same.{SAME};
-ghost use Rattle.occ_syntax.specs.Scopes.{environment};
-ghost use Rattle.occ_syntax.specs.View.{tree};
+ghost use Rattle.occ_prove_steps.specs.occ_syntax.declared.scope.Program.{Program};
+ghost use Rattle.occ_prove_steps.specs.occ_syntax.Same.{SAME};
+ghost use Rattle.occ_prove_steps.specs.occ_syntax.Scopes.{environment};
+ghost use Rattle.occ_prove_steps.specs.occ_syntax.View.{tree};
 ghost use Rattle.occ_tool_run.specs.Accepts.{IsAccepted};
 ghost use Rattle.occ_tool_run.specs.Answers.{Settles};
 ghost use Rattle.occ_tool_run.specs.declared.answer.Answer.{Answer};
 ghost use Rattle.occ_tool_run.specs.declared.judge.Question.TheVariants.{WhetherSame};
 ghost use Rattle.occ_tool_run.specs.Stored.{seen};
 
-use occ_engine_known::kept_parts_have_known_names;
-use occ_engine_written::read_programs_declare_known_names;
-use occ_nform_params::parameters_have_names;
-use occ_nform_renamed::renamed_programs_mean_the_same;
-use occ_parse_reading::one_reading;
-use occ_read_renamed::readings_are_renamed;
-use occ_script_again::programs_read_again;
+use occ_prove_steps::one_reading;
+use occ_tool_run::{
+    kept_parts_have_known_names, parameters_have_names, programs_read_again,
+    read_programs_declare_known_names, readings_are_renamed, renamed_programs_mean_the_same,
+};
 
 /// Two files that are answered with SAME hold programs that mean the same. The first one is read first here, whichever was read first for
 /// the answer: the names may have had other numbers there.

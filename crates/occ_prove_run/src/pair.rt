@@ -4,12 +4,10 @@ ghost use Rattle.std.specs.Prelude.{◌≡◌, ◌≢◌, None, IfNone, IfOk, If
 ghost use Rattle.occ_prove_run.specs.Pairs.{AreApartAll, IsPairOf};
 ghost use Rattle.occ_tool_run.specs.Files.{IsShort, most_bytes};
 
-use occ_base::{Memory, Names};
-use occ_nform_params::parameters_have_names;
 use occ_prove_steps::have_one_header;
 use occ_tool_run::accept::{Refusal, accept, accept_first};
 use occ_tool_run::load::Loaded;
-use occ_usage::Accepted;
+use occ_tool_run::{Accepted, Memory, Names, parameters_have_names};
 use std::alloc::Global;
 
 /// Two accepted programs of one header, and the names of both.

@@ -3,8 +3,8 @@
 ghost use Rattle.std.specs.List.{AllByRecursion};
 ghost use Rattle.occ_prove_run.specs.Paths.{HasShortPath};
 
-use occ_derive::read_path;
-use occ_script_write::Done;
+use occ_prove_steps::Done;
+use occ_tool_run::read_path;
 
 /// Reads the numbers of the paths of steps, so that it is known that each has 32 bits.
 pub(crate) fn read_paths(steps: &[Done])

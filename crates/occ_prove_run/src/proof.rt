@@ -4,10 +4,9 @@ ghost use Rattle.std.specs.Prelude.{◌≡◌, ◌≤◌, ◌⊎◌, ◌↔◌, 
 ghost use Rattle.occ_prove_run.specs.Answers.{IsSayable};
 ghost use Rattle.occ_prove_run.specs.Proofs.{status_of_proof, text_of_proof};
 
-use occ_base::Memory;
-use occ_behaviour::Side;
 use occ_tool_run::answer::{self, Answer};
 use occ_tool_run::refusal::refusal_with;
+use occ_tool_run::{Memory, Side};
 use std::alloc::Global;
 
 /// What a command line is answered with, where all files could be read and there was enough memory.

@@ -3,18 +3,18 @@
 
 ghost use Rattle.std.specs.Prelude.{◌≡◌, ◌≢◌, ◌↔◌, ℕ, List, Option, Err, IfOk, IsTrue, OnOk};
 ghost use Rattle.std.specs.List.{AllByRecursion};
-ghost use Rattle.occ_derive.specs.Derived.{CanBeWritten};
-ghost use Rattle.occ_fresh.specs.Growth.{GrowsByNames};
-ghost use Rattle.occ_print.specs.Known.{ProgramIsKnown};
+ghost use Rattle.occ_tool_run.specs.occ_derive.Derived.{CanBeWritten};
+ghost use Rattle.occ_prove_steps.specs.occ_lex.Growth.{GrowsByNames};
+ghost use Rattle.occ_prove_steps.specs.occ_print.Known.{ProgramIsKnown};
 ghost use Rattle.occ_prove_run.specs.Answers.{IsSayable};
 ghost use Rattle.occ_prove_run.specs.Normal.{IsLong, IsToNormal};
 ghost use Rattle.occ_prove_run.specs.Pairs.{AreReady};
 ghost use Rattle.occ_prove_run.specs.Proofs.{IsProved, IsSame, Proves};
 ghost use Rattle.occ_prove_steps.specs.Joined.{AreWritable, IsProof};
-ghost use Rattle.occ_script_write_back.specs.Said.{IsSaid};
-ghost use Rattle.occ_syntax.specs.Same.{SAME};
-ghost use Rattle.occ_syntax.specs.Scopes.{environment};
-ghost use Rattle.occ_syntax.specs.View.{tree};
+ghost use Rattle.occ_prove_steps.specs.occ_script_back.Said.{IsSaid};
+ghost use Rattle.occ_prove_steps.specs.occ_syntax.Same.{SAME};
+ghost use Rattle.occ_prove_steps.specs.occ_syntax.Scopes.{environment};
+ghost use Rattle.occ_prove_steps.specs.occ_syntax.View.{tree};
 ghost use Rattle.occ_tool_run.specs.Files.{IsLoaded, IsShort, most_bytes};
 ghost use Rattle.occ_tool_run.specs.Judged.{HasInterface};
 ghost use Rattle.occ_tool_run.specs.Texts.{IsPrintable};
@@ -24,19 +24,15 @@ use crate::law::same_files_mean_the_same;
 use crate::pair::{Pair, read_pair};
 use crate::path::read_paths;
 use crate::proof::Proof;
-use occ_base::{Memory, Names};
-use occ_behaviour::Verdict;
-use occ_derive::{DeriveFault, derive, derive_to};
-use occ_derive_found::normal_programs_are_derivable;
-use occ_engine::{Dones, Outcome};
-use occ_nform_program::normal_table;
-use occ_print_known::parts_are_known_up_to_their_greatest_name;
-use occ_prove_steps::joined;
+use occ_prove_steps::{Dones, Outcome, joined, parts_are_known_up_to_their_greatest_name};
 use occ_tool_run::answer::Answer;
 use occ_tool_run::judge::{Question, judge};
 use occ_tool_run::load::Loaded;
 use occ_tool_run::transforming::script;
-use occ_usage::Accepted;
+use occ_tool_run::{
+    Accepted, DeriveFault, Memory, Names, Verdict, derive, derive_to,
+    normal_programs_are_derivable, normal_table,
+};
 use std::alloc::Global;
 
 /// Whether it is the answer that two programs mean the same.

@@ -4,13 +4,12 @@ ghost use Rattle.std.specs.Prelude.{◌≡◌, ◌≢◌, ◌≤◌, ◌<◌, �
 ghost use Rattle.occ_prove_run.specs.Answers.{Answers, AnswersNames, IsSayable, Ran};
 ghost use Rattle.occ_tool_run.specs.Files.{AsksFor, CountsStop};
 ghost use Rattle.occ_tool_run.specs.Ran.{Asked};
-ghost use Rattle.occ_tool_words.specs.Pairs.{file_pair as words_of, names_in};
+ghost use Rattle.occ_tool_run.specs.occ_tool_words.Pairs.{file_pair as words_of, names_in};
 
 use crate::proof::{Proof, status, text};
 use crate::proving::proof_of;
-use occ_desk::{Desk, send};
 use occ_tool_run::load::{MOST_BYTES, Stop, load_both};
-use occ_tool_words::file_pair;
+use occ_tool_run::{Desk, file_pair, send};
 use std::alloc::Global;
 
 /// Runs the command: the words of a command line, the program's own name first, over a desk, to which the script is written that

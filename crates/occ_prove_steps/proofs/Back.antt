@@ -1,11 +1,11 @@
 -- A part that is put back.
 use Rattle.std.proofs.Common.{◌≡◌, ◌∙◌, ℕ, zero, suc, List, [], ◌∷◌, ◌++◌, Option, None, Some, refl, sym, ap, subst}
 use Rattle.std.specs.Option.{option_and_then, option_map, unwrap_or}
-use Rattle.occ_base.specs.declared.names.Name.{Name}
-use Rattle.occ_meaning.proofs.Facts.{none_not_some, some_is}
-use Rattle.occ_meaning.proofs.Places.{put_there}
-use Rattle.occ_meaning.specs.Context.{branch_at, case_at, child, only_at, part_at, put, tree_at, with_branch, with_case, with_child, with_only, with_tree}
-use Rattle.occ_script_path.specs.Places.{declared_by, scope_list}
+use Rattle.occ_script_back.specs.occ_base.declared.names.Name.{Name}
+use Rattle.occ_script_back.proofs.from_meaning.Facts.{none_not_some, some_is}
+use Rattle.occ_script_back.proofs.from_meaning.Places.{put_there}
+use Rattle.occ_script_back.specs.occ_meaning.Context.{branch_at, case_at, child, only_at, part_at, put, tree_at, with_branch, with_case, with_child, with_only, with_tree}
+use Rattle.occ_script_back.specs.occ_script_lines.Places.{declared_by, scope_list}
 use Rattle.occ_syntax.specs.declared.scope.Kind.{Kind}
 use Rattle.occ_syntax.specs.Tree.{Branches, Cases, Tree, Trees, alt, and_branch, and_case, and_tree, assign, connect, declare, no_branch, no_case, no_tree, par, receive, select, send, seq, skip, stop}
 

@@ -1,19 +1,19 @@
 -- Steps lead back.
 use Rattle.std.proofs.Common.{◌≡◌, ◌∙◌, ℕ, List, [], ◌∷◌, sym, ap, subst, reverse}
 use Rattle.std.proofs.lemmas.Grind.{reverse_onto}
-use Rattle.occ_base.specs.declared.names.Name.{Name}
-use Rattle.occ_derive_steps.proofs.Steps.{go_on}
-use Rattle.occ_derive_steps.specs.Steps.{IsStep, Steps, and_step, no_step}
-use Rattle.occ_engine_rules.specs.Moves.{Move}
-use Rattle.occ_meaning.proofs.Facts.{some_is}
-use Rattle.occ_meaning.proofs.Places.{put_there}
-use Rattle.occ_meaning.specs.Context.{part_at, put}
+use Rattle.occ_script_back.specs.occ_base.declared.names.Name.{Name}
+use Rattle.occ_derive_search.proofs.from_derive_moves.Steps.{go_on}
+use Rattle.occ_derive_search.specs.occ_derive_moves.Steps.{IsStep, Steps, and_step, no_step}
+use Rattle.occ_script_back.specs.occ_replay_rules.Moves.{Move}
+use Rattle.occ_script_back.proofs.from_meaning.Facts.{some_is}
+use Rattle.occ_script_back.proofs.from_meaning.Places.{put_there}
+use Rattle.occ_script_back.specs.occ_meaning.Context.{part_at, put}
 use Rattle.occ_prove_steps.proofs.Back.{put_back, scope_in}
 use Rattle.occ_prove_steps.specs.Undone.{AreUndone, IsUndone, opposite}
-use Rattle.occ_replay_rules.specs.Steps.{Joins}
-use Rattle.occ_script_path.specs.declared.direction.Direction.{Direction}
-use Rattle.occ_script_path.specs.declared.direction.Direction.TheVariants as direction
-use Rattle.occ_script_path.specs.Places.{scope_list}
+use Rattle.occ_script_back.specs.occ_replay_rules.Steps.{Joins}
+use Rattle.occ_script_back.specs.occ_script_lines.declared.direction.Direction.{Direction}
+use Rattle.occ_script_back.specs.occ_script_lines.declared.direction.Direction.TheVariants as direction
+use Rattle.occ_script_back.specs.occ_script_lines.Places.{scope_list}
 use Rattle.occ_syntax.specs.declared.scope.Kind.{Kind}
 use Rattle.occ_syntax.specs.Scopes.{environment}
 use Rattle.occ_syntax.specs.Tree.{Tree}

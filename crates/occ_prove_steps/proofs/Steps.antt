@@ -3,23 +3,23 @@ use Rattle.std.proofs.Common.{◌≡◌, ◌∙◌, ℕ, ◌≤◌, List, [], �
 use Rattle.std.proofs.lemmas.Grind.{reverse_onto}
 use Rattle.std.proofs.lemmas.List.{map-append}
 use Rattle.std.specs.List.{AllByRecursion}
-use Rattle.occ_base.specs.declared.names.Name.{Name}
-use Rattle.occ_derive_check.specs.Derivations.{IsDerived}
-use Rattle.occ_derive_steps.proofs.Steps.{begun}
-use Rattle.occ_derive_steps.specs.Steps.{Steps}
-use Rattle.occ_engine.specs.declared.outcome.Outcome.{Outcome}
-use Rattle.occ_engine.specs.Moved.{move_of, moves_of}
-use Rattle.occ_engine.specs.Outcomes.{IsTabled}
-use Rattle.occ_engine_rules.specs.Moves.{Move}
-use Rattle.occ_meaning.proofs.Facts.{none_not_some, some_is}
-use Rattle.occ_meaning.specs.Context.{child, part_at, put}
-use Rattle.occ_print.proofs.Lists.{all-append}
-use Rattle.occ_print.specs.Known.{PartIsKnown}
+use Rattle.occ_script_back.specs.occ_base.declared.names.Name.{Name}
+use Rattle.occ_derive_search.specs.Derivations.{IsDerived}
+use Rattle.occ_derive_search.proofs.from_derive_moves.Steps.{begun}
+use Rattle.occ_derive_search.specs.occ_derive_moves.Steps.{Steps}
+use Rattle.occ_derive_search.specs.occ_engine.declared.outcome.Outcome.{Outcome}
+use Rattle.occ_derive_search.specs.occ_engine.Moved.{move_of, moves_of}
+use Rattle.occ_derive_search.specs.occ_engine.Outcomes.{IsTabled}
+use Rattle.occ_script_back.specs.occ_replay_rules.Moves.{Move}
+use Rattle.occ_script_back.proofs.from_meaning.Facts.{none_not_some, some_is}
+use Rattle.occ_script_back.specs.occ_meaning.Context.{child, part_at, put}
+use Rattle.occ_script_back.proofs.from_print.Lists.{all-append}
+use Rattle.occ_script_back.specs.occ_print.Known.{PartIsKnown}
 use Rattle.occ_prove_steps.specs.Joined.{AreWritable, HaveOneHeader, IsProof}
 use Rattle.occ_prove_steps.specs.Undone.{AreUndone, IsUndone}
-use Rattle.occ_script_joined.proofs.Known.{child_known, put_known}
-use Rattle.occ_script_write.specs.declared.writing.Done.{Done}
-use Rattle.occ_script_write.specs.Text.{IsWritable}
+use Rattle.occ_script_back.proofs.Known.{child_known, put_known}
+use Rattle.occ_script_back.specs.occ_script_write.declared.writing.Done.{Done}
+use Rattle.occ_script_back.specs.occ_script_write.Text.{IsWritable}
 use Rattle.occ_syntax.specs.declared.scope.Kind.{Kind}
 use Rattle.occ_syntax.specs.declared.scope.Program.{Program}
 use Rattle.occ_syntax.specs.Scopes.{environment}

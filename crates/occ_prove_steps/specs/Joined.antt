@@ -1,9 +1,9 @@
 -- Steps from one program to another.
 use Rattle.std.specs.Prelude.{ℕ, ◌≡◌, List}
 use Rattle.std.specs.List.{AllByRecursion}
-use Rattle.occ_derive_check.specs.Derivations.{IsDerived}
-use Rattle.occ_script_write.specs.declared.writing.Done.{Done}
-use Rattle.occ_script_write.specs.Text.{IsWritable}
+use Rattle.occ_derive_search.specs.Derivations.{IsDerived}
+use Rattle.occ_script_back.specs.occ_script_write.declared.writing.Done.{Done}
+use Rattle.occ_script_back.specs.occ_script_write.Text.{IsWritable}
 use Rattle.occ_syntax.specs.declared.scope.Program.{Program}
 
 -- one name and the same parameters

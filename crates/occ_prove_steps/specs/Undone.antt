@@ -1,9 +1,9 @@
 -- Moves that are undone.
 use Rattle.std.specs.Prelude.{◌≡◌, List, [], ◌∷◌, Some}
-use Rattle.occ_engine_rules.specs.Moves.{Move}
-use Rattle.occ_meaning.specs.Context.{part_at, put}
-use Rattle.occ_script_path.specs.declared.direction.Direction.{Direction}
-use Rattle.occ_script_path.specs.declared.direction.Direction.TheVariants as direction
+use Rattle.occ_script_back.specs.occ_replay_rules.Moves.{Move}
+use Rattle.occ_script_back.specs.occ_meaning.Context.{part_at, put}
+use Rattle.occ_script_back.specs.occ_script_lines.declared.direction.Direction.{Direction}
+use Rattle.occ_script_back.specs.occ_script_lines.declared.direction.Direction.TheVariants as direction
 use Rattle.occ_syntax.specs.Tree.{Tree}
 
 abbrev pub opposite : Direction → Direction

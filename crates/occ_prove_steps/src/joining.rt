@@ -1,19 +1,16 @@
 //! Steps from one accepted program to another.
 
 ghost use Rattle.std.specs.Prelude.{◌≡◌, ◌↔◌, ◌++◌, ℕ, List, reverse, IfOk, IsTrue};
-ghost use Rattle.occ_derive_check.specs.Derivations.{IsDerived};
-ghost use Rattle.occ_print.specs.Known.{ProgramIsKnown};
+ghost use Rattle.occ_derive_search.specs.Derivations.{IsDerived};
+ghost use Rattle.occ_script_back.specs.occ_print.Known.{ProgramIsKnown};
 ghost use Rattle.occ_prove_steps.specs.Joined.{AreWritable, HaveOneHeader, IsProof};
 ghost use Rattle.occ_syntax.specs.View.{tree};
 
 use crate::laws::undone_steps_lead_back;
 use crate::returning::undone;
-use occ_base::{Memory, Name};
-use occ_derive_steps::steps_go_on;
-use occ_engine::{Dones, Outcome};
-use occ_script_write::Done;
+use occ_derive_search::{Dones, Outcome, steps_go_on};
+use occ_script_back::{Accepted, Done, Memory, Name};
 use occ_syntax::{Kind, Program};
-use occ_usage::Accepted;
 use std::alloc::Global;
 
 fn is_same_parameter(left: (Name, Kind), right: (Name, Kind)) -> bool

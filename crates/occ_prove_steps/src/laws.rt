@@ -1,9 +1,9 @@
 //! Laws of steps: they lead back.
 
 ghost use Rattle.std.specs.Prelude.{List, reverse};
-ghost use Rattle.occ_base.specs.declared.names.Name.{Name};
-ghost use Rattle.occ_derive_steps.specs.Steps.{Steps};
-ghost use Rattle.occ_engine_rules.specs.Moves.{Move};
+ghost use Rattle.occ_script_back.specs.occ_base.declared.names.Name.{Name};
+ghost use Rattle.occ_derive_search.specs.occ_derive_moves.Steps.{Steps};
+ghost use Rattle.occ_script_back.specs.occ_replay_rules.Moves.{Move};
 ghost use Rattle.occ_prove_steps.specs.Undone.{AreUndone};
 ghost use Rattle.occ_syntax.specs.Scopes.{environment};
 ghost use Rattle.occ_syntax.specs.Tree.{Tree};

@@ -1,15 +1,13 @@
 //! Steps undone.
 
 ghost use Rattle.std.specs.Prelude.{◌≡◌, IfOk};
-ghost use Rattle.occ_derive_check.specs.Derivations.{IsDerived};
-ghost use Rattle.occ_engine.specs.Moved.{moves_of};
+ghost use Rattle.occ_derive_search.specs.Derivations.{IsDerived};
+ghost use Rattle.occ_derive_search.specs.occ_engine.Moved.{moves_of};
 ghost use Rattle.occ_prove_steps.specs.Undone.{AreUndone, opposite as opposite_of};
 ghost use Rattle.occ_syntax.specs.View.{tree};
 
-use occ_base::Memory;
-use occ_engine::Outcome;
-use occ_script_path::{Direction, replace};
-use occ_script_write::Done;
+use occ_derive_search::Outcome;
+use occ_script_back::{Direction, Done, Memory, replace};
 use occ_syntax::Program;
 use std::alloc::Global;
 

@@ -2,27 +2,27 @@
 use Rattle.std.proofs.Common.{◌≡◌, ℕ, ◌+◌, ◌<◌, Bool, false, nat_lt, ◌&&◌, if◌then◌else◌, List, [], ◌∷◌, ◌++◌, map, length, Option, Some, None, refl, sym, ap, ap₂, subst, ◌∙◌, arith}
 use Rattle.std.specs.List.{AllByRecursion}
 use Rattle.std.proofs.lemmas.List.{map-append}
-use Rattle.occ_lex.specs.declared.fault.LineFault.{LineFault}
-use Rattle.occ_lex.specs.Rows.{reading_of}
-use Rattle.occ_lex_symbols.specs.declared.symbol.Row.{Row}
-use Rattle.occ_lex_symbols.specs.declared.symbol.Symbol.{Symbol}
-use Rattle.occ_lex_symbols.specs.declared.symbol.Symbol.TheVariants as symbol
-use Rattle.occ_lex_symbols.specs.Symbols.{AreKnown, Extends, IsKnown}
-use Rattle.occ_lex_symbols.proofs.Interned.{longer, rows_known}
-use Rattle.occ_parse.proofs.Knowing.{stopped_keeps}
-use Rattle.occ_base.specs.Names.{IsDistinct}
-use Rattle.occ_parse_layout.proofs.Once.{one_forest_of}
-use Rattle.occ_parse_reading.specs.declared.bound.Bound.{Bound}
-use Rattle.occ_parse_reading.specs.declared.fault.ParseFault.{ParseFault}
-use Rattle.occ_parse_reading.specs.declared.fault.Which.{Which}
-use Rattle.occ_parse_reading.specs.declared.fault.Which.TheVariants as which
-use Rattle.occ_parse_reading.specs.Limits.{counted_from, is_limited, line_limit, opens, stop_at, stopped, weight}
-use Rattle.occ_parse_reading.specs.Reading.{AreForms, AreJudged, IsLaidOut, names_in, rows_in}
-use Rattle.occ_parse_reading.proofs.Once.{OneForm, forms_once}
-use Rattle.occ_parse_renamed.specs.Renamed.{forest_renamed, shape_renamed, symbol_renamed, symbols_renamed}
-use Rattle.occ_parse_renamed.specs.Standing.{IsOneForOne}
-use Rattle.occ_parse_renamed.proofs.Forms.{form_so}
-use Rattle.occ_parse_rules.specs.Forest.{Forest, no_line, and_line, Laid, lines_at}
+use Rattle.occ_renamed.specs.occ_lex.declared.fault.LineFault.{LineFault}
+use Rattle.occ_renamed.specs.occ_lex.Rows.{reading_of}
+use Rattle.occ_renamed.specs.occ_lex.declared.symbol.Row.{Row}
+use Rattle.occ_renamed.specs.occ_lex.declared.symbol.Symbol.{Symbol}
+use Rattle.occ_renamed.specs.occ_lex.declared.symbol.Symbol.TheVariants as symbol
+use Rattle.occ_renamed.specs.occ_lex.Symbols.{AreKnown, Extends, IsKnown}
+use Rattle.occ_renamed.proofs.from_lex.Interned.{longer, rows_known}
+use Rattle.occ_renamed.proofs.from_parse.Knowing.{stopped_keeps}
+use Rattle.occ_renamed.specs.occ_base.Names.{IsDistinct}
+use Rattle.occ_renamed.proofs.from_parse_layout.Once.{one_forest_of}
+use Rattle.occ_renamed.specs.occ_parse.declared.bound.Bound.{Bound}
+use Rattle.occ_renamed.specs.occ_parse.declared.fault.ParseFault.{ParseFault}
+use Rattle.occ_renamed.specs.occ_parse.declared.fault.Which.{Which}
+use Rattle.occ_renamed.specs.occ_parse.declared.fault.Which.TheVariants as which
+use Rattle.occ_renamed.specs.occ_parse.Limits.{counted_from, is_limited, line_limit, opens, stop_at, stopped, weight}
+use Rattle.occ_renamed.specs.occ_parse.Reading.{AreForms, AreJudged, IsLaidOut, names_in, rows_in}
+use Rattle.occ_renamed.proofs.from_parse.Once.{OneForm, forms_once}
+use Rattle.occ_renamed.specs.Renamed.{forest_renamed, shape_renamed, symbol_renamed, symbols_renamed}
+use Rattle.occ_renamed.specs.Standing.{IsOneForOne}
+use Rattle.occ_renamed.proofs.Forms.{form_so}
+use Rattle.occ_renamed.specs.occ_parse_rules.Forest.{Forest, no_line, and_line, Laid, lines_at}
 use Rattle.occ_read_renamed.specs.Readings.{StandIn}
 use Rattle.occ_read_renamed.proofs.Numbers.{Table, comes_back, number_in_other, one_number, renumbering}
 use Rattle.occ_read_renamed.proofs.Rows.{row_renamed, rows_renamed, rows_so}

@@ -1,12 +1,12 @@
 -- The layout of lines doesn't see names.
 use Rattle.std.proofs.Common.{◌≡◌, ℕ, ◌+◌, ◌==◌, Bool, true, false, not, ◌&&◌, ◌||◌, nat_le, nat_lt, if◌then◌else◌, List, [], ◌∷◌, map, Some, None, refl, ap, ap₂, ◌∙◌}
 use Rattle.std.specs.List.{list_any}
-use Rattle.occ_parse_forms.specs.Shape.{Shape, header, close, skip, stop, assign, receive, send, group, declare, condition, guard, nothing}
-use Rattle.occ_parse_layout.specs.declared.placed.Frame.{Frame}
-use Rattle.occ_parse_layout.specs.declared.placed.Frame.TheVariants as frame
-use Rattle.occ_parse_layout.specs.Layout.{closes, fits, has_child, has_process, is_close, is_declaration, is_free, is_good, is_header, is_placed, is_served, kind_of, least_bad, least_bad_behind, may_repeat, needs_child, outermost, room_at, stands_outermost, takes}
-use Rattle.occ_parse_renamed.specs.Renamed.{shape_renamed}
-use Rattle.occ_parse_rules.specs.Forest.{Laid}
+use Rattle.occ_renamed.specs.occ_parse_forms.Shape.{Shape, header, close, skip, stop, assign, receive, send, group, declare, condition, guard, nothing}
+use Rattle.occ_renamed.specs.occ_parse_layout.declared.placed.Frame.{Frame}
+use Rattle.occ_renamed.specs.occ_parse_layout.declared.placed.Frame.TheVariants as frame
+use Rattle.occ_renamed.specs.occ_parse_layout.Layout.{closes, fits, has_child, has_process, is_close, is_declaration, is_free, is_good, is_header, is_placed, is_served, kind_of, least_bad, least_bad_behind, may_repeat, needs_child, outermost, room_at, stands_outermost, takes}
+use Rattle.occ_renamed.specs.Renamed.{shape_renamed}
+use Rattle.occ_renamed.specs.occ_parse_rules.Forest.{Laid}
 use Rattle.occ_read_renamed.proofs.Laid.{laid_renamed}
 
 module _ (f : ℕ → ℕ) where

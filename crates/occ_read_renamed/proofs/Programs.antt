@@ -3,52 +3,52 @@ use Rattle.std.proofs.Common.{◌≡◌, ℕ, true, List, [], ◌∷◌, ◌++�
 use Rattle.std.specs.List.{AllByRecursion, flat_map}
 use Rattle.std.proofs.lemmas.Bool.{and_parts}
 use Rattle.std.proofs.lemmas.List.{length-map}
-use Rattle.occ_base.specs.declared.names.Name.{Name}
-use Rattle.occ_base.specs.Names.{IsDistinct}
-use Rattle.occ_lex.specs.Rows.{reading_of}
-use Rattle.occ_lex_symbols.specs.Symbols.{Extends}
-use Rattle.occ_lex_symbols.proofs.Interned.{extends_eq, extends_same, longer}
-use Rattle.occ_meaning.specs.Rename.{renamed}
-use Rattle.occ_parse.proofs.Faultless.{below_judged, lines_of, no_fault}
-use Rattle.occ_parse.proofs.Forests.{program_of}
-use Rattle.occ_parse.proofs.Knowing.{lines_known, params_known}
-use Rattle.occ_parse.proofs.Placed.{good_are_placed}
-use Rattle.occ_parse.proofs.Places.{places_distinct}
-use Rattle.occ_parse_forms.specs.declared.form.Declared.{Declared}
-use Rattle.occ_parse_forms.specs.declared.form.Group.{Group}
-use Rattle.occ_parse_forms.specs.declared.form.Group.TheVariants as word
-use Rattle.occ_parse_forms.specs.declared.form.Param.{Param}
-use Rattle.occ_parse_forms.specs.declared.form.Times.{Times}
-use Rattle.occ_parse_forms.specs.Shape.{Shape, header, close}
-use Rattle.occ_parse_forms.specs.Shape as line
-use Rattle.occ_parse_layout.specs.Whole.{IsProgram}
-use Rattle.occ_parse_reading.specs.declared.bound.Bound.{Bound}
-use Rattle.occ_parse_reading.specs.Drafts.{draft_fault, header_below, header_name, header_params}
-use Rattle.occ_parse_reading.specs.Reading.{IsRead, names_in}
-use Rattle.occ_parse_reading.proofs.Once.{OneForm}
-use Rattle.occ_parse_renamed.specs.Renamed.{all_declared_renamed, forest_renamed, kinds_renamed, name_renamed, params_renamed, place_renamed, places_renamed, shape_renamed, times_renamed}
-use Rattle.occ_parse_renamed.specs.Standing.{IsNumbered, IsOneForOne}
-use Rattle.occ_parse_renamed.proofs.Elements.{all_places_renamed, program_same}
-use Rattle.occ_parse_renamed.proofs.Lines.{program_params, program_so}
-use Rattle.occ_parse_rules.specs.Forest.{Forest, no_line, and_line}
-use Rattle.occ_parse_rules.specs.Names.{name_fault}
-use Rattle.occ_parse_rules.specs.Places.{Place, places}
-use Rattle.occ_parse_rules.specs.Types.{direction_fault, type_fault}
-use Rattle.occ_parse_rules.specs.Unrolled.{Lined, lined, lined_construct, lined_option, lined_part, params_named, repeated, slot_process, times_of}
-use Rattle.occ_parse_sound.specs.InOrder.{AreInOrder}
-use Rattle.occ_parse_sound.specs.Programs.{param_scope}
-use Rattle.occ_parse_sound.specs.Sound.{are_placed}
-use Rattle.occ_parse_unroll.specs.Elements.{program_places, with_places}
-use Rattle.occ_parse_unroll.specs.Numbers.{number_in}
-use Rattle.occ_parse_unroll.proofs.Elements.{places_extend}
+use Rattle.occ_renamed.specs.occ_base.declared.names.Name.{Name}
+use Rattle.occ_renamed.specs.occ_base.Names.{IsDistinct}
+use Rattle.occ_renamed.specs.occ_lex.Rows.{reading_of}
+use Rattle.occ_renamed.specs.occ_lex.Symbols.{Extends}
+use Rattle.occ_renamed.proofs.from_lex.Interned.{extends_eq, extends_same, longer}
+use Rattle.occ_nform.specs.occ_meaning.Rename.{renamed}
+use Rattle.occ_renamed.proofs.from_parse.Faultless.{below_judged, lines_of, no_fault}
+use Rattle.occ_renamed.proofs.from_parse.Forests.{program_of}
+use Rattle.occ_renamed.proofs.from_parse.Knowing.{lines_known, params_known}
+use Rattle.occ_renamed.proofs.from_parse.Placed.{good_are_placed}
+use Rattle.occ_renamed.proofs.from_parse.Places.{places_distinct}
+use Rattle.occ_renamed.specs.occ_parse_forms.declared.form.Declared.{Declared}
+use Rattle.occ_renamed.specs.occ_parse_forms.declared.form.Group.{Group}
+use Rattle.occ_renamed.specs.occ_parse_forms.declared.form.Group.TheVariants as word
+use Rattle.occ_renamed.specs.occ_parse_forms.declared.form.Param.{Param}
+use Rattle.occ_renamed.specs.occ_parse_forms.declared.form.Times.{Times}
+use Rattle.occ_renamed.specs.occ_parse_forms.Shape.{Shape, header, close}
+use Rattle.occ_renamed.specs.occ_parse_forms.Shape as line
+use Rattle.occ_renamed.specs.occ_parse_layout.Whole.{IsProgram}
+use Rattle.occ_renamed.specs.occ_parse.declared.bound.Bound.{Bound}
+use Rattle.occ_renamed.specs.occ_parse.Drafts.{draft_fault, header_below, header_name, header_params}
+use Rattle.occ_renamed.specs.occ_parse.Reading.{IsRead, names_in}
+use Rattle.occ_renamed.proofs.from_parse.Once.{OneForm}
+use Rattle.occ_renamed.specs.Renamed.{all_declared_renamed, forest_renamed, kinds_renamed, name_renamed, params_renamed, place_renamed, places_renamed, shape_renamed, times_renamed}
+use Rattle.occ_renamed.specs.Standing.{IsNumbered, IsOneForOne}
+use Rattle.occ_renamed.proofs.Elements.{all_places_renamed, program_same}
+use Rattle.occ_renamed.proofs.Lines.{program_params, program_so}
+use Rattle.occ_renamed.specs.occ_parse_rules.Forest.{Forest, no_line, and_line}
+use Rattle.occ_renamed.specs.occ_parse_rules.Names.{name_fault}
+use Rattle.occ_renamed.specs.occ_parse_rules.Places.{Place, places}
+use Rattle.occ_renamed.specs.occ_parse_rules.Types.{direction_fault, type_fault}
+use Rattle.occ_renamed.specs.occ_parse_rules.Unrolled.{Lined, lined, lined_construct, lined_option, lined_part, params_named, repeated, slot_process, times_of}
+use Rattle.occ_renamed.specs.occ_parse_rules.InOrder.{AreInOrder}
+use Rattle.occ_renamed.specs.occ_parse_rules.Programs.{param_scope}
+use Rattle.occ_renamed.specs.occ_parse_rules.Sound.{are_placed}
+use Rattle.occ_renamed.specs.occ_parse_unroll.Elements.{program_places, with_places}
+use Rattle.occ_renamed.specs.occ_parse_unroll.Numbers.{number_in}
+use Rattle.occ_renamed.proofs.from_parse_unroll.Elements.{places_extend}
 use Rattle.occ_read_renamed.specs.Readings.{AreRenamed, IsRenumbering, StandIn}
 use Rattle.occ_read_renamed.proofs.Laid.{drafts_so}
 use Rattle.occ_read_renamed.proofs.Numbers.{Table, number_in_other, renumbering}
 use Rattle.occ_read_renamed.proofs.Rows.{lines_distinct, lines_stand}
 use Rattle.occ_read_renamed.proofs.Tables.{alike_from, places_numbered, places_stand}
-use Rattle.occ_script_again.proofs.Below.{IsLow, program_low}
-use Rattle.occ_syntax.specs.declared.scope.Kind.{Kind}
-use Rattle.occ_syntax.specs.Tree.{Tree}
+use Rattle.occ_script_table.proofs.Below.{IsLow, program_low}
+use Rattle.occ_renamed.specs.occ_syntax.declared.scope.Kind.{Kind}
+use Rattle.occ_renamed.specs.occ_syntax.Tree.{Tree}
 
 -- ---- lines below a header without a fault
 

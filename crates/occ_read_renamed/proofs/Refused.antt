@@ -2,47 +2,47 @@
 use Rattle.std.proofs.Common.{◌≡◌, ℕ, ◌+◌, false, nat_lt, if◌then◌else◌, List, [], ◌∷◌, map, Option, Some, None, refl, sym, ap, ap₂, ◌∙◌}
 use Rattle.std.specs.List.{AllByRecursion}
 use Rattle.std.specs.Prelude.{is_some}
-use Rattle.occ_base.specs.Names.{IsDistinct}
-use Rattle.occ_base.specs.declared.names.Name.{Name}
-use Rattle.occ_lex.specs.Rows.{reading_of}
-use Rattle.occ_lex_symbols.proofs.Interned.{extends_same}
-use Rattle.occ_meaning.proofs.Facts.{none_not_some, true_not_false}
-use Rattle.occ_meaning.specs.Rename.{all_renamed, branches_renamed, cases_renamed, renamed}
-use Rattle.occ_parse.proofs.Forests.{program_of}
-use Rattle.occ_parse.proofs.Placed.{good_are_placed}
-use Rattle.occ_parse_forms.specs.declared.form.Param.{Param}
-use Rattle.occ_parse_layout.specs.Layout.{least_bad}
-use Rattle.occ_parse_layout.specs.Whole.{IsProgram}
-use Rattle.occ_parse_reading.specs.Drafts.{as_fault, draft_fault, header_below, header_line, header_params, limit_fault, name_fault_on, over, parameters, type_fault_on, unnumbered}
-use Rattle.occ_parse_reading.specs.Limits.{frame_of, is_limited}
-use Rattle.occ_parse_reading.specs.Reading.{AreJudged, IsRead, IsRefused, at_line, badly_laid, in_draft, names_in, too_long}
-use Rattle.occ_parse_reading.specs.declared.bound.Bound.{Bound}
-use Rattle.occ_parse_reading.specs.declared.fault.ParseFault.{ParseFault}
-use Rattle.occ_parse_reading.specs.declared.fault.ParseFault.TheVariants as fault
-use Rattle.occ_parse_reading.specs.declared.fault.Which.TheVariants as which
-use Rattle.occ_parse_reading.proofs.Once.{OneForm}
-use Rattle.occ_parse_renamed.specs.Renamed.{forest_renamed, params_renamed}
-use Rattle.occ_parse_renamed.specs.Standing.{IsNumberedSo, IsOneForOne}
-use Rattle.occ_parse_renamed.proofs.Faults.{all_bits_same, as_many_parameters, copied_so, counts_same, directions_same, names_same, scope_bits, types_same}
-use Rattle.occ_parse_renamed.proofs.Lines.{program_so}
-use Rattle.occ_parse_renamed.proofs.Scopes.{params_scope}
-use Rattle.occ_parse_rules.specs.Forest.{Forest, Laid, lines_at}
-use Rattle.occ_parse_rules.specs.Judging.{first_fault, or_else}
-use Rattle.occ_parse_rules.specs.Limits.{bits_fault, bits_in_scope, copied_lines}
-use Rattle.occ_parse_rules.specs.Places.{Place}
-use Rattle.occ_parse_rules.specs.Unrolled.{Numbers, slot_process}
-use Rattle.occ_parse_sound.specs.Programs.{param_scope}
-use Rattle.occ_parse_unroll.proofs.Sized.{slot_process_size}
-use Rattle.occ_parse_unroll.specs.Elements.{program_places}
+use Rattle.occ_renamed.specs.occ_base.Names.{IsDistinct}
+use Rattle.occ_renamed.specs.occ_base.declared.names.Name.{Name}
+use Rattle.occ_renamed.specs.occ_lex.Rows.{reading_of}
+use Rattle.occ_renamed.proofs.from_lex.Interned.{extends_same}
+use Rattle.occ_nform.proofs.from_meaning.Facts.{none_not_some, true_not_false}
+use Rattle.occ_nform.specs.occ_meaning.Rename.{all_renamed, branches_renamed, cases_renamed, renamed}
+use Rattle.occ_renamed.proofs.from_parse.Forests.{program_of}
+use Rattle.occ_renamed.proofs.from_parse.Placed.{good_are_placed}
+use Rattle.occ_renamed.specs.occ_parse_forms.declared.form.Param.{Param}
+use Rattle.occ_renamed.specs.occ_parse_layout.Layout.{least_bad}
+use Rattle.occ_renamed.specs.occ_parse_layout.Whole.{IsProgram}
+use Rattle.occ_renamed.specs.occ_parse.Drafts.{as_fault, draft_fault, header_below, header_line, header_params, limit_fault, name_fault_on, over, parameters, type_fault_on, unnumbered}
+use Rattle.occ_renamed.specs.occ_parse.Limits.{frame_of, is_limited}
+use Rattle.occ_renamed.specs.occ_parse.Reading.{AreJudged, IsRead, IsRefused, at_line, badly_laid, in_draft, names_in, too_long}
+use Rattle.occ_renamed.specs.occ_parse.declared.bound.Bound.{Bound}
+use Rattle.occ_renamed.specs.occ_parse.declared.fault.ParseFault.{ParseFault}
+use Rattle.occ_renamed.specs.occ_parse.declared.fault.ParseFault.TheVariants as fault
+use Rattle.occ_renamed.specs.occ_parse.declared.fault.Which.TheVariants as which
+use Rattle.occ_renamed.proofs.from_parse.Once.{OneForm}
+use Rattle.occ_renamed.specs.Renamed.{forest_renamed, params_renamed}
+use Rattle.occ_renamed.specs.Standing.{IsNumberedSo, IsOneForOne}
+use Rattle.occ_renamed.proofs.Faults.{all_bits_same, as_many_parameters, copied_so, counts_same, directions_same, names_same, scope_bits, types_same}
+use Rattle.occ_renamed.proofs.Lines.{program_so}
+use Rattle.occ_renamed.proofs.Scopes.{params_scope}
+use Rattle.occ_renamed.specs.occ_parse_rules.Forest.{Forest, Laid, lines_at}
+use Rattle.occ_renamed.specs.occ_parse_rules.Judging.{first_fault, or_else}
+use Rattle.occ_renamed.specs.occ_parse_rules.Limits.{bits_fault, bits_in_scope, copied_lines}
+use Rattle.occ_renamed.specs.occ_parse_rules.Places.{Place}
+use Rattle.occ_renamed.specs.occ_parse_rules.Unrolled.{Numbers, slot_process}
+use Rattle.occ_renamed.specs.occ_parse_rules.Programs.{param_scope}
+use Rattle.occ_renamed.proofs.from_parse_unroll.Sized.{slot_process_size}
+use Rattle.occ_renamed.specs.occ_parse_unroll.Elements.{program_places}
 use Rattle.occ_read_renamed.specs.Readings.{StandIn}
 use Rattle.occ_read_renamed.proofs.Laid.{drafts_so, laid_renamed, laid_so, stop_so}
 use Rattle.occ_read_renamed.proofs.Outlines.{least_same}
 use Rattle.occ_read_renamed.proofs.Numbers.{Table, number_in_other, renumbering}
 use Rattle.occ_read_renamed.proofs.Programs.{AreGood, below_so, good, params_so}
 use Rattle.occ_read_renamed.proofs.Rows.{lines_distinct, lines_stand}
-use Rattle.occ_syntax.specs.Counts.{controls, controls_of_all, controls_of_branches, controls_of_cases}
-use Rattle.occ_syntax.specs.Tree.{Branches, Cases, Tree, Trees, alt, and_branch, and_case, and_tree, assign, connect, declare, no_branch, no_case, no_tree, par, receive, select, send, seq, skip, stop}
-use Rattle.occ_syntax.specs.declared.scope.Kind.{Kind}
+use Rattle.occ_renamed.specs.occ_syntax.Counts.{controls, controls_of_all, controls_of_branches, controls_of_cases}
+use Rattle.occ_renamed.specs.occ_syntax.Tree.{Branches, Cases, Tree, Trees, alt, and_branch, and_case, and_tree, assign, connect, declare, no_branch, no_case, no_tree, par, receive, select, send, seq, skip, stop}
+use Rattle.occ_renamed.specs.occ_syntax.declared.scope.Kind.{Kind}
 
 -- ---- controls don't see names
 

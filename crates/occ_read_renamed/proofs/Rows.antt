@@ -1,18 +1,18 @@
 -- The rows of a text with two tables: the same ones under other numbers of names.
 use Rattle.std.proofs.Common.{◌≡◌, ℕ, List, [], ◌∷◌, map, Some, slice_get, refl, ap, ap₂}
-use Rattle.occ_base.specs.Names.{IsDistinct, place_of, with_text}
-use Rattle.occ_base.proofs.Naming.{naming}
-use Rattle.occ_lex.specs.declared.token.Line.{Line}
-use Rattle.occ_lex.specs.declared.token.Token.{Token}
-use Rattle.occ_lex.specs.declared.token.TokenKind.{TokenKind}
-use Rattle.occ_lex.specs.declared.token.TokenKind.TheVariants as kind
-use Rattle.occ_lex.specs.Token.{text_of}
-use Rattle.occ_lex_symbols.specs.declared.symbol.Symbol.TheVariants as symbol
-use Rattle.occ_lex_symbols.specs.declared.symbol.Row.{Row}
-use Rattle.occ_lex_symbols.specs.Symbols.{Extends, names_with, rows_of, symbol_of, symbols_of, with_names, with_names_of_all}
-use Rattle.occ_lex_symbols.proofs.Interned.{extends_all, extends_names, extends_trans}
-use Rattle.occ_parse.proofs.Texts.{stays}
-use Rattle.occ_parse_renamed.specs.Renamed.{symbol_renamed, symbols_renamed}
+use Rattle.occ_renamed.specs.occ_base.Names.{IsDistinct, place_of, with_text}
+use Rattle.occ_renamed.proofs.from_base.Naming.{naming}
+use Rattle.occ_renamed.specs.occ_lex.declared.token.Line.{Line}
+use Rattle.occ_renamed.specs.occ_lex.declared.token.Token.{Token}
+use Rattle.occ_renamed.specs.occ_lex.declared.token.TokenKind.{TokenKind}
+use Rattle.occ_renamed.specs.occ_lex.declared.token.TokenKind.TheVariants as kind
+use Rattle.occ_renamed.specs.occ_lex.Token.{text_of}
+use Rattle.occ_renamed.specs.occ_lex.declared.symbol.Symbol.TheVariants as symbol
+use Rattle.occ_renamed.specs.occ_lex.declared.symbol.Row.{Row}
+use Rattle.occ_renamed.specs.occ_lex.Symbols.{Extends, names_with, rows_of, symbol_of, symbols_of, with_names, with_names_of_all}
+use Rattle.occ_renamed.proofs.from_lex.Interned.{extends_all, extends_names, extends_trans}
+use Rattle.occ_renamed.proofs.from_parse.Texts.{stays}
+use Rattle.occ_renamed.specs.Renamed.{symbol_renamed, symbols_renamed}
 use Rattle.occ_read_renamed.specs.Readings.{StandIn}
 use Rattle.occ_read_renamed.proofs.Numbers.{Table, stand_with}
 

@@ -4,20 +4,20 @@ use Rattle.std.specs.List.{AllByRecursion}
 use Rattle.std.specs.Prelude.{IfSome}
 use Rattle.std.proofs.lemmas.Option.{get_or_from_slice_get, slice_get-get_or, slice_get_within}
 use Rattle.std.proofs.Math.ListN.{get_or-append}
-use Rattle.occ_base.specs.Names.{IsDistinct, place_of, with_text}
-use Rattle.occ_base.proofs.Naming.{naming}
-use Rattle.occ_lex_symbols.specs.Symbols.{Extends}
-use Rattle.occ_lex_symbols.proofs.Interned.{extends_text, extends_trans, longer}
-use Rattle.occ_parse.proofs.Texts.{stays}
-use Rattle.occ_parse_renamed.specs.Renamed.{places_renamed}
-use Rattle.occ_parse_renamed.specs.Standing.{IsNumberedSo}
-use Rattle.occ_parse_rules.specs.Places.{Place}
-use Rattle.occ_parse_unroll.specs.Elements.{with_place, with_places}
-use Rattle.occ_parse_unroll.specs.Numbers.{element_text, number_in}
-use Rattle.occ_parse_unroll.proofs.Elements.{places_extend}
+use Rattle.occ_renamed.specs.occ_base.Names.{IsDistinct, place_of, with_text}
+use Rattle.occ_renamed.proofs.from_base.Naming.{naming}
+use Rattle.occ_renamed.specs.occ_lex.Symbols.{Extends}
+use Rattle.occ_renamed.proofs.from_lex.Interned.{extends_text, extends_trans, longer}
+use Rattle.occ_renamed.proofs.from_parse.Texts.{stays}
+use Rattle.occ_renamed.specs.Renamed.{places_renamed}
+use Rattle.occ_renamed.specs.Standing.{IsNumberedSo}
+use Rattle.occ_renamed.specs.occ_parse_rules.Places.{Place}
+use Rattle.occ_renamed.specs.occ_parse_unroll.Elements.{with_place, with_places}
+use Rattle.occ_renamed.specs.occ_parse_unroll.Numbers.{element_text, number_in}
+use Rattle.occ_renamed.proofs.from_parse_unroll.Elements.{places_extend}
 use Rattle.occ_read_renamed.specs.Readings.{IsRenumbering, StandIn}
 use Rattle.occ_read_renamed.proofs.Numbers.{Table, stand_with}
-use Rattle.occ_script_again.proofs.Below.{IsLow}
+use Rattle.occ_script_table.proofs.Below.{IsLow}
 
 pub place_extends : (t : Table) (x : ℕ) (o : Option ℕ) → Extends t (with_place t x o)
 place_extends t x o = places_extend t (record { name = x; element = o } ∷ [])

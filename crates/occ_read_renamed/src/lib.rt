@@ -1,35 +1,18 @@
-//! A text that reads as a program with two tables of names stands for one program, whose names have other numbers. Each law is the
-//! contract of a function without a body of its own.
+//! A text that is read with two tables of names stands for one program, whose names have other numbers; and neither what a program means
+//! nor its normal text rests on these numbers. Here are the laws; there is no code.
 #![tactic(auto)]
 
-ghost use Rattle.std.specs.Prelude.{ℕ, List};
-ghost use Rattle.occ_base.specs.Names.{IsDistinct};
-ghost use Rattle.occ_base.specs.declared.names.Name.{Name};
-ghost use Rattle.occ_parse_reading.specs.Reading.{IsRead, IsRefused};
-ghost use Rattle.occ_parse_reading.specs.declared.fault.ParseFault.{ParseFault};
-ghost use Rattle.occ_parse_reading.specs.declared.bound.Bound.{Bound};
-ghost use Rattle.occ_read_renamed.specs.Readings.{AreRenamed, StandIn};
-ghost use Rattle.occ_syntax.specs.Tree.{Tree};
-ghost use Rattle.occ_syntax.specs.declared.scope.Kind.{Kind};
+mod law;
+mod normal_texts;
+mod readings;
 
-use occ_parse_forms::one_form;
-
-/// Where a text reads as a program with one table and as a program with another one, in which each text of the first stands, the second
-/// program is the first one under the numbers that the texts of its names have in the second table.
-pub fn readings_are_renamed()
-    ensures { (b : Bound) (text : List ℕ) (old between new other : List (List ℕ)) (n m : Name) (ps qs : List (Name × Kind))
-        (p q : Tree) (ks ls : List ℕ) → IsDistinct old → IsDistinct between → StandIn old between
-        → IsRead b text old new n ps p ks → IsRead b text between other m qs q ls
-        → AreRenamed new other n m ps qs p q ks ls }
-{
-    one_form();
-}
-
-/// A text that reads as a program with one table isn't refused with another one, in which each text of the first stands.
-pub fn readings_are_not_refused()
-    ensures { (b : Bound) (text : List ℕ) (old between new : List (List ℕ)) (n : Name) (ps : List (Name × Kind)) (p : Tree)
-        (ks : List ℕ) (fault : ParseFault) → IsDistinct old → IsDistinct between → StandIn old between
-        → IsRead b text old new n ps p ks → IsRefused b text between fault → ⊥ }
-{
-    one_form();
-}
+pub use law::parameters_have_names;
+pub use normal_texts::{
+    normal_texts_are_renamed, normal_texts_need_no_names, renamed_programs_mean_the_same,
+};
+pub use occ_nform::{
+    Counts, measured, normal_table, normal_text, normal_texts_tell_programs_apart,
+    programs_have_one_table,
+};
+pub use occ_script_table::{programs_leave_places, programs_read_again};
+pub use readings::{readings_are_not_refused, readings_are_renamed};

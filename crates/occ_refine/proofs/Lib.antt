@@ -8,3 +8,8 @@ pub mod Nearness
 pub mod Listing
 pub mod Sticking
 pub mod Unknown
+pub mod Outside
+pub mod Walked
+pub mod Both
+pub mod Unique
+pub mod Link

@@ -4,31 +4,31 @@ use Rattle.std.proofs.Math.Nat.{mod-lt}
 use Rattle.std.proofs.lemmas.Nat.{pow_pos}
 use Rattle.std.proofs.lemmas.Bool.{or_left, both_ways, false≢true}
 use Rattle.std.specs.List.{list_all}
-use Rattle.occ_base.specs.declared.event.Event.{Event}
-use Rattle.occ_base.specs.declared.names.Name.{Name}
+use Rattle.occ_norm.specs.occ_base.declared.event.Event.{Event}
+use Rattle.occ_norm.specs.occ_base.declared.names.Name.{Name}
 use Rattle.occ_syntax.specs.declared.scope.Kind.{Kind}
 use Rattle.occ_syntax.specs.Counts.{bits_of_scope}
 use Rattle.occ_syntax.specs.Scopes.{among}
-use Rattle.occ_behaviour.specs.declared.behaviour.Last.{Last}
-use Rattle.occ_behaviour.specs.declared.behaviour.Last.TheVariants.{Refuses, Ends}
-use Rattle.occ_dd.specs.Store.{has}
-use Rattle.occ_accept.specs.Accept.{in_set, misses, refuses}
-use Rattle.occ_accept.proofs.Strict.{all_more, any_more, all_at, any_at, all_each, any_one}
-use Rattle.occ_accept.proofs.Events.{cmp_total, event_exact, sets_total, set_exact}
-use Rattle.occ_node.specs.Offers.{next_in, is_offered}
-use Rattle.occ_node.specs.World.{IsNode, row_of, fails}
-use Rattle.occ_node.specs.declared.node.NodeId.{NodeId}
-use Rattle.occ_node.specs.declared.world.World.{World}
-use Rattle.occ_node.proofs.Worlds.{is_row}
-use Rattle.occ_node.proofs.Behaviours.{fails_nil, fails_some, ends_nil, child_node}
-use Rattle.occ_compare.specs.Interface.{IsWithin as IsOfNames}
-use Rattle.occ_compare.specs.Places.{state_at}
-use Rattle.occ_compare.specs.Orders.{has_set}
-use Rattle.occ_compare.proofs.Walking.{within_child, among_is}
-use Rattle.occ_views.specs.Views.{Values, Behaviours, after, Offers, Stands}
-use Rattle.occ_views.specs.Excess.{IsLeastSet, IsRefusal, StandsFirst, Stops, GoesAlone, GoesOn, IsFirstExcess}
-use Rattle.occ_views.proofs.Alike.{turned, stands_alike, excess_alike}
-use Rattle.occ_views.proofs.One.{excess_more}
+use Rattle.occ_norm.specs.occ_behaviour.declared.behaviour.Last.{Last}
+use Rattle.occ_norm.specs.occ_behaviour.declared.behaviour.Last.TheVariants.{Refuses, Ends}
+use Rattle.occ_norm.specs.occ_dd.Store.{has}
+use Rattle.occ_norm.specs.occ_accept.Accept.{in_set, misses, refuses}
+use Rattle.occ_norm.proofs.from_accept.Strict.{all_more, any_more, all_at, any_at, all_each, any_one}
+use Rattle.occ_norm.proofs.from_accept.Events.{cmp_total, event_exact, sets_total, set_exact}
+use Rattle.occ_norm.specs.occ_node.Offers.{next_in, is_offered}
+use Rattle.occ_norm.specs.occ_node.World.{IsNode, row_of, fails}
+use Rattle.occ_norm.specs.occ_node.declared.node.NodeId.{NodeId}
+use Rattle.occ_norm.specs.occ_node.declared.world.World.{World}
+use Rattle.occ_norm.proofs.from_node.Worlds.{is_row}
+use Rattle.occ_norm.proofs.from_node.Behaviours.{fails_nil, fails_some, ends_nil, child_node}
+use Rattle.occ_norm.specs.occ_compare.Interface.{IsWithin as IsOfNames}
+use Rattle.occ_norm.specs.occ_compare.Places.{state_at}
+use Rattle.occ_norm.specs.occ_compare.Orders.{has_set}
+use Rattle.occ_norm.proofs.from_compare.Walking.{within_child, among_is}
+use Rattle.occ_norm.specs.occ_compare.Views.{Values, Behaviours, after, Offers, Stands}
+use Rattle.occ_norm.specs.occ_compare.Excess.{IsLeastSet, IsRefusal, StandsFirst, Stops, GoesAlone, GoesOn, IsFirstExcess}
+use Rattle.occ_norm.proofs.from_compare.Alike.{turned, stands_alike, excess_alike}
+use Rattle.occ_norm.proofs.from_compare.One.{excess_more}
 use Rattle.occ_refine.specs.Nodes.{behaviours_at}
 use Rattle.occ_refine.proofs.Bridge.{behind, nothing_behind, offers_out, offers_in, from_not, to_not, some_next}
 

@@ -5,3 +5,4 @@ pub mod Walks
 pub mod Roots
 pub mod Near
 pub mod Interfaces
+pub mod Verdict

@@ -1,11 +1,9 @@
 ghost use Rattle.std.specs.Prelude.{◌≡◌, ◌≤◌, MatchOption};
 ghost use Rattle.occ_syntax.specs.Counts.{bits_of_scope};
-ghost use Rattle.occ_dd.specs.Store.{IsKnown};
+ghost use Rattle.occ_norm.specs.occ_dd.Store.{IsKnown};
 ghost use Rattle.occ_refine.specs.Rows.{is_extra, IsLeastExtra, NoExtra};
 
-use occ_base::Name;
-use occ_compare::{assignment, last_number};
-use occ_dd::{SetId, Store};
+use occ_norm::{Name, SetId, Store, assignment, last_number};
 use occ_syntax::Kind;
 
 // Whether the one set has an assignment that the other hasn't.

@@ -1,15 +1,14 @@
 ghost use Rattle.std.specs.Prelude.{◌≡◌, ◌||◌, ◌≤◌, ◌^◌, true, OnOk, IfOk};
-ghost use Rattle.occ_base.specs.declared.event.Event.{Event};
-ghost use Rattle.occ_base.specs.Width.{bits_of};
+ghost use Rattle.occ_norm.specs.occ_base.declared.event.Event.{Event};
+ghost use Rattle.occ_norm.specs.occ_base.Width.{bits_of};
 ghost use Rattle.occ_syntax.specs.Types.{scope_kept};
 ghost use Rattle.occ_syntax.specs.Scopes.{environment, in_interface};
-ghost use Rattle.occ_accept.specs.Order.{strict};
-ghost use Rattle.occ_accept.specs.Accept.{in_set};
-ghost use Rattle.occ_compare.specs.Orders.{print_cmp};
+ghost use Rattle.occ_norm.specs.occ_accept.Order.{strict};
+ghost use Rattle.occ_norm.specs.occ_accept.Accept.{in_set};
+ghost use Rattle.occ_norm.specs.occ_compare.Orders.{print_cmp};
 ghost use Rattle.occ_refine.specs.Interfaces.{in_values, in_marked, in_params};
 
-use occ_base::{Dir, Event, Events, Memory, Name};
-use occ_compare::{in_order, listed};
+use occ_norm::{Dir, Event, Events, Memory, Name, in_order, listed};
 use occ_syntax::Kind;
 use std::alloc::Global;
 

@@ -1,16 +1,23 @@
-//! Whether one root does no more than another, and whether a root can be stuck; else the first behaviour that shows it.
+//! The verdict on two accepted programs of one interface, whether one refines the other, and whether a program can be stuck: by the rows of
+//! a world, and said of behaviours alone.
 #![tactic(auto)]
 
 mod ends;
 mod events;
+mod law;
 mod near;
 mod offers;
 mod pairs;
+mod refine;
 mod roots;
 mod sets;
 mod step;
 mod stuck;
+mod verdict;
 mod walk;
 
+pub use law::{one_verdict, refined_both_ways};
+pub use refine::{deadlocked, refined};
 pub use roots::refines;
 pub use stuck::deadlock;
+pub use verdict::decide;

@@ -1,12 +1,10 @@
 ghost use Rattle.std.specs.Prelude.{◌≡◌, IfOk, MatchOption, if◌then◌else◌};
 ghost use Rattle.std.specs.Ordering.{is_lt};
-ghost use Rattle.occ_accept.specs.Accept.{is_part};
-ghost use Rattle.occ_compare.specs.Orders.{set_cmp};
+ghost use Rattle.occ_norm.specs.occ_accept.Accept.{is_part};
+ghost use Rattle.occ_norm.specs.occ_compare.Orders.{set_cmp};
 ghost use Rattle.occ_refine.specs.Rows.{is_met, AllMet, IsLeastUnmet};
 
-use occ_accept::AcceptSet;
-use occ_base::{Event, Memory, Name};
-use occ_compare::{in_order, is_less};
+use occ_norm::{AcceptSet, Event, Memory, Name, in_order, is_less};
 use occ_syntax::Kind;
 use std::alloc::Global;
 

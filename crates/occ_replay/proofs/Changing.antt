@@ -1,18 +1,18 @@
 -- A part put into a program.
 use Rattle.std.proofs.Common.{◌≡◌, ℕ, true, List, Option, Some, None, refl, sym, ap, subst, ◌∙◌}
 use Rattle.std.proofs.lemmas.Option.{same_Some}
-use Rattle.occ_base.specs.declared.names.Name.{Name}
-use Rattle.occ_meaning.specs.Context.{environment_at, part_at, put}
-use Rattle.occ_meaning.proofs.Places.{part_keeps, put_scope, put_there}
-use Rattle.occ_parse_part.specs.Parts.{Part}
-use Rattle.occ_parse_part.specs.Resolving.{part_fault, part_process}
+use Rattle.occ_script.specs.occ_base.declared.names.Name.{Name}
+use Rattle.occ_script.specs.occ_meaning.Context.{environment_at, part_at, put}
+use Rattle.occ_script.proofs.from_meaning.Places.{part_keeps, put_scope, put_there}
+use Rattle.occ_script.specs.occ_parse_part.Parts.{Part}
+use Rattle.occ_script.specs.occ_parse_part.Resolving.{part_fault, part_process}
 use Rattle.occ_replay.specs.declared.change.Change.{Change}
 use Rattle.occ_replay.specs.declared.change.Stopped.{Stopped}
 use Rattle.occ_replay.specs.declared.change.Stopped.TheVariants as stopped
 use Rattle.occ_replay.specs.Changes.{IsChange, IsRefused, IsResolved, IsStopped, IsTaken}
 use Rattle.occ_replay_rules.specs.Steps.{IsAcceptable, Joins, Lacks, Step, new_part, new_whole, not_instance, scope_there, unacceptable, unjoined}
-use Rattle.occ_script_path.proofs.Scoping.{scopes}
-use Rattle.occ_script_path.specs.Places.{IsPutIn, scope_list}
+use Rattle.occ_script.proofs.from_script_lines.Scoping.{scopes}
+use Rattle.occ_script.specs.occ_script_lines.Places.{IsPutIn, scope_list}
 use Rattle.occ_syntax.specs.declared.scope.Kind.{Kind}
 use Rattle.occ_syntax.specs.declared.scope.Program.{Program}
 use Rattle.occ_syntax.specs.Scopes.{environment}
@@ -20,8 +20,8 @@ use Rattle.occ_syntax.specs.Tree.{Tree}
 use Rattle.occ_syntax.specs.Types.{scope_kept}
 use Rattle.occ_syntax.specs.Usage.{Keeps}
 use Rattle.occ_syntax.specs.View.{tree}
-use Rattle.occ_usage.specs.Accepted.{KeepsRules}
-use Rattle.occ_usage_local.specs.Local.{IsExchanged}
+use Rattle.occ_law_any.specs.occ_usage.Accepted.{KeepsRules}
+use Rattle.occ_law_any.specs.occ_usage.Local.{IsExchanged}
 
 -- ---- putting in
 

@@ -1,9 +1,9 @@
 -- A part put into a program, and a step that is taken or isn't.
 use Rattle.std.specs.Prelude.{◌≡◌, List, Option, None, Some}
-use Rattle.occ_base.specs.declared.names.Name.{Name}
-use Rattle.occ_meaning.specs.Context.{part_at}
-use Rattle.occ_parse_part.specs.Parts.{Part}
-use Rattle.occ_parse_part.specs.Resolving.{part_fault, part_process}
+use Rattle.occ_script.specs.occ_base.declared.names.Name.{Name}
+use Rattle.occ_script.specs.occ_meaning.Context.{part_at}
+use Rattle.occ_script.specs.occ_parse_part.Parts.{Part}
+use Rattle.occ_script.specs.occ_parse_part.Resolving.{part_fault, part_process}
 use Rattle.occ_replay.specs.declared.change.Change.{Change}
 use Rattle.occ_replay.specs.declared.change.Stopped.{Stopped}
 use Rattle.occ_replay.specs.declared.change.Stopped.TheVariants as stopped

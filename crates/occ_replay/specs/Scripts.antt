@@ -1,8 +1,8 @@
 -- A script as the definitions of derivations have it, and what its replay answers.
 use Rattle.std.specs.Prelude.{ℕ, ◌≡◌, List, length, map, Option, Result, Ok, Err}
 use Rattle.std.specs.Option.{option_map}
-use Rattle.occ_law.specs.declared.table.LawId.{LawId}
-use Rattle.occ_parse_part.specs.Shown.{part_of}
+use Rattle.occ_script.specs.occ_law.declared.table.LawId.{LawId}
+use Rattle.occ_script.specs.occ_parse_part.Shown.{part_of}
 use Rattle.occ_replay.specs.declared.change.Stopped.{Stopped}
 use Rattle.occ_replay.specs.declared.change.Stopped.TheVariants as stopped
 use Rattle.occ_replay.specs.declared.result.Joined.{Joined}

@@ -1,28 +1,22 @@
 //! A part put into a program, and whether a law joins the old part and the new one.
 
 ghost use Rattle.std.specs.Prelude.{◌≡◌, ◌↔◌, IfErr, IfOk, IsTrue, IsSome, true};
-ghost use Rattle.occ_meaning.specs.Context.{part_at};
-ghost use Rattle.occ_parse_part.specs.Shown.{part_of};
+ghost use Rattle.occ_script.specs.occ_meaning.Context.{part_at};
+ghost use Rattle.occ_script.specs.occ_parse_part.Shown.{part_of};
 ghost use Rattle.occ_replay.specs.Changes.{IsChange, IsRefused, IsResolved, IsUnresolved};
 ghost use Rattle.occ_replay.specs.Scripts.{step_of};
 ghost use Rattle.occ_replay_rules.specs.Steps.{Joins};
-ghost use Rattle.occ_script_path.specs.Places.{scope_list};
+ghost use Rattle.occ_script.specs.occ_script_lines.Places.{scope_list};
 ghost use Rattle.occ_syntax.specs.Scopes.{environment};
 ghost use Rattle.occ_syntax.specs.Types.{scope_kept};
 ghost use Rattle.occ_syntax.specs.Usage.{Keeps};
 ghost use Rattle.occ_syntax.specs.View.{tree};
-ghost use Rattle.occ_usage.specs.Accepted.{KeepsRules};
+ghost use Rattle.occ_law_any.specs.occ_usage.Accepted.{KeepsRules};
 ghost use Rattle.occ_replay.specs.declared.change.Stopped.TheVariants as stopped;
 
-use occ_base::Memory;
-use occ_dd::Store;
-use occ_law::LawId;
-use occ_parse::ParseFault;
-use occ_parse_part::{Raw, resolve};
-use occ_script::Step;
-use occ_script_path::{Direction, at, replace};
+use occ_law_any::keeps_exchanged;
+use occ_script::{Direction, LawId, Memory, ParseFault, Raw, Step, Store, at, replace, resolve};
 use occ_syntax::{Proc, Program, Scope};
-use occ_usage_local::keeps_exchanged;
 use std::alloc::Global;
 
 /// Why a step isn't taken.
@@ -104,7 +98,7 @@ pub(crate) fn joins(
 {
     let (law, dir) = used;
     match dir {
-        Direction::Forward => occ_law_holds::holds(
+        Direction::Forward => occ_law_any::holds(
             alloc,
             store,
             law,
@@ -112,7 +106,7 @@ pub(crate) fn joins(
             &change.old,
             new,
         ),
-        Direction::Backward => occ_law_holds::holds(
+        Direction::Backward => occ_law_any::holds(
             alloc,
             store,
             law,

@@ -6,5 +6,11 @@ mod replaying;
 mod result;
 mod step;
 
+pub use occ_law_any::{Accepted, UsageFault, check};
+pub use occ_replay_rules::{derivations_join_the_same, scripts_have_one_answer};
+pub use occ_script::{
+    Direction, LawId, LineFault, Path, Raw, Script, ScriptFault, Step, at, law_name as name,
+    one_orders, one_script, orders, read, replace, resolve, scope_at,
+};
 pub use replaying::replay;
 pub use result::{Joined, Rejected};

@@ -2,16 +2,14 @@
 
 ghost use Rattle.std.specs.Prelude.{◌≡◌, ◌↔◌, ◌<◌, length, IfErr, IfOk, IsTrue};
 ghost use Rattle.occ_replay.specs.Scripts.{IsDerived, IsEndOf, IsReplayed, IsRejectedSteps, IsSameProgram, rejects, steps_of};
-ghost use Rattle.occ_usage.specs.Accepted.{IsTyped, KeepsRules};
+ghost use Rattle.occ_law_any.specs.occ_usage.Accepted.{IsTyped, KeepsRules};
 
 use crate::change::Stopped;
 use crate::step::take_step;
 use crate::{Joined, Rejected};
-use occ_base::Name;
-use occ_dd::Store;
-use occ_script::{Script, Step};
+use occ_law_any::{Accepted, UsageFault, check};
+use occ_script::{Name, Script, Step, Store};
 use occ_syntax::{Kind, Program, same_proc};
-use occ_usage::{Accepted, UsageFault, check};
 use std::alloc::Global;
 
 /// Why a step isn't taken, with its number.

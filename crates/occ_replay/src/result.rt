@@ -1,6 +1,6 @@
-use occ_base::Memory;
+use occ_law_any::UsageFault;
+use occ_script::Memory;
 use occ_syntax::Program;
-use occ_usage::UsageFault;
 use thiserror::Error;
 
 /// The two programs that a script joins, and how many steps it has.

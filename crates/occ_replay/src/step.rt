@@ -3,12 +3,10 @@
 ghost use Rattle.std.specs.Prelude.{IfErr, IfOk};
 ghost use Rattle.occ_replay.specs.Changes.{IsStopped, IsTaken};
 ghost use Rattle.occ_replay.specs.Scripts.{step_of};
-ghost use Rattle.occ_usage.specs.Accepted.{KeepsRules};
+ghost use Rattle.occ_law_any.specs.occ_usage.Accepted.{KeepsRules};
 
 use crate::change::{Stopped, changed, joins};
-use occ_dd::Store;
-use occ_script::Step;
-use occ_script_path::{at, scope_at};
+use occ_script::{Step, Store, at, scope_at};
 use occ_syntax::Program;
 use std::alloc::Global;
 

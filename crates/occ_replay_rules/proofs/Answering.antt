@@ -4,13 +4,13 @@ use Rattle.occ_replay_rules.specs.Replays.{IsAstray, IsCutOff, IsDerivation, IsE
 use Rattle.occ_replay_rules.specs.Steps.{Derives, Lack, Step}
 use Rattle.occ_replay_rules.proofs.Deriving.{AreSound, derived_same, one}
 use Rattle.occ_replay_rules.proofs.Stopping.{one_stop, stops_derives}
-use Rattle.occ_syntax.specs.declared.scope.Program.{Program}
-use Rattle.occ_syntax.specs.Same.{SAME}
-use Rattle.occ_syntax.specs.Scopes.{environment}
-use Rattle.occ_syntax.specs.Tree.{Tree}
-use Rattle.occ_syntax.specs.View.{tree}
-use Rattle.occ_usage.specs.Accepted.{IsAccepted, IsFirst, usage_faults}
-use Rattle.occ_usage.specs.declared.fault.UsageFault.{UsageFault}
+use Rattle.occ_print.specs.occ_syntax.declared.scope.Program.{Program}
+use Rattle.occ_print.specs.occ_syntax.Same.{SAME}
+use Rattle.occ_print.specs.occ_syntax.Scopes.{environment}
+use Rattle.occ_print.specs.occ_syntax.Tree.{Tree}
+use Rattle.occ_print.specs.occ_syntax.View.{tree}
+use Rattle.occ_script_lines.specs.occ_usage.Accepted.{IsAccepted, IsFirst, usage_faults}
+use Rattle.occ_script_lines.specs.occ_usage.declared.fault.UsageFault.{UsageFault}
 
 -- an accepted program breaks no usage
 unbroken : (from : Program) (fault : UsageFault) → IsAccepted from → IsFirst fault from → ⊥

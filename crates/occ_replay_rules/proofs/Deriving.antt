@@ -1,17 +1,17 @@
 -- What holds along a derivation.
 use Rattle.std.proofs.Common.{◌≡◌, ℕ, true, List, [], ◌∷◌, ◌++◌, refl, sym, subst, ◌∙◌}
-use Rattle.occ_base.specs.declared.names.Name.{Name}
-use Rattle.occ_law_rules.specs.Table.{LAW}
-use Rattle.occ_meaning.proofs.Alike.{same_back, same_itself, same_through}
+use Rattle.occ_script_lines.specs.occ_base.declared.names.Name.{Name}
+use Rattle.occ_law_sound.specs.occ_law.RuleTable.{LAW}
+use Rattle.occ_law_sound.proofs.from_meaning.Alike.{same_back, same_itself, same_through}
 use Rattle.occ_replay_rules.specs.Steps.{Derives, IsGoodStep, Joins, Step, and_step, new_part, new_whole, no_step, scope_there}
-use Rattle.occ_script_path.specs.declared.direction.Direction.{Direction}
-use Rattle.occ_script_path.specs.declared.direction.Direction.TheVariants as direction
-use Rattle.occ_script_path.proofs.Scoping.{put_in_same}
-use Rattle.occ_syntax.specs.declared.scope.Kind.{Kind}
-use Rattle.occ_syntax.specs.Same.{SAME}
-use Rattle.occ_syntax.specs.Scopes.{environment}
-use Rattle.occ_syntax.specs.Tree.{Tree}
-use Rattle.occ_syntax.specs.Types.{scope_kept, types_kept}
+use Rattle.occ_script_lines.specs.declared.direction.Direction.{Direction}
+use Rattle.occ_script_lines.specs.declared.direction.Direction.TheVariants as direction
+use Rattle.occ_script_lines.proofs.Scoping.{put_in_same}
+use Rattle.occ_print.specs.occ_syntax.declared.scope.Kind.{Kind}
+use Rattle.occ_print.specs.occ_syntax.Same.{SAME}
+use Rattle.occ_print.specs.occ_syntax.Scopes.{environment}
+use Rattle.occ_print.specs.occ_syntax.Tree.{Tree}
+use Rattle.occ_print.specs.occ_syntax.Types.{scope_kept, types_kept}
 
 -- the two sides of each law mean the same
 abbrev pub AreSound : Type 0

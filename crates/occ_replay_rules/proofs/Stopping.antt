@@ -1,10 +1,10 @@
 -- Steps stop at one place for one lack, and steps that stop derive nothing.
 use Rattle.std.proofs.Common.{◌≡◌, ℕ, ◌+◌, List, [], ◌∷◌, ◌++◌, length, Option, Some, None, refl, sym, ap, subst, ◌∙◌, arith}
-use Rattle.occ_base.specs.declared.names.Name.{Name}
+use Rattle.occ_script_lines.specs.occ_base.declared.names.Name.{Name}
 use Rattle.occ_replay_rules.specs.Steps.{Derives, IsGoodStep, Joins, Lack, Lacks, Step, Stops, new_part, new_whole, nowhere, scope_there, unacceptable, unjoined, unnamed}
 use Rattle.occ_replay_rules.proofs.Deriving.{begun, ended}
-use Rattle.occ_syntax.specs.declared.scope.Kind.{Kind}
-use Rattle.occ_syntax.specs.Tree.{Tree}
+use Rattle.occ_print.specs.occ_syntax.declared.scope.Kind.{Kind}
+use Rattle.occ_print.specs.occ_syntax.Tree.{Tree}
 
 -- a value isn't there and there
 none_some : {A : Type 0} (o : Option A) (x : A) → o ≡ None → o ≡ Some x → ⊥

@@ -1,11 +1,11 @@
 -- What the replay of a script answers.
 use Rattle.std.specs.Prelude.{ℕ, ◌≡◌, List}
 use Rattle.occ_replay_rules.specs.Steps.{Derives, Lack, Step, Stops}
-use Rattle.occ_syntax.specs.declared.scope.Program.{Program}
-use Rattle.occ_syntax.specs.Tree.{Tree}
-use Rattle.occ_syntax.specs.View.{tree}
-use Rattle.occ_usage.specs.Accepted.{IsAccepted, IsFirst}
-use Rattle.occ_usage.specs.declared.fault.UsageFault.{UsageFault}
+use Rattle.occ_print.specs.occ_syntax.declared.scope.Program.{Program}
+use Rattle.occ_print.specs.occ_syntax.Tree.{Tree}
+use Rattle.occ_print.specs.occ_syntax.View.{tree}
+use Rattle.occ_script_lines.specs.occ_usage.Accepted.{IsAccepted, IsFirst}
+use Rattle.occ_script_lines.specs.occ_usage.declared.fault.UsageFault.{UsageFault}
 
 -- a program has the name and the parameters of another one, and this body
 pub record IsEnd (from : Program) (end : Tree) (to : Program) : Type 0 where

@@ -1,17 +1,17 @@
 -- What steps derive from a process, and why they stop.
 use Rattle.std.specs.Prelude.{ℕ, ◌≡◌, ◌+◌, List, [], ◌∷◌, ◌++◌, length, Option, Some, None}
-use Rattle.occ_base.specs.declared.names.Name.{Name}
-use Rattle.occ_law_rules.specs.Table.{LAW}
-use Rattle.occ_meaning.specs.Context.{part_at, put}
+use Rattle.occ_script_lines.specs.occ_base.declared.names.Name.{Name}
+use Rattle.occ_law_sound.specs.occ_law.RuleTable.{LAW}
+use Rattle.occ_law_sound.specs.occ_meaning.Context.{part_at, put}
 use Rattle.occ_parse_part.specs.Parts.{Part}
 use Rattle.occ_parse_part.specs.Resolving.{part_fault, part_process}
-use Rattle.occ_script_path.specs.declared.direction.Direction.{Direction}
-use Rattle.occ_script_path.specs.declared.direction.Direction.TheVariants as direction
-use Rattle.occ_script_path.specs.Places.{scope_list}
-use Rattle.occ_syntax.specs.declared.scope.Kind.{Kind}
-use Rattle.occ_syntax.specs.Scopes.{environment}
-use Rattle.occ_syntax.specs.Tree.{Tree}
-use Rattle.occ_syntax.specs.Usage.{Keeps}
+use Rattle.occ_script_lines.specs.declared.direction.Direction.{Direction}
+use Rattle.occ_script_lines.specs.declared.direction.Direction.TheVariants as direction
+use Rattle.occ_script_lines.specs.Places.{scope_list}
+use Rattle.occ_print.specs.occ_syntax.declared.scope.Kind.{Kind}
+use Rattle.occ_print.specs.occ_syntax.Scopes.{environment}
+use Rattle.occ_print.specs.occ_syntax.Tree.{Tree}
+use Rattle.occ_print.specs.occ_syntax.Usage.{Keeps}
 
 -- A step: the number of its law, where the name that it gives is that of one; the way in which the law is used; the path of a
 -- part; and the part that comes into its place, as it is read.

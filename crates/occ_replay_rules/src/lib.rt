@@ -1,34 +1,15 @@
-//! Derivations: what the steps of a script lead to, what their replay answers, and why it stops. Here are the definitions and
-//! their laws; the replay itself stands on them.
+//! What a derivation is, what the replay of a script answers, and what orders and expansions make of a program: the definitions, and their
+//! laws; there is no code.
 #![tactic(auto)]
 
-ghost use Rattle.std.specs.Prelude.{◌≡◌, ◌++◌, List};
-ghost use Rattle.occ_base.specs.declared.names.Name.{Name};
-ghost use Rattle.occ_replay_rules.specs.Replays.{IsDerivation, Replayed, Replays};
-ghost use Rattle.occ_replay_rules.specs.Steps.{Derives, Step};
-ghost use Rattle.occ_syntax.specs.Same.{SAME};
-ghost use Rattle.occ_syntax.specs.Scopes.{environment};
-ghost use Rattle.occ_syntax.specs.Tree.{Tree};
-ghost use Rattle.occ_syntax.specs.View.{tree};
-ghost use Rattle.occ_syntax.specs.declared.scope.Kind.{Kind};
-ghost use Rattle.occ_syntax.specs.declared.scope.Program.{Program};
+mod engine_laws;
+mod replay_laws;
 
-use occ_law_sound::laws_are_sound;
-
-/// A script has one answer: it is a derivation, or it has one refusal.
-pub fn scripts_have_one_answer()
-    ensures { (from to : Program) (steps : List Step) (a b : Replayed) → Replays from steps to a → Replays from steps to b → a ≡ b }
-{}
-
-/// A derivation joins two programs that mean the same.
-pub fn derivations_join_the_same()
-    ensures { (from to : Program) (steps : List Step) → IsDerivation from steps to
-        → SAME (environment from.params) (tree from.body) (tree to.body) }
-{
-    laws_are_sound();
-}
-
-/// Steps that go on from where others lead are, behind these, steps to where they lead.
-pub fn derivations_follow_each_other()
-    ensures { (S : List (Name × Kind)) (p q r : Tree) (steps more : List Step) → Derives S p steps q → Derives S q more r → Derives S p (steps ++ more) r }
-{}
+pub use engine_laws::{expansions_make_moves, moves_keep_the_meaning, orders_make_moves};
+pub use occ_law_sound::{laws_are_sound, names_are_distinct};
+pub use occ_parse_part::one_reading_of_a_part;
+pub use occ_print::one_form;
+pub use occ_script_lines::{Direction, Path, at, replace, scope_at};
+pub use replay_laws::{
+    derivations_follow_each_other, derivations_join_the_same, scripts_have_one_answer,
+};

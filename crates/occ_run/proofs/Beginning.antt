@@ -1,9 +1,9 @@
 -- Processes as they begin, one after another.
 use Rattle.std.proofs.Common.{◌≡◌, ◌-◌, ◌<◌, ◌≤◌, Bool, true, false, List, ◌∷◌, length, get_or, take, drop, if◌then◌else◌, Result, IfOk, sym, ap, subst, ◌∙◌, arith}
 use Rattle.std.proofs.lemmas.Bool.{and_parts}
-use Rattle.occ_base.specs.declared.memory.Memory.{Memory}
-use Rattle.occ_base.specs.declared.names.Name.{Name}
-use Rattle.occ_base.specs.declared.width.Width.{Width}
+use Rattle.occ_behaviour.specs.occ_base.declared.memory.Memory.{Memory}
+use Rattle.occ_behaviour.specs.occ_base.declared.names.Name.{Name}
+use Rattle.occ_behaviour.specs.occ_base.declared.width.Width.{Width}
 use Rattle.occ_syntax.specs.declared.expr.Expr.{Expr}
 use Rattle.occ_syntax.specs.declared.proc.Proc.{Proc}
 use Rattle.occ_syntax.specs.Scopes.{Environment, Values}
@@ -12,7 +12,7 @@ use Rattle.occ_syntax.specs.Types.{all_types_kept, cases_kept, is_condition, typ
 use Rattle.occ_syntax.specs.View.{cases, exp, tree, trees}
 use Rattle.occ_syntax.proofs.Weights.{weight, weight_of_all, weight_of_cases, weight_in_all, weight_in_cases}
 use Rattle.occ_syntax.specs.Eval.{is_true}
-use Rattle.occ_meaning.proofs.Facts.{and_three}
+use Rattle.occ_run_steps.proofs.from_meaning.Facts.{and_three}
 use Rattle.occ_run_steps.specs.Control.{Control as Left, after, is_done}
 use Rattle.occ_run_steps.specs.Settled.{begun, begun_choice, begun_turn, settled}
 use Rattle.occ_run.specs.declared.control.Control.{Control}

@@ -3,11 +3,11 @@ use Rattle.std.proofs.Common.{◌≡◌, ◌==◌, ℕ, None, List, [], ◌∷�
 use Rattle.std.specs.List.{filter}
 use Rattle.std.proofs.Common.{Result, Ok, Err, IfOk}
 use Rattle.occ_syntax.specs.Tree.{Trees}
-use Rattle.occ_base.specs.declared.names.Name.{Name}
-use Rattle.occ_base.specs.declared.width.Width.{Width}
+use Rattle.occ_behaviour.specs.occ_base.declared.names.Name.{Name}
+use Rattle.occ_behaviour.specs.occ_base.declared.width.Width.{Width}
 use Rattle.occ_syntax.specs.declared.scope.Kind.TheVariants.{Chan, Var}
 use Rattle.occ_syntax.specs.Scopes.{Environment, Values, with_name, with_value}
-use Rattle.occ_meaning.proofs.Facts.{value_at}
+use Rattle.occ_run_steps.proofs.from_meaning.Facts.{value_at}
 use Rattle.occ_run_steps.specs.Control.{Control, after, channel, local}
 use Rattle.occ_run_steps.specs.Step.{Step, changed, is_off, leaving, off, step, changes_but}
 use Rattle.occ_run_steps.specs.Steps.{within}

@@ -8,7 +8,7 @@ use Rattle.occ_run_steps.specs.Control.{Control}
 use Rattle.occ_run_steps.specs.Step.{Step, leaving}
 use Rattle.occ_run.specs.declared.effect.Offer.{Offer}
 use Rattle.occ_run.specs.Effects.{at_leaf, offered, seen_offers}
-pub use Rattle.occ_run_meetings.proofs.Fronts.{front_is, none_is}
+pub use Rattle.occ_run.proofs.MeetingFronts.{front_is, none_is}
 
 -- two first items of a list are the same
 pub same_first : {A : Type 0} (l : List A) (x y : A) → 0 < length l → x ≡ get_or l 0 x → y ≡ get_or l 0 y → x ≡ y

@@ -2,10 +2,10 @@
 use Rattle.std.proofs.Common.{◌≡◌, ◌^◌, ◌==◌, ◌&&◌, ℕ, true, false, nat_lt, List, [], ◌∷◌, Option, None, Some, is_none, inl, inr, refl, sym, ap, ◌∙◌, subst}
 use Rattle.std.proofs.lemmas.Bool.{and_from, and_parts, lt-ltb}
 use Rattle.std.proofs.lemmas.Bool.Decides.{eqb_tells}
-use Rattle.occ_meaning.proofs.Facts.{at_itself, if_false, if_true, false_not_true, none_not_some}
-use Rattle.occ_base.specs.declared.names.Name.{Name}
-use Rattle.occ_base.specs.declared.width.Width.{Width}
-use Rattle.occ_base.specs.Width.{bits_of}
+use Rattle.occ_run_steps.proofs.from_meaning.Facts.{at_itself, if_false, if_true, false_not_true, none_not_some}
+use Rattle.occ_behaviour.specs.occ_base.declared.names.Name.{Name}
+use Rattle.occ_behaviour.specs.occ_base.declared.width.Width.{Width}
+use Rattle.occ_behaviour.specs.occ_base.Width.{bits_of}
 use Rattle.occ_behaviour.specs.States.{is_state}
 use Rattle.occ_syntax.specs.declared.scope.Kind.{Kind}
 use Rattle.occ_syntax.specs.declared.scope.Kind.TheVariants.{Chan, Var}

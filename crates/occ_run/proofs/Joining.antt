@@ -4,28 +4,28 @@ use Rattle.std.proofs.lemmas.Bool.{and_parts}
 use Rattle.std.specs.List.{filter}
 use Rattle.std.specs.declared.rc.Rc.{Rc}
 use mathlib.Core.Path.{fun_ext}
-use Rattle.occ_base.specs.Event.{counterpart}
-use Rattle.occ_base.specs.declared.event.Event.{Event}
+use Rattle.occ_behaviour.specs.occ_base.Event.{counterpart}
+use Rattle.occ_behaviour.specs.occ_base.declared.event.Event.{Event}
 use Rattle.occ_syntax.specs.Scopes.{Environment, Values}
 use Rattle.occ_run_steps.specs.Control.{Control}
 use Rattle.occ_run_steps.specs.Kept.{all_types_held, types_held}
 use Rattle.occ_run_steps.specs.Step.{Step, answers, is_event, joint, leaving, same}
 use Rattle.occ_run.specs.declared.control.Control.{Control as TheControl}
 use Rattle.occ_run.specs.declared.effect.Offer.{Offer}
-use Rattle.occ_run_meetings.specs.declared.meeting.Met.{Met}
+use Rattle.occ_run.specs.declared.meeting.Met.{Met}
 use Rattle.occ_run.specs.Effects.{Effect, both_of, offered, pairs_of}
 use Rattle.occ_run.specs.declared.found.Found.{Found}
 use Rattle.occ_run.specs.declared.found.Found.TheVariants.{Step as Here, Past}
 use Rattle.occ_run.specs.Founds.{IsAt, asked, each_effects, effects}
-use Rattle.occ_run_meetings.specs.Runs.{IsMet, events}
+use Rattle.occ_run.specs.MeetingRuns.{IsMet, events}
 use Rattle.occ_run.specs.View.{control, controls}
-use Rattle.occ_run_meetings.proofs.Meetings.{and_true, answers_same, one_stands}
+use Rattle.occ_run.proofs.MeetingPairs.{and_true, answers_same, one_stands}
 use Rattle.occ_run.proofs.Meetings.{filter_events, met_is}
 use Rattle.occ_run.proofs.Pairing.{PairAt}
 use Rattle.occ_run.proofs.Sizes.{size, sizes}
 use Rattle.std.proofs.lemmas.Option.{slice_get_read}
-use Rattle.occ_base.specs.declared.names.Name.{Name}
-use Rattle.occ_base.specs.declared.width.Width.{Width}
+use Rattle.occ_behaviour.specs.occ_base.declared.names.Name.{Name}
+use Rattle.occ_behaviour.specs.occ_base.declared.width.Width.{Width}
 
 -- ---- one of controls at once
 

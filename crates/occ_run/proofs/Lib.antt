@@ -1,7 +1,7 @@
 pub mod Lists
 pub mod Channels
 pub mod Bodies
-pub mod Together
+pub mod RunTogether
 pub mod Sizes
 pub mod Rows
 pub mod Walks
@@ -24,3 +24,12 @@ pub mod Running
 pub mod Pairing
 pub mod Joining
 pub mod Holding
+pub mod MeetingFronts
+pub mod MeetingPairs
+pub mod Passing
+pub mod MeetingPairing
+pub mod Adding
+pub mod Tables
+pub mod Behind
+pub use Rattle.occ_run_steps.proofs.from_meaning as from_meaning
+pub use Rattle.occ_run_steps.proofs as from_run_steps

@@ -2,13 +2,13 @@
 use Rattle.std.proofs.Common.{◌≡◌, ◌+◌, ◌<◌, ◌++◌, ℕ, List, [], ◌∷◌, map, length, Some, refl, ap, sym, ◌∙◌, slice_get, zero, suc, subst, arith}
 use Rattle.std.proofs.lemmas.List.{length-map}
 use Rattle.occ_run_steps.specs.Step.{Step, leaving, meetings}
-use Rattle.occ_run_meetings.specs.declared.run.Run.{Run}
-use Rattle.occ_run_meetings.specs.declared.meeting.Met.{Met}
-use Rattle.occ_run_meetings.specs.declared.meeting.Pair.{Pair}
-use Rattle.occ_run_meetings.specs.declared.meeting.Pair.TheVariants.{At, Past}
-use Rattle.occ_run_meetings.specs.Pairs.{IsPair, MetFrom, pairs_before, pairs_until}
-use Rattle.occ_run_meetings.specs.Runs.{IsMet, events, met, pairs_along, pairs_among, run_pairs, spelled}
-use Rattle.occ_run_meetings.proofs.Meetings.{pairs_count}
+use Rattle.occ_run.specs.declared.run.Run.{Run}
+use Rattle.occ_run.specs.declared.meeting.Met.{Met}
+use Rattle.occ_run.specs.declared.meeting.Pair.{Pair}
+use Rattle.occ_run.specs.declared.meeting.Pair.TheVariants.{At, Past}
+use Rattle.occ_run.specs.Pairs.{IsPair, MetFrom, pairs_before, pairs_until}
+use Rattle.occ_run.specs.MeetingRuns.{IsMet, events, met, pairs_along, pairs_among, run_pairs, spelled}
+use Rattle.occ_run.proofs.MeetingPairs.{pairs_count}
 use Rattle.occ_run.specs.Effects.{Effect, both_of, pairs_of, pairs_with}
 use Rattle.occ_run.proofs.Founds.{get_behind, get_front}
 use Rattle.occ_run.proofs.Lists.{get_map}

@@ -6,16 +6,16 @@ use Rattle.std.proofs.lemmas.Bool.{lt-ltb, ltb-true}
 use Rattle.std.proofs.lemmas.Grind.{merely}
 use Rattle.occ_behaviour.specs.States.{is_state}
 use Rattle.occ_run.proofs.Holding.{holds_state}
-use Rattle.occ_run_laws.proofs.KeptSettled.{begun_kept}
+use Rattle.occ_run_steps.proofs.KeptSettled.{begun_kept}
 use Rattle.occ_run_steps.specs.Settled.{begun, settled}
 use Rattle.occ_syntax.specs.Tree.{Tree}
 use Rattle.occ_syntax.specs.Types.{types_kept}
 use Rattle.occ_syntax.specs.Usage.{Keeps}
-use Rattle.occ_base.specs.declared.names.Name.{Name}
+use Rattle.occ_behaviour.specs.occ_base.declared.names.Name.{Name}
 use Rattle.occ_syntax.specs.declared.scope.Kind.{Kind}
 use Rattle.occ_syntax.specs.Scopes.{IsState, Trace, Values, environment, values}
-use Rattle.occ_run_laws.proofs.Leading.{numbered_is, stepped_kept}
-use Rattle.occ_run_laws.proofs.StepKeeps.{step_keeps}
+use Rattle.occ_run_steps.proofs.Leading.{numbered_is, stepped_kept}
+use Rattle.occ_run_steps.proofs.StepKeeps.{step_keeps}
 use Rattle.occ_run_steps.specs.Control.{Control}
 use Rattle.occ_run_steps.specs.Kept.{Kept, types_held}
 use Rattle.occ_run_steps.specs.Leads.{stepped}

@@ -3,11 +3,11 @@ use Rattle.std.proofs.Common.{◌≡◌, ℕ, Bool, true, false, not, List, [], 
 use Rattle.std.specs.List.{filter, list_all, list_any}
 use Rattle.std.proofs.lemmas.Bool.{and_from, cases_Bool, or_left, or_parts, or_right}
 use mathlib.Core.Path.{fun_ext}
-use Rattle.occ_meaning.proofs.Facts.{event_itself, false_not_true, same_events}
-use Rattle.occ_meaning.proofs.Frame.{part_value, written_in_scope}
-use Rattle.occ_base.specs.declared.event.Event.{Event}
-use Rattle.occ_base.specs.declared.names.Name.{Name}
-use Rattle.occ_base.specs.declared.width.Width.{Width}
+use Rattle.occ_run_steps.proofs.from_meaning.Facts.{event_itself, false_not_true, same_events}
+use Rattle.occ_run_steps.proofs.from_meaning.Frame.{part_value, written_in_scope}
+use Rattle.occ_behaviour.specs.occ_base.declared.event.Event.{Event}
+use Rattle.occ_behaviour.specs.occ_base.declared.names.Name.{Name}
+use Rattle.occ_behaviour.specs.occ_base.declared.width.Width.{Width}
 use Rattle.occ_behaviour.specs.States.{is_state}
 use Rattle.occ_run.proofs.Holding.{holds_state}
 use Rattle.occ_syntax.specs.Meaning.{ended, ends, fails, meaning, refusing}
@@ -16,9 +16,9 @@ use Rattle.occ_syntax.specs.Scopes.{Environment, IsState, Values, among, environ
 use Rattle.occ_syntax.specs.View.{tree}
 use Rattle.occ_syntax.specs.declared.scope.Program.{Program}
 use Rattle.occ_usage.specs.Accepted.{IsAccepted}
-use Rattle.occ_run_laws.proofs.Complete.{program_does, program_trace}
-use Rattle.occ_run_laws.proofs.Leading.{leads_keeps}
-use Rattle.occ_run_laws.proofs.KeptSettled.{begun_kept}
+use Rattle.occ_run_steps.proofs.Complete.{program_does, program_trace}
+use Rattle.occ_run_steps.proofs.Leading.{leads_keeps}
+use Rattle.occ_run_steps.proofs.KeptSettled.{begun_kept}
 use Rattle.occ_run_steps.specs.Control.{Control, done, unbegun, after, both, local, channel, is_done}
 use Rattle.occ_run_steps.specs.Leads.{refuses, start}
 use Rattle.occ_run_steps.specs.Step.{Step, is_event, is_outside, is_unseen, not_seen, outside, same}

@@ -2,7 +2,7 @@ ghost use Rattle.std.specs.Prelude.{◌≡◌};
 ghost use Rattle.occ_run_steps.specs.Control.{is_done};
 ghost use Rattle.occ_run.specs.View.{control as left};
 
-use occ_base::{Name, Width};
+use occ_behaviour::{Name, Width};
 use occ_syntax::{Expr, Proc};
 use std::rc::Rc;
 

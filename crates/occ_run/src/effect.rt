@@ -1,7 +1,7 @@
 ghost use Rattle.std.specs.Prelude.{◌≡◌, IfOk};
 ghost use Rattle.occ_run.specs.Effects.{offered};
 
-use occ_base::{Event, Memory, Name, Width};
+use occ_behaviour::{Event, Memory, Name, Width};
 use occ_syntax::Proc;
 use std::alloc::Global;
 use std::rc::Rc;

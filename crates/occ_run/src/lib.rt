@@ -8,15 +8,19 @@ mod effect;
 mod found;
 mod law;
 mod machine;
+mod meeting;
 mod moving;
 mod number;
 mod offers;
 mod pairs;
 mod place;
+mod run;
 mod runs;
 mod settle;
 mod stand;
 mod stepping;
+mod table;
+mod together;
 mod within;
 
 pub use answer::{Move, Stand, StepFault};
@@ -27,9 +31,18 @@ pub use law::{
     what_is_seen_is_a_trace_of_the_program,
 };
 pub use machine::{Machine, Point};
+pub use meeting::{Met, Pair, pair_at};
+pub use occ_behaviour::{
+    Behaviour, Event, Events, Last, List, Memory, Name, Names, Side, State, Verdict, Width,
+    behaviour_text, interface_bits, push_event, push_state, verdict_text,
+};
+pub use occ_run_steps::events_are_of_the_interface;
+pub use occ_usage::Accepted;
 pub use offers::process_offers;
 pub use pairs::{add_alone, is_same};
 pub use place::Place;
+pub use run::Run;
 pub use stand::held;
 pub use stepping::start;
+pub use together::both_runs;
 pub use within::{of_variable, off_channels};

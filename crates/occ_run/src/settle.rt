@@ -11,13 +11,13 @@ ghost use Rattle.occ_run.specs.View.{connecting, control as left, controls, roun
 
 use crate::control::{Control, is_over};
 use crate::place::Place;
-use occ_base::{Memory, Name, Width};
+use occ_behaviour::{Memory, Name, Width};
 use occ_syntax::{Expr, Proc};
 use std::alloc::Global;
 use std::rc::Rc;
 
 /// What a process comes to as it begins.
-#[tactic(auto, unfolding(occ_syntax::specs::View::tree))]
+#[tactic(auto, unfolding(crate::specs::tree))]
 #[cycle(begun)]
 pub(crate) fn begun<'a>(place: &Place, part: &'a Proc) -> Result<Control<'a>, Memory>
     requires { types_kept (tree part.now) (names_at place.now) ≡ true }

@@ -6,17 +6,17 @@ ghost use Rattle.occ_syntax.specs.Types.{is_width, width_of_kind};
 ghost use Rattle.occ_run.specs.Machines.{configuration};
 ghost use Rattle.occ_run.specs.Places.{values_at};
 ghost use Rattle.occ_run.specs.Runs.{unheard};
-ghost use Rattle.occ_run_meetings.specs.Runs.{has, spelled};
+ghost use Rattle.occ_run.specs.MeetingRuns.{has, spelled};
 ghost use Rattle.occ_run.specs.Stands.{IsStand, events_below, interface, kind_events, state_of as state_in};
 
+use crate::Run;
 use crate::answer::Stand;
 use crate::control::is_over;
 use crate::machine::Machine;
 use crate::offers::size_of;
 use crate::place::Place;
 use crate::stepping::moves_in;
-use occ_base::{Dir, Event, Events, Memory, Name, State};
-use occ_run_meetings::Run;
+use occ_behaviour::{Dir, Event, Events, Memory, Name, State};
 use occ_syntax::Kind;
 use std::alloc::Global;
 

@@ -1,1 +1,22 @@
 pub mod Settling
+pub mod Moves
+pub mod Changes
+pub mod Two
+pub mod Ahead
+pub mod OffChannel
+pub mod Held
+pub mod Same
+pub mod SettledMeans
+pub mod Ignoring
+pub mod Lists
+pub mod Less
+pub mod KeptSettled
+pub mod StepKeeps
+pub mod Alternatives
+pub mod Waiting
+pub mod Stepping
+pub mod Whole
+pub mod Leading
+pub mod Work
+pub mod Complete
+pub use Rattle.occ_meaning.proofs as from_meaning

@@ -1,11 +1,11 @@
 -- Settling ends, and does nothing twice.
-use Rattle.occ_base.specs.declared.width.Width.{Width}
+use Rattle.occ_meaning.specs.occ_base.declared.width.Width.{Width}
 use Rattle.occ_run_steps.specs.Control.{Control, Controls, after, all_done, and_control, both, channel, done, is_done, local, no_control, unbegun}
 use Rattle.occ_run_steps.specs.Settled.{all_are_settled, all_settled, begun, begun_all, begun_choice, begun_turn, in_channel, in_variable, is_settled, settled, side_by_side, then_turn, waits}
-use Rattle.occ_syntax.specs.Eval.{is_true}
-use Rattle.occ_syntax.specs.Scopes.{Environment, Values, with_name, with_value}
-use Rattle.occ_syntax.specs.Tree.{Cases, Tree, Trees, alt, and_case, and_tree, assign, connect, declare, no_case, no_tree, par, receive, select, send, seq, skip, stop}
-use Rattle.occ_syntax.specs.declared.scope.Kind.TheVariants.{Chan, Var}
+use Rattle.occ_meaning.specs.occ_syntax.Eval.{is_true}
+use Rattle.occ_meaning.specs.occ_syntax.Scopes.{Environment, Values, with_name, with_value}
+use Rattle.occ_meaning.specs.occ_syntax.Tree.{Cases, Tree, Trees, alt, and_case, and_tree, assign, connect, declare, no_case, no_tree, par, receive, select, send, seq, skip, stop}
+use Rattle.occ_meaning.specs.occ_syntax.declared.scope.Kind.TheVariants.{Chan, Var}
 use Rattle.std.proofs.Common.{Bool, None, ap, false, if◌then◌else◌, not, refl, true, ℕ, ◌∙◌, ◌≡◌}
 use Rattle.std.proofs.lemmas.Bool.{and_from, and_parts, false≢true}
 

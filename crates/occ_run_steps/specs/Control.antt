@@ -1,8 +1,8 @@
 -- What is left to be done of a program that is stepped by hand: its control tree. After Plotkin, "A Structural Approach
 -- to Operational Semantics" (1981): a program goes on by small steps, each of which leaves a smaller control.
 use Rattle.std.specs.Prelude.{ℕ, Bool, true, false, ◌&&◌}
-use Rattle.occ_base.specs.declared.width.Width.{Width}
-use Rattle.occ_syntax.specs.Tree.{Tree, Trees}
+use Rattle.occ_meaning.specs.occ_base.declared.width.Width.{Width}
+use Rattle.occ_meaning.specs.occ_syntax.Tree.{Tree, Trees}
 
 -- Nothing; a process that isn't begun; one control and then processes in turn; controls at once; the body of a VAR, with
 -- the variable's width and present value; the body of a CHAN, with the channel's width.

@@ -1,13 +1,13 @@
 -- What a control tree of a program that keeps the rules keeps: names, types and directions, and the usage rule of
 -- controls that stand at once.
 use Rattle.std.specs.Prelude.{ℕ, ◌≡◌, ◌==◌, ◌^◌, Bool, true, false, not, ◌&&◌, ◌||◌, nat_lt, None}
-use Rattle.occ_base.specs.declared.event.Dir.{Dir}
-use Rattle.occ_base.specs.Width.{bits_of}
-use Rattle.occ_syntax.specs.declared.scope.Kind.TheVariants.{Var, Chan}
-use Rattle.occ_syntax.specs.Scopes.{Environment, with_name}
-use Rattle.occ_syntax.specs.Types.{types_kept, all_types_kept, can_declare}
-use Rattle.occ_syntax.specs.Names.{free, free_in_some, written, written_in_some, uses_end, end_in_some}
-use Rattle.occ_syntax.specs.Usage.{KeepsUsage, AllKeepUsage}
+use Rattle.occ_meaning.specs.occ_base.declared.event.Dir.{Dir}
+use Rattle.occ_meaning.specs.occ_base.Width.{bits_of}
+use Rattle.occ_meaning.specs.occ_syntax.declared.scope.Kind.TheVariants.{Var, Chan}
+use Rattle.occ_meaning.specs.occ_syntax.Scopes.{Environment, with_name}
+use Rattle.occ_meaning.specs.occ_syntax.Types.{types_kept, all_types_kept, can_declare}
+use Rattle.occ_meaning.specs.occ_syntax.Names.{free, free_in_some, written, written_in_some, uses_end, end_in_some}
+use Rattle.occ_meaning.specs.occ_syntax.Usage.{KeepsUsage, AllKeepUsage}
 use Rattle.occ_run_steps.specs.Control.{Control, done, unbegun, after, both, local, channel, Controls, no_control, and_control}
 
 -- whether a name stands free in what is left

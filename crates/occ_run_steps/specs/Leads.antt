@@ -1,8 +1,8 @@
 -- Where a schedule leads: the numbers of steps, each taken in turn from where the one before it led.
 use Rattle.std.specs.Prelude.{ℕ, ◌≡◌, Bool, not, ◌&&◌, Some, List, [], ◌∷◌, slice_get}
 use Rattle.std.specs.List.{list_all}
-use Rattle.occ_syntax.specs.Tree.{Tree}
-use Rattle.occ_syntax.specs.Scopes.{Environment, Values, Trace, EventSet}
+use Rattle.occ_meaning.specs.occ_syntax.Tree.{Tree}
+use Rattle.occ_meaning.specs.occ_syntax.Scopes.{Environment, Values, Trace, EventSet}
 use Rattle.occ_run_steps.specs.Control.{Control, unbegun, is_done}
 use Rattle.occ_run_steps.specs.Settled.{settled}
 use Rattle.occ_run_steps.specs.Step.{Step, changed, is_outside, seen}

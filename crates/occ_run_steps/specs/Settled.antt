@@ -1,10 +1,10 @@
 -- What a control tree comes to without any step: whatever is over is left behind, and whatever can begin begins.
 use Rattle.std.specs.Prelude.{ℕ, Bool, true, false, not, ◌&&◌, None, if◌then◌else◌}
-use Rattle.occ_base.specs.declared.width.Width.{Width}
-use Rattle.occ_syntax.specs.declared.scope.Kind.TheVariants.{Var, Chan}
-use Rattle.occ_syntax.specs.Tree.{truth, input, output, Tree, skip, stop, assign, receive, send, seq, par, select, alt, declare, connect, Trees, no_tree, and_tree, Cases, no_case, and_case, no_branch, and_branch}
-use Rattle.occ_syntax.specs.Scopes.{Environment, Values, with_name, with_value}
-use Rattle.occ_syntax.specs.Eval.{is_true}
+use Rattle.occ_meaning.specs.occ_base.declared.width.Width.{Width}
+use Rattle.occ_meaning.specs.occ_syntax.declared.scope.Kind.TheVariants.{Var, Chan}
+use Rattle.occ_meaning.specs.occ_syntax.Tree.{truth, input, output, Tree, skip, stop, assign, receive, send, seq, par, select, alt, declare, connect, Trees, no_tree, and_tree, Cases, no_case, and_case, no_branch, and_branch}
+use Rattle.occ_meaning.specs.occ_syntax.Scopes.{Environment, Values, with_name, with_value}
+use Rattle.occ_meaning.specs.occ_syntax.Eval.{is_true}
 use Rattle.occ_run_steps.specs.Control.{Control, done, unbegun, after, both, local, channel, Controls, no_control, and_control, is_done, all_done}
 
 -- one control and then processes, which themselves come to `next` once the control is done

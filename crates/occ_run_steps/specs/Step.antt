@@ -1,9 +1,9 @@
 -- A single step: what is seen of it, which variables it changes, and what it leaves, which isn't settled yet.
 use Rattle.std.specs.Prelude.{ℕ, ◌==◌, Bool, true, false, not, List, [], ◌∷◌, ◌++◌, map, Option, None, Some}
 use Rattle.std.specs.List.{filter, flat_map}
-use Rattle.occ_base.specs.Event.{counterpart}
-use Rattle.occ_base.specs.declared.event.Event.{Event}
-use Rattle.occ_syntax.specs.Scopes.{Values, Trace, EventSet, same_event, with_value}
+use Rattle.occ_meaning.specs.occ_base.Event.{counterpart}
+use Rattle.occ_meaning.specs.occ_base.declared.event.Event.{Event}
+use Rattle.occ_meaning.specs.occ_syntax.Scopes.{Values, Trace, EventSet, same_event, with_value}
 
 -- Its event, if it is seen; the new values of variables, each with its number; what is left.
 pub record Step (A : Type 0) : Type 0 where

@@ -1,13 +1,13 @@
 -- The steps of a settled control tree, in their order.
 use Rattle.std.specs.Prelude.{ℕ, ◌^◌, List, [], ◌∷◌, ◌++◌, map, Option, None, Some, if◌then◌else◌}
 use Rattle.std.specs.List.{filter, range_with_len}
-use Rattle.occ_base.specs.declared.event.Dir.TheVariants.{Input, Output}
-use Rattle.occ_base.specs.declared.width.Width.{Width}
-use Rattle.occ_base.specs.Width.{bits_of}
-use Rattle.occ_syntax.specs.declared.scope.Kind.TheVariants.{Var, Chan}
-use Rattle.occ_syntax.specs.Tree.{Exp, Waiting, ready, input, output, Tree, skip, stop, assign, receive, send, seq, par, select, alt, declare, connect, Branches, no_branch, and_branch}
-use Rattle.occ_syntax.specs.Scopes.{Environment, Values, with_name, with_value, channel_width}
-use Rattle.occ_syntax.specs.Eval.{eval, is_true}
+use Rattle.occ_meaning.specs.occ_base.declared.event.Dir.TheVariants.{Input, Output}
+use Rattle.occ_meaning.specs.occ_base.declared.width.Width.{Width}
+use Rattle.occ_meaning.specs.occ_base.Width.{bits_of}
+use Rattle.occ_meaning.specs.occ_syntax.declared.scope.Kind.TheVariants.{Var, Chan}
+use Rattle.occ_meaning.specs.occ_syntax.Tree.{Exp, Waiting, ready, input, output, Tree, skip, stop, assign, receive, send, seq, par, select, alt, declare, connect, Branches, no_branch, and_branch}
+use Rattle.occ_meaning.specs.occ_syntax.Scopes.{Environment, Values, with_name, with_value, channel_width}
+use Rattle.occ_meaning.specs.occ_syntax.Eval.{eval, is_true}
 use Rattle.occ_run_steps.specs.Control.{Control, done, unbegun, after, both, local, channel, Controls, no_control, and_control}
 use Rattle.occ_run_steps.specs.Step.{Step, step, changed, changes_but, leaving, is_off, meetings}
 

@@ -2,7 +2,7 @@
 
 ghost use Rattle.occ_run_steps.specs.Control.{Control};
 ghost use Rattle.occ_run_steps.specs.Settled.{is_settled, settled};
-ghost use Rattle.occ_syntax.specs.Scopes.{Environment, Values};
+ghost use Rattle.occ_meaning.specs.occ_syntax.Scopes.{Environment, Values};
 ghost use Rattle.std.specs.Prelude.{true, ◌≡◌};
 
 /// What a control tree comes to has nothing left to settle.

@@ -1,7 +1,14 @@
 //! How a program goes on by single steps, as definitions alone: control trees, what they come to without a step, their
 //! steps in order, and where a schedule of steps leads. They share nothing with the meaning of processes.
+//! What single steps of a program have to do with its meaning: a control tree is given one, and a step says what it does.
 #![tactic(auto)]
 
 mod law;
+mod run_laws;
 
 pub use law::{what_is_settled_is_settled, what_is_settled_stays};
+pub use occ_meaning::events_are_of_the_interface;
+pub use run_laws::{
+    programs_do_what_schedules_reach, schedules_are_bounded, schedules_have_traces_of_the_program,
+    settling_keeps_the_meaning, steps_are_complete, steps_are_sound,
+};

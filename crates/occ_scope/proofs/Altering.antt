@@ -1,14 +1,14 @@
 use Rattle.std.proofs.Common.{◌≡◌, ◌<◌, ◌≤◌, ◌^◌, ◌&&◌, ℕ, Bool, true, false, not, cond, List, [], ◌∷◌, Option, Some, None, length, get_or, is_some, refl, sym, ap, ◌∙◌, subst, ⊎_elim, arith}
 use Rattle.std.proofs.lemmas.Bool.{and_parts, or_parts, both_ways, cases_Bool, false≢true}
 use Rattle.std.specs.List.{list_all, filter}
-use Rattle.occ_base.specs.declared.event.Event.{Event}
-use Rattle.occ_base.specs.declared.names.Name.{Name}
-use Rattle.occ_diagram.specs.Memo.{recalled, Learns}
-use Rattle.occ_diagram.specs.declared.memo.Call.{Call}
-use Rattle.occ_diagram.specs.declared.memo.Memo.{Memo}
-use Rattle.occ_dd.specs.Store.{IsSet, has}
-use Rattle.occ_dd.specs.declared.set.SetId.{SetId}
-use Rattle.occ_accept.specs.Accept.{in_some, is_on, misses, refuses}
+use Rattle.occ_node.specs.occ_base.declared.event.Event.{Event}
+use Rattle.occ_node.specs.occ_base.declared.names.Name.{Name}
+use Rattle.occ_node.specs.occ_dd.Memo.{recalled, Learns}
+use Rattle.occ_node.specs.occ_dd.declared.memo.Call.{Call}
+use Rattle.occ_node.specs.occ_dd.declared.memo.Memo.{Memo}
+use Rattle.occ_node.specs.occ_dd.Store.{IsSet, has}
+use Rattle.occ_node.specs.occ_dd.declared.set.SetId.{SetId}
+use Rattle.occ_node.specs.occ_accept.Accept.{in_some, is_on, misses, refuses}
 use Rattle.occ_node.specs.Offers.{next_in, is_offered, are_below}
 use Rattle.occ_node.specs.Rows.{goes_on}
 use Rattle.occ_node.specs.World.{IsNode, nodes_of, row_of, fails, ends, Leads, IsFit, IsMade}

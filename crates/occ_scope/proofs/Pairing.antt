@@ -4,11 +4,11 @@ use Rattle.std.proofs.lemmas.List.{take_more, take_all}
 use Rattle.std.specs.List.{list_all, filter}
 use Rattle.std.specs.Cmp.{on_total}
 use Rattle.std.specs.Ordering.{is_lt, eq_by_cmp}
-use Rattle.occ_base.specs.declared.event.Dir.TheVariants.{Input}
-use Rattle.occ_base.specs.declared.event.Event.{Event}
-use Rattle.occ_accept.specs.Order.{event_cmp, strict}
-use Rattle.occ_accept.proofs.Strict.{all_filter, strict_filter, tied_same}
-use Rattle.occ_accept.proofs.Events.{cmp_total, event_exact}
+use Rattle.occ_node.specs.occ_base.declared.event.Dir.TheVariants.{Input}
+use Rattle.occ_node.specs.occ_base.declared.event.Event.{Event}
+use Rattle.occ_node.specs.occ_accept.Order.{event_cmp, strict}
+use Rattle.occ_node.proofs.from_accept.Strict.{all_filter, strict_filter, tied_same}
+use Rattle.occ_node.proofs.from_accept.Events.{cmp_total, event_exact}
 use Rattle.occ_node.specs.Offers.{offer_cmp, next_in, is_offered, are_below}
 use Rattle.occ_node.specs.declared.node.NodeId.{NodeId}
 use Rattle.occ_scope.specs.Paired.{Paired}

@@ -4,11 +4,11 @@ use Rattle.std.specs.Int.{bit_at}
 use Rattle.std.proofs.lemmas.Bool.{or_cases, or_left, or_right, cases_eq}
 use Rattle.std.proofs.lemmas.Nat.{xor_lt}
 use Rattle.std.proofs.lemmas.Nat.Bits.{bit_at-lt, bit_at_xor, same_from_bits_below}
-use Rattle.occ_diagram.specs.Assignment.{turned, with_bit}
-use Rattle.occ_diagram.proofs.Bits.{bit_cases, is_one, is_zero, bit_at-turned_same, bit_at-turned_other, bit_at-with_bit_same, bit_at-with_bit_other, turned_lt, with_bit_lt, with_bit_same}
-use Rattle.occ_dd.specs.Store.{IsKnown, IsSet, has}
-use Rattle.occ_dd.specs.declared.set.SetId.{SetId}
-use Rattle.occ_dd.specs.declared.store.Store.{Store}
+use Rattle.occ_node.specs.occ_dd.Assignment.{turned, with_bit}
+use Rattle.occ_node.proofs.from_dd.Bits.{bit_cases, is_one, is_zero, bit_at-turned_same, bit_at-turned_other, bit_at-with_bit_same, bit_at-with_bit_other, turned_lt, with_bit_lt, with_bit_same}
+use Rattle.occ_node.specs.occ_dd.Store.{IsKnown, IsSet, has}
+use Rattle.occ_node.specs.occ_dd.declared.set.SetId.{SetId}
+use Rattle.occ_node.specs.occ_dd.declared.store.Store.{Store}
 use Rattle.occ_scope.specs.Bits.{turned_below, passes_freed}
 
 -- ---- one bit more

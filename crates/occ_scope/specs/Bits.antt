@@ -1,6 +1,6 @@
 use Rattle.std.specs.Prelude.{ℕ, zero, suc, ◌==◌, ◌||◌, Bool, if◌then◌else◌}
 use Rattle.std.specs.Int.{bit_at}
-use Rattle.occ_diagram.specs.Assignment.{turned, with_bit}
+use Rattle.occ_node.specs.occ_dd.Assignment.{turned, with_bit}
 
 -- x with those bits of `change` turned that are below n
 unfoldable pub turned_below : ℕ → ℕ → ℕ → ℕ

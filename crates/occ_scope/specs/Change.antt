@@ -1,9 +1,9 @@
 use Rattle.std.specs.Prelude.{ℕ, ◌≡◌, ◌&&◌, Bool, true, List, Some}
 use Rattle.std.specs.List.{list_all}
-use Rattle.occ_base.specs.declared.event.Event.{Event}
-use Rattle.occ_diagram.specs.Memo.{recalled}
-use Rattle.occ_diagram.specs.declared.memo.Call.{Call}
-use Rattle.occ_diagram.specs.declared.memo.Memo.{Memo}
+use Rattle.occ_node.specs.occ_base.declared.event.Event.{Event}
+use Rattle.occ_node.specs.occ_dd.Memo.{recalled}
+use Rattle.occ_node.specs.occ_dd.declared.memo.Call.{Call}
+use Rattle.occ_node.specs.occ_dd.declared.memo.Memo.{Memo}
 use Rattle.occ_node.specs.World.{IsNode, fails, ends}
 use Rattle.occ_node.specs.declared.node.NodeId.{NodeId}
 use Rattle.occ_node.specs.declared.world.World.{World}

@@ -1,5 +1,5 @@
 use Rattle.std.specs.Prelude.{◌≡◌, List, [], ◌∷◌}
-use Rattle.occ_base.specs.declared.event.Event.{Event}
+use Rattle.occ_node.specs.occ_base.declared.event.Event.{Event}
 use Rattle.occ_node.specs.declared.node.NodeId.{NodeId}
 
 -- offers of the same events, one after the other, whose nodes stand in a relation

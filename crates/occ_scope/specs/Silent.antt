@@ -1,8 +1,8 @@
 use Rattle.std.specs.Prelude.{Bool, not, List}
 use Rattle.std.specs.List.{list_all}
-use Rattle.occ_base.specs.declared.event.Event.{Event}
-use Rattle.occ_base.specs.declared.names.Name.{Name}
-use Rattle.occ_accept.specs.Accept.{is_on}
+use Rattle.occ_node.specs.occ_base.declared.event.Event.{Event}
+use Rattle.occ_node.specs.occ_base.declared.names.Name.{Name}
+use Rattle.occ_node.specs.occ_accept.Accept.{is_on}
 
 -- the event is on another channel
 abbrev pub is_off : Name → Event → Bool

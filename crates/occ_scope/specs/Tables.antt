@@ -1,5 +1,5 @@
 use Rattle.std.specs.Prelude.{ℕ}
-use Rattle.occ_base.specs.declared.names.Name.{Name}
+use Rattle.occ_node.specs.occ_base.declared.names.Name.{Name}
 use Rattle.occ_node.specs.declared.world.World.{World}
 use Rattle.occ_scope.specs.Change.{AreChanged}
 use Rattle.occ_scope.specs.declared.change.Change.TheVariants.{Restrict, Forget, Shift}

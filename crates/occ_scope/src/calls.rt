@@ -6,8 +6,7 @@ ghost use Rattle.occ_scope.specs.Tables.{KeepForgotten, KeepRestricted, KeepShif
 use crate::change::Change;
 use crate::changing::node_after;
 use crate::{Forgets, Restricts, Shifts};
-use occ_base::{Memory, Name};
-use occ_node::{NodeId, World};
+use occ_node::{Memory, Name, NodeId, World};
 use std::alloc::Global;
 
 /// The node that has those behaviours of a node that have no event of the channel, as where a channel is

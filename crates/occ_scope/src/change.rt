@@ -1,16 +1,13 @@
 ghost use Rattle.std.specs.Prelude.{ℕ, ◌≡◌, ◌<◌, ◌^◌, ◌&&◌, Bool, true, IfOk};
 ghost use Rattle.std.specs.List.{filter};
-ghost use Rattle.occ_accept.specs.Accept.{in_some, refuses};
-ghost use Rattle.occ_base.specs.declared.event.Event.{Event};
-ghost use Rattle.occ_dd.specs.Store.{IsKnown, IsSet, Keeps, has};
+ghost use Rattle.occ_node.specs.occ_accept.Accept.{in_some, refuses};
+ghost use Rattle.occ_node.specs.occ_base.declared.event.Event.{Event};
+ghost use Rattle.occ_node.specs.occ_dd.Store.{IsKnown, IsSet, Keeps, has};
 ghost use Rattle.occ_node.specs.World.{IsNode, row_of};
 ghost use Rattle.occ_scope.specs.Change.{stays, ends_after, number_of};
 
 use crate::bits::{free, turn};
-use occ_accept::{Antichain, without};
-use occ_base::{Event, Memory, Name};
-use occ_dd::{SetId, Store};
-use occ_node::{NodeId, World};
+use occ_node::{Antichain, Event, Memory, Name, NodeId, SetId, Store, World, without};
 use std::alloc::Global;
 
 /// What is done to a node's behaviours.

@@ -5,9 +5,7 @@ ghost use Rattle.occ_scope.specs.Change.{AreChanged, IsChanged, stays};
 ghost use Rattle.occ_scope.specs.Paired.{Paired};
 
 use crate::change::{Change, change_ends, number, open_offers, open_sets};
-use occ_base::Memory;
-use occ_diagram::{Call, Memo};
-use occ_node::{NodeId, Offers, Row, World};
+use occ_node::{Call, Memo, Memory, NodeId, Offers, Row, World};
 use std::alloc::Global;
 
 // The node after a change, of its offers.

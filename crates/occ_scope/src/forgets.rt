@@ -1,7 +1,7 @@
 ghost use Rattle.std.specs.Prelude.{◌≡◌};
 ghost use Rattle.occ_node.specs.declared.world.World.{World};
 
-use occ_diagram::Memo;
+use occ_node::Memo;
 use std::alloc::Global;
 
 /// The nodes with some bits forgotten that were made, by the nodes of which they are: a table that can

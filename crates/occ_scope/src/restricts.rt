@@ -1,8 +1,7 @@
 ghost use Rattle.std.specs.Prelude.{◌≡◌};
 ghost use Rattle.occ_node.specs.declared.world.World.{World};
 
-use occ_base::Name;
-use occ_diagram::Memo;
+use occ_node::{Memo, Name};
 use std::alloc::Global;
 
 /// The nodes without the events of one channel that were made, by the nodes of which they are: a table

@@ -1,6 +1,6 @@
 ghost use Rattle.occ_node.specs.declared.world.World.{World};
 
-use occ_diagram::Memo;
+use occ_node::Memo;
 use std::alloc::Global;
 
 /// The nodes with bits turned that were made, by the nodes of which they are and by the bits: a table that

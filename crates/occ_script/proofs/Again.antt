@@ -4,16 +4,16 @@ use Rattle.std.specs.List.{position_or_len}
 use Rattle.std.specs.Str.{bytes_eq}
 use Rattle.std.proofs.lemmas.Slice.Eq.{bytes_eq-Decides}
 use Rattle.std.proofs.lemmas.Bool.{cases_lt}
-use Rattle.occ_base.specs.Names.{place_of, with_text}
-use Rattle.occ_base.proofs.Naming.{place-le, with_new, with_there}
-use Rattle.occ_lex.specs.declared.token.Line.{Line}
-use Rattle.occ_lex.specs.declared.token.Token.{Token}
-use Rattle.occ_lex.specs.declared.token.TokenKind.{TokenKind}
-use Rattle.occ_lex.specs.declared.token.TokenKind.TheVariants as kind
-use Rattle.occ_lex.specs.Token.{text_of}
-use Rattle.occ_lex_symbols.specs.declared.symbol.Symbol.TheVariants as symbol
-use Rattle.occ_lex_symbols.specs.Symbols.{Extends, names_with, rows_of, symbol_of, symbols_of, with_names, with_names_of_all}
-use Rattle.occ_lex_symbols.proofs.Interned.{extends_all, extends_names, extends_trans}
+use Rattle.occ_script_lines.specs.occ_base.Names.{place_of, with_text}
+use Rattle.occ_script_lines.proofs.from_base.Naming.{place-le, with_new, with_there}
+use Rattle.occ_script_lines.specs.occ_lex.declared.token.Line.{Line}
+use Rattle.occ_script_lines.specs.occ_lex.declared.token.Token.{Token}
+use Rattle.occ_script_lines.specs.occ_lex.declared.token.TokenKind.{TokenKind}
+use Rattle.occ_script_lines.specs.occ_lex.declared.token.TokenKind.TheVariants as kind
+use Rattle.occ_script_lines.specs.occ_lex.Token.{text_of}
+use Rattle.occ_script_lines.specs.occ_lex.declared.symbol.Symbol.TheVariants as symbol
+use Rattle.occ_script_lines.specs.occ_lex.Symbols.{Extends, names_with, rows_of, symbol_of, symbols_of, with_names, with_names_of_all}
+use Rattle.occ_script_lines.proofs.from_lex.Interned.{extends_all, extends_names, extends_trans}
 
 -- a place in front of others
 place_front : (p : List ℕ → Bool) (xs ys : List (List ℕ)) → position_or_len p xs < length xs → position_or_len p (xs ++ ys) ≡ position_or_len p xs

@@ -1,7 +1,7 @@
 -- A script has fewer steps than its text has bytes, and so are orders fewer.
 use Rattle.std.proofs.Common.{◌≡◌, ℕ, ◌+◌, ◌<◌, ◌≤◌, Bool, true, false, cond, eqb, List, [], ◌∷◌, ◌++◌, length, ap, arith}
 use Rattle.std.proofs.lemmas.Bool.{ltb-false}
-use Rattle.occ_lex.specs.Rows.{in_front, rows}
+use Rattle.occ_script_lines.specs.occ_lex.Rows.{in_front, rows}
 use Rattle.occ_script.specs.declared.script.Order.{Order}
 use Rattle.occ_script.specs.declared.script.Step.{Step}
 use Rattle.occ_script.specs.Orders.{AreOrders, and_order, no_order}

@@ -1,10 +1,10 @@
 -- Names that have texts in a table have them in a longer one.
 use Rattle.std.proofs.Common.{◌≡◌, ℕ, ◌≤◌, true, List, [], ◌∷◌, length, refl, arith}
 use Rattle.std.proofs.lemmas.Bool.{and_from, and_parts, lt-ltb, ltb-true}
-use Rattle.occ_base.specs.declared.names.Name.{Name}
-use Rattle.occ_lex_symbols.specs.Symbols.{Extends}
-use Rattle.occ_lex_symbols.proofs.Interned.{longer}
-use Rattle.occ_parse.specs.Known.{NamesAreKnown, all_declare, branches_declare, cases_declare, declares, is_below, params_declare}
+use Rattle.occ_script_lines.specs.occ_base.declared.names.Name.{Name}
+use Rattle.occ_script_lines.specs.occ_lex.Symbols.{Extends}
+use Rattle.occ_script_lines.proofs.from_lex.Interned.{longer}
+use Rattle.occ_parse_part.specs.occ_parse.Known.{NamesAreKnown, all_declare, branches_declare, cases_declare, declares, is_below, params_declare}
 use Rattle.occ_syntax.specs.declared.scope.Kind.{Kind}
 use Rattle.occ_syntax.specs.declared.scope.Program.{Program}
 use Rattle.occ_syntax.specs.Tree.{Branches, Cases, Tree, Trees, alt, and_branch, and_case, and_tree, assign, connect, declare, no_branch, no_case, no_tree, par, receive, select, send, seq, skip, stop}

@@ -4,26 +4,26 @@ use Rattle.std.specs.Prelude.{MatchOption, is_some}
 use Rattle.std.specs.List.{AllByRecursion}
 use Rattle.std.proofs.lemmas.Bool.{eqb-true, eqb-false}
 use Rattle.std.proofs.lemmas.List.{drop_more, take-append-drop}
-use Rattle.occ_lex.specs.declared.fault.LineFault.{LineFault}
-use Rattle.occ_lex.specs.declared.token.Line.{Line}
-use Rattle.occ_lex.specs.Placed.{IsLineOf}
-use Rattle.occ_lex_symbols.specs.declared.symbol.Row.{Row}
-use Rattle.occ_lex_symbols.specs.Symbols.{rows_of, with_names_of_all}
-use Rattle.occ_lex_symbols.proofs.Interned.{extends_same}
-use Rattle.occ_parse_layout.specs.declared.placed.Frame.{Frame}
-use Rattle.occ_parse_layout.specs.declared.placed.Frame.TheVariants as frame
-use Rattle.occ_parse_layout.specs.declared.placed.Placed.{Placed}
-use Rattle.occ_parse_layout.specs.Layout.{laid_rows, least_bad}
+use Rattle.occ_script_lines.specs.occ_lex.declared.fault.LineFault.{LineFault}
+use Rattle.occ_script_lines.specs.occ_lex.declared.token.Line.{Line}
+use Rattle.occ_script_lines.specs.occ_lex.Placed.{IsLineOf}
+use Rattle.occ_script_lines.specs.occ_lex.declared.symbol.Row.{Row}
+use Rattle.occ_script_lines.specs.occ_lex.Symbols.{rows_of, with_names_of_all}
+use Rattle.occ_script_lines.proofs.from_lex.Interned.{extends_same}
+use Rattle.occ_parse_part.specs.occ_parse_layout.declared.placed.Frame.{Frame}
+use Rattle.occ_parse_part.specs.occ_parse_layout.declared.placed.Frame.TheVariants as frame
+use Rattle.occ_parse_part.specs.occ_parse_layout.declared.placed.Placed.{Placed}
+use Rattle.occ_parse_part.specs.occ_parse_layout.Layout.{laid_rows, least_bad}
 use Rattle.occ_parse_part.specs.Parts.{IsNoPart, badly, behind}
 use Rattle.occ_parse_part.specs.Parts.{IsIllLaid as IsIllPart}
-use Rattle.occ_parse_reading.specs.declared.bound.Bound.{Bound}
-use Rattle.occ_parse_reading.specs.declared.bound.Bound.TheVariants as bound
-use Rattle.occ_parse_reading.specs.declared.fault.ParseFault.{ParseFault}
-use Rattle.occ_parse_reading.specs.declared.fault.Which.{Which}
-use Rattle.occ_parse_reading.specs.Limits.{line_fault, line_limit, stop_at, stopped}
-use Rattle.occ_parse_reading.specs.Reading.{AreForms}
-use Rattle.occ_parse_reading.proofs.Once.{OneForm, forms_once, none_some}
-use Rattle.occ_parse_rules.specs.Forest.{Laid}
+use Rattle.occ_parse_part.specs.occ_parse.declared.bound.Bound.{Bound}
+use Rattle.occ_parse_part.specs.occ_parse.declared.bound.Bound.TheVariants as bound
+use Rattle.occ_parse_part.specs.occ_parse.declared.fault.ParseFault.{ParseFault}
+use Rattle.occ_parse_part.specs.occ_parse.declared.fault.Which.{Which}
+use Rattle.occ_parse_part.specs.occ_parse.Limits.{line_fault, line_limit, stop_at, stopped}
+use Rattle.occ_parse_part.specs.occ_parse.Reading.{AreForms}
+use Rattle.occ_parse_part.proofs.from_parse.Once.{OneForm, forms_once, none_some}
+use Rattle.occ_parse_part.specs.occ_parse_rules.Forest.{Laid}
 use Rattle.occ_script.specs.declared.content.Content.{Content}
 use Rattle.occ_script.specs.declared.content.Content.TheVariants as content
 use Rattle.occ_script.specs.declared.judging.JudgedLines.{JudgedLines}

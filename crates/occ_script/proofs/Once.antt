@@ -3,19 +3,19 @@ use Rattle.std.proofs.Common.{◌≡◌, ℕ, Bool, true, false, List, Option, S
 use Rattle.std.specs.Prelude.{codes, is_some}
 use Rattle.occ_law.specs.declared.table.LawId.{LawId}
 use Rattle.occ_law.specs.Table.{IsNamed}
-use Rattle.occ_lex.specs.declared.token.Line.{Line}
-use Rattle.occ_parse_layout.specs.declared.placed.Frame.{Frame}
-use Rattle.occ_parse_layout.specs.Layout.{least_bad}
+use Rattle.occ_script_lines.specs.occ_lex.declared.token.Line.{Line}
+use Rattle.occ_parse_part.specs.occ_parse_layout.declared.placed.Frame.{Frame}
+use Rattle.occ_parse_part.specs.occ_parse_layout.Layout.{least_bad}
 use Rattle.occ_parse_part.specs.Arrays.{array_names}
 use Rattle.occ_parse_part.specs.Elements.{elements_in, with_arrays}
 use Rattle.occ_parse_part.specs.Parts.{IsPart}
 use Rattle.occ_parse_part.specs.declared.raw.Raw.{Raw}
 use Rattle.occ_parse_part.specs.Shown.{elements_of, lines_of, part_of}
-use Rattle.occ_parse_reading.specs.declared.fault.ParseFault.{ParseFault}
-use Rattle.occ_parse_reading.specs.declared.fault.ParseFault.TheVariants as parse
-use Rattle.occ_parse_reading.specs.Limits.{stopped}
-use Rattle.occ_parse_reading.proofs.Once.{OneForm, forms_once, none_some, some_one}
-use Rattle.occ_parse_rules.specs.Forest.{Forest, Laid, lines_at}
+use Rattle.occ_parse_part.specs.occ_parse.declared.fault.ParseFault.{ParseFault}
+use Rattle.occ_parse_part.specs.occ_parse.declared.fault.ParseFault.TheVariants as parse
+use Rattle.occ_parse_part.specs.occ_parse.Limits.{stopped}
+use Rattle.occ_parse_part.proofs.from_parse.Once.{OneForm, forms_once, none_some, some_one}
+use Rattle.occ_parse_part.specs.occ_parse_rules.Forest.{Forest, Laid, lines_at}
 use Rattle.occ_script.specs.declared.content.Content.{Content}
 use Rattle.occ_script.specs.declared.content.Content.TheVariants as content
 use Rattle.occ_script.specs.declared.fault.ScriptFault.{ScriptFault}

@@ -3,7 +3,7 @@ use Rattle.std.proofs.Common.{◌≡◌, ◌==◌, ℕ, true, false, List, [], �
 use Rattle.std.specs.Prelude.{codes, option_map}
 use Rattle.occ_parse_part.specs.declared.raw.Raw.{Raw}
 use Rattle.occ_parse_part.specs.Shown.{part_of}
-use Rattle.occ_parse_reading.proofs.Once.{some_one}
+use Rattle.occ_parse_part.proofs.from_parse.Once.{some_one}
 use Rattle.occ_script.specs.declared.content.Content.TheVariants as content
 use Rattle.occ_script.specs.declared.fault.ScriptFault.{ScriptFault}
 use Rattle.occ_script.specs.declared.script.Order.{Order}

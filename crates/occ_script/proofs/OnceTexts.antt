@@ -3,13 +3,13 @@ use Rattle.std.proofs.Common.{◌≡◌, ℕ, true, false, List, [], ◌∷◌, 
 use Rattle.std.specs.Str.{bytes_eq}
 use Rattle.std.proofs.lemmas.Bool.{and_parts}
 use Rattle.std.proofs.lemmas.Slice.Eq.{bytes_eq-Decides}
-use Rattle.occ_lex.specs.Rows.{code_of}
-use Rattle.occ_parse_reading.specs.declared.bound.Bound.{Bound}
-use Rattle.occ_parse_reading.specs.declared.bound.Bound.TheVariants as bound
-use Rattle.occ_parse_reading.specs.declared.fault.ParseFault.{ParseFault}
-use Rattle.occ_parse_reading.specs.Reading.{IsRefused, SameReading}
-use Rattle.occ_parse_reading.proofs.Once.{not_both, read_once, refused_once}
-use Rattle.occ_parse_rules.specs.Forest.{Laid}
+use Rattle.occ_script_lines.specs.occ_lex.Rows.{code_of}
+use Rattle.occ_parse_part.specs.occ_parse.declared.bound.Bound.{Bound}
+use Rattle.occ_parse_part.specs.occ_parse.declared.bound.Bound.TheVariants as bound
+use Rattle.occ_parse_part.specs.occ_parse.declared.fault.ParseFault.{ParseFault}
+use Rattle.occ_parse_part.specs.occ_parse.Reading.{IsRefused, SameReading}
+use Rattle.occ_parse_part.proofs.from_parse.Once.{not_both, read_once, refused_once}
+use Rattle.occ_parse_part.specs.occ_parse_rules.Forest.{Laid}
 use Rattle.occ_syntax.specs.declared.scope.Program.{Program}
 use Rattle.occ_syntax.specs.View.{tree}
 use Rattle.occ_script.specs.declared.content.Content.TheVariants as content

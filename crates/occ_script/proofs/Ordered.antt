@@ -3,9 +3,9 @@ use Rattle.std.proofs.Common.{◌≡◌, ◌⊎◌, inl, inr, ℕ, ◌<◌, ◌�
 use Rattle.std.proofs.Common.{Result, Ok, Err}
 use Rattle.std.specs.Prelude.{IfErr, IfOk, codes}
 use Rattle.std.proofs.lemmas.List.{append-nil}
-use Rattle.occ_parse_layout.specs.declared.placed.Placed.{Placed}
-use Rattle.occ_parse_layout.specs.Layout.{laid, laid_rows}
-use Rattle.occ_parse_reading.specs.declared.fault.ParseFault.{ParseFault}
+use Rattle.occ_parse_part.specs.occ_parse_layout.declared.placed.Placed.{Placed}
+use Rattle.occ_parse_part.specs.occ_parse_layout.Layout.{laid, laid_rows}
+use Rattle.occ_parse_part.specs.occ_parse.declared.fault.ParseFault.{ParseFault}
 use Rattle.occ_script.specs.declared.content.Content.TheVariants as content
 use Rattle.occ_script.specs.declared.fault.ScriptFault.{ScriptFault}
 use Rattle.occ_script.specs.declared.fault.ScriptFault.TheVariants as fault
@@ -111,10 +111,6 @@ another_source last old all behind s is other = subst (λ (r : List Section). Is
 
 pub no_section : (last : ℕ) (old : Table) (all : List Section) → all ≡ [] → IsNoDerivation last old all (fault.Form last)
 no_section last old all is = subst (λ (r : List Section). IsNoDerivation last old r (fault.Form last)) (sym is) no_source
-
--- a list with one in front is longer
-pub fewer : (all rest : List Section) (s : Section) → all ≡ s ∷ rest → length rest < length all
-fewer all rest s e = omega (arith, ap length e)
 
 -- ---- the program behind TO
 

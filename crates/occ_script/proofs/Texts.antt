@@ -1,6 +1,6 @@
 -- A text as a script, or its first fault.
 use Rattle.std.proofs.Common.{◌≡◌, ◌⊎◌, inl, inr, ℕ, false, List, subst}
-use Rattle.occ_parse_reading.specs.declared.bound.Bound.TheVariants as bound
+use Rattle.occ_parse_part.specs.occ_parse.declared.bound.Bound.TheVariants as bound
 use Rattle.occ_syntax.specs.declared.scope.Program.{Program}
 use Rattle.occ_script.specs.declared.fault.ScriptFault.{ScriptFault}
 use Rattle.occ_script.specs.declared.fault.ScriptFault.TheVariants as fault

@@ -1,9 +1,9 @@
 -- What binds the lines of a section: the program behind FROM has all limits of programs, and parts and the program behind TO have
 -- no replicators.
-use Rattle.occ_parse_layout.specs.declared.placed.Frame.{Frame}
-use Rattle.occ_parse_layout.specs.declared.placed.Frame.TheVariants as frame
-use Rattle.occ_parse_reading.specs.declared.bound.Bound.{Bound}
-use Rattle.occ_parse_reading.specs.declared.bound.Bound.TheVariants as bound
+use Rattle.occ_parse_part.specs.occ_parse_layout.declared.placed.Frame.{Frame}
+use Rattle.occ_parse_part.specs.occ_parse_layout.declared.placed.Frame.TheVariants as frame
+use Rattle.occ_parse_part.specs.occ_parse.declared.bound.Bound.{Bound}
+use Rattle.occ_parse_part.specs.occ_parse.declared.bound.Bound.TheVariants as bound
 use Rattle.occ_script.specs.declared.content.Content.{Content}
 use Rattle.occ_script.specs.declared.content.Content.TheVariants as content
 

@@ -1,6 +1,6 @@
 -- The faults of programs and parts as faults of a script.
-use Rattle.occ_parse_reading.specs.declared.fault.ParseFault.{ParseFault}
-use Rattle.occ_parse_reading.specs.declared.fault.ParseFault.TheVariants as parse
+use Rattle.occ_parse_part.specs.occ_parse.declared.fault.ParseFault.{ParseFault}
+use Rattle.occ_parse_part.specs.occ_parse.declared.fault.ParseFault.TheVariants as parse
 use Rattle.occ_script.specs.declared.fault.ScriptFault.{ScriptFault}
 use Rattle.occ_script.specs.declared.fault.ScriptFault.TheVariants as fault
 

@@ -1,16 +1,16 @@
 -- The lines of a section as what they say, and how they are laid out.
 use Rattle.std.specs.Prelude.{ℕ, ◌≡◌, ◌==◌, Bool, true, false, if◌then◌else◌, List, [], ◌∷◌, Option, Some, None, is_none, is_some}
 use Rattle.std.specs.List.{AllByRecursion}
-use Rattle.occ_lex.specs.Placed.{IsLineOf}
-use Rattle.occ_lex_symbols.specs.declared.symbol.Row.{Row}
-use Rattle.occ_lex_symbols.specs.Symbols.{rows_of, with_names_of_all}
-use Rattle.occ_parse_layout.specs.declared.placed.Frame.{Frame}
-use Rattle.occ_parse_layout.specs.Layout.{laid_rows, least_bad}
-use Rattle.occ_parse_reading.specs.declared.fault.ParseFault.{ParseFault}
-use Rattle.occ_parse_reading.specs.declared.fault.ParseFault.TheVariants as parse
-use Rattle.occ_parse_reading.specs.Limits.{stopped}
-use Rattle.occ_parse_reading.specs.Reading.{AreForms}
-use Rattle.occ_parse_rules.specs.Forest.{Laid}
+use Rattle.occ_script_lines.specs.occ_lex.Placed.{IsLineOf}
+use Rattle.occ_script_lines.specs.occ_lex.declared.symbol.Row.{Row}
+use Rattle.occ_script_lines.specs.occ_lex.Symbols.{rows_of, with_names_of_all}
+use Rattle.occ_parse_part.specs.occ_parse_layout.declared.placed.Frame.{Frame}
+use Rattle.occ_parse_part.specs.occ_parse_layout.Layout.{laid_rows, least_bad}
+use Rattle.occ_parse_part.specs.occ_parse.declared.fault.ParseFault.{ParseFault}
+use Rattle.occ_parse_part.specs.occ_parse.declared.fault.ParseFault.TheVariants as parse
+use Rattle.occ_parse_part.specs.occ_parse.Limits.{stopped}
+use Rattle.occ_parse_part.specs.occ_parse.Reading.{AreForms}
+use Rattle.occ_parse_part.specs.occ_parse_rules.Forest.{Laid}
 use Rattle.occ_script.specs.declared.content.Content.{Content}
 use Rattle.occ_script.specs.declared.judging.JudgedLines.{JudgedLines}
 use Rattle.occ_script.specs.Contents.{bound_of, frame_of}

@@ -1,9 +1,9 @@
 -- Which text is orders, and as which; and the first fault of one that is none.
 use Rattle.std.specs.Prelude.{ℕ, ◌≡◌, true, false, List, [], ◌∷◌, length, Option, Some, None, codes, ◌==◌}
 use Rattle.occ_parse_part.specs.declared.raw.Raw.{Raw}
-use Rattle.occ_parse_reading.specs.declared.fault.ParseFault.{ParseFault}
-use Rattle.occ_parse_reading.specs.declared.fault.ParseFault.TheVariants as parse
-use Rattle.occ_parse_reading.specs.declared.fault.Which.TheVariants as which
+use Rattle.occ_parse_part.specs.occ_parse.declared.fault.ParseFault.{ParseFault}
+use Rattle.occ_parse_part.specs.occ_parse.declared.fault.ParseFault.TheVariants as parse
+use Rattle.occ_parse_part.specs.occ_parse.declared.fault.Which.TheVariants as which
 use Rattle.occ_script.specs.declared.content.Content.TheVariants as content
 use Rattle.occ_script.specs.declared.fault.ScriptFault.{ScriptFault}
 use Rattle.occ_script.specs.declared.fault.ScriptFault.TheVariants as fault

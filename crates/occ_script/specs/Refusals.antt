@@ -1,13 +1,13 @@
 -- The first fault of a text that is no script. The first section whose lines are out of order decides. Faults of names, types,
 -- directions and limits of programs come after those, first of the program behind FROM and then of that behind TO.
 use Rattle.std.specs.Prelude.{ℕ, ◌≡◌, true, false, List, [], ◌∷◌, Option, Some, None, codes}
-use Rattle.occ_parse_reading.specs.declared.bound.Bound.{Bound}
-use Rattle.occ_parse_reading.specs.declared.bound.Bound.TheVariants as bound
-use Rattle.occ_parse_reading.specs.declared.fault.ParseFault.{ParseFault}
-use Rattle.occ_parse_reading.specs.declared.fault.ParseFault.TheVariants as parse
-use Rattle.occ_parse_reading.specs.declared.fault.Which.TheVariants as which
-use Rattle.occ_parse_reading.specs.Reading.{IsRefused}
-use Rattle.occ_parse_rules.specs.Forest.{Laid}
+use Rattle.occ_parse_part.specs.occ_parse.declared.bound.Bound.{Bound}
+use Rattle.occ_parse_part.specs.occ_parse.declared.bound.Bound.TheVariants as bound
+use Rattle.occ_parse_part.specs.occ_parse.declared.fault.ParseFault.{ParseFault}
+use Rattle.occ_parse_part.specs.occ_parse.declared.fault.ParseFault.TheVariants as parse
+use Rattle.occ_parse_part.specs.occ_parse.declared.fault.Which.TheVariants as which
+use Rattle.occ_parse_part.specs.occ_parse.Reading.{IsRefused}
+use Rattle.occ_parse_part.specs.occ_parse_rules.Forest.{Laid}
 use Rattle.occ_syntax.specs.declared.scope.Program.{Program}
 use Rattle.occ_script.specs.declared.content.Content.{Content}
 use Rattle.occ_script.specs.declared.content.Content.TheVariants as content

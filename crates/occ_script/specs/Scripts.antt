@@ -1,8 +1,8 @@
 -- Which text is a script, and as which.
 use Rattle.std.specs.Prelude.{ℕ, ◌≡◌, Bool, true, false, nat_lt, List, [], ◌∷◌, length, None, codes}
-use Rattle.occ_parse_reading.specs.declared.bound.Bound.{Bound}
-use Rattle.occ_parse_reading.specs.declared.bound.Bound.TheVariants as bound
-use Rattle.occ_parse_reading.specs.Reading.{IsRead}
+use Rattle.occ_parse_part.specs.occ_parse.declared.bound.Bound.{Bound}
+use Rattle.occ_parse_part.specs.occ_parse.declared.bound.Bound.TheVariants as bound
+use Rattle.occ_parse_part.specs.occ_parse.Reading.{IsRead}
 use Rattle.occ_syntax.specs.declared.scope.Program.{Program}
 use Rattle.occ_syntax.specs.View.{tree}
 use Rattle.occ_script.specs.declared.content.Content.{Content}

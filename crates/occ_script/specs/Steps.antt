@@ -7,8 +7,8 @@ use Rattle.occ_parse_part.specs.Arrays.{array_names}
 use Rattle.occ_parse_part.specs.Elements.{elements_in, with_arrays}
 use Rattle.occ_parse_part.specs.Parts.{IsPart}
 use Rattle.occ_parse_part.specs.Shown.{elements_of, lines_of}
-use Rattle.occ_parse_reading.specs.declared.fault.ParseFault.{ParseFault}
-use Rattle.occ_parse_rules.specs.Forest.{Laid, lines_at}
+use Rattle.occ_parse_part.specs.occ_parse.declared.fault.ParseFault.{ParseFault}
+use Rattle.occ_parse_part.specs.occ_parse_rules.Forest.{Laid, lines_at}
 use Rattle.occ_script.specs.declared.content.Content.TheVariants as content
 use Rattle.occ_script.specs.declared.script.Step.{Step}
 use Rattle.occ_script.specs.Lines.{AreJudged, IsWell, lacks_part, named_in}

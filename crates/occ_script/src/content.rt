@@ -1,8 +1,7 @@
 ghost use Rattle.std.specs.Prelude.{◌≡◌};
 ghost use Rattle.occ_script.specs.Contents.{bound_of, frame_of};
 
-use occ_parse::Bound;
-use occ_parse_layout::Frame;
+use occ_parse_part::{Bound, Frame};
 
 /// What the lines of a section are together.
 #[derive(Clone, Copy, Debug, PartialEq, Eq)]

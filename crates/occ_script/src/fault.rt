@@ -2,8 +2,8 @@ ghost use Rattle.std.specs.Prelude.{◌≡◌};
 ghost use Rattle.occ_script.specs.declared.fault.ScriptFault.TheVariants as fault;
 ghost use Rattle.occ_script.specs.Faults.{text_fault as fault_of_text};
 
-use occ_base::Memory;
-use occ_parse::ParseFault;
+use occ_parse_part::ParseFault;
+use occ_script_lines::Memory;
 use thiserror::Error;
 
 /// Why a script or an orders text isn't read, with the number of the line from 1.

@@ -1,7 +1,7 @@
 //! The sections of a script, and whether their lines are in order.
 
 ghost use Rattle.std.specs.Prelude.{◌≡◌, ◌⊎◌, ◌<◌, [], length, IfErr, IfOk, OnOk};
-ghost use Rattle.occ_lex_symbols.specs.Symbols.{Extends};
+ghost use Rattle.occ_script_lines.specs.occ_lex.Symbols.{Extends};
 ghost use Rattle.occ_script.specs.declared.fault.ScriptFault.TheVariants as fault;
 ghost use Rattle.occ_script.specs.Lines.{named_in};
 ghost use Rattle.occ_script.specs.Refusals.{IsBadEnd, IsBadHead, IsBadProgram, IsBadTarget, IsNoDerivation, IsUnformed};
@@ -18,8 +18,7 @@ use crate::judging::{judged_lines, section_fault};
 use crate::part::step;
 use crate::script::{Formed, Framed};
 use crate::{ScriptFault, Steps};
-use occ_base::Names;
-use occ_script_lines::{Format, Section, Sections, framed, is_blank, is_line, last_line};
+use occ_script_lines::{Format, Names, Section, Sections, framed, is_blank, is_line, last_line};
 use std::alloc::Global;
 
 /// The number of the next keyword line, or else of the text's last line.

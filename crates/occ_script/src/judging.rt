@@ -1,19 +1,15 @@
 //! The lines of sections, and how they are laid out.
 
 ghost use Rattle.std.specs.Prelude.{◌≡◌, IfOk, MatchOption, OnOk};
-ghost use Rattle.occ_lex_symbols.specs.Symbols.{Extends};
-ghost use Rattle.occ_parse_layout.specs.Layout.{laid_rows};
+ghost use Rattle.occ_script_lines.specs.occ_lex.Symbols.{Extends};
+ghost use Rattle.occ_parse_part.specs.occ_parse_layout.Layout.{laid_rows};
 ghost use Rattle.occ_script.specs.Contents.{frame_of};
 ghost use Rattle.occ_script.specs.Lines.{AreLines, IsIll, IsIllLaid, IsWell, IsWellLaid, lacks_part as lacks, named_in};
 ghost use Rattle.occ_script_lines.specs.Sections.{section as seen};
 
 use crate::content::Content;
-use occ_base::{Memory, Names};
-use occ_lex::Line;
-use occ_lex_symbols::rows;
-use occ_parse::{Judged, ParseFault, judge_rows};
-use occ_parse_layout::{Placed, least_bad};
-use occ_script_lines::{Section, lines};
+use occ_parse_part::{Judged, ParseFault, Placed, judge_rows, least_bad};
+use occ_script_lines::{Line, Memory, Names, Section, lex_rows as rows, lines};
 use std::alloc::Global;
 
 /// The lines of a section, and what they say, up to the first that can't be read or is over a limit.

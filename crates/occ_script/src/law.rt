@@ -10,8 +10,7 @@ ghost use Rattle.occ_script.specs.Scripts.{IsScript};
 ghost use Rattle.occ_script.specs.Shown.{shown, shown_order};
 
 use occ_law::names_are_distinct;
-use occ_parse_forms::one_form;
-use occ_parse_part::one_reading_of_a_part;
+use occ_parse_part::{one_form, one_reading_of_a_part};
 
 /// A text has one reading with these names in the table: it is one script as far as it can be seen, with one table of names behind
 /// it, or it has one first fault, and never both.

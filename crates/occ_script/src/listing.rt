@@ -1,7 +1,7 @@
 //! Orders as they are read.
 
 ghost use Rattle.std.specs.Prelude.{◌≡◌, ◌<◌, ◌⊎◌, IfErr, IfOk, length};
-ghost use Rattle.occ_lex_symbols.specs.Symbols.{Extends};
+ghost use Rattle.occ_script_lines.specs.occ_lex.Symbols.{Extends};
 ghost use Rattle.occ_script.specs.declared.fault.ScriptFault.TheVariants as fault;
 ghost use Rattle.occ_script.specs.Orders.{AreOrders, IsBadLines, IsBadOrder, IsBadRest, IsOrder, IsOrders, IsOrdersFault, IsPartThere};
 ghost use Rattle.occ_script_lines.specs.Left.{left};
@@ -14,11 +14,8 @@ use crate::judging::{judged_lines, layout_fault};
 use crate::part::{law, raw};
 use crate::reading::MOST_BYTES;
 use crate::{Order, Orders, ScriptFault};
-use occ_base::Names;
-use occ_parse::{ParseFault, Which};
-use occ_parse_forms::one_form;
-use occ_parse_part::Raw;
-use occ_script_lines::{Format, Section, Sections, step_line};
+use occ_parse_part::{ParseFault, Raw, Which, one_form};
+use occ_script_lines::{Format, Names, Section, Sections, step_line};
 use std::alloc::Global;
 
 /// The part that the lines of a section are, where it has lines.

@@ -2,14 +2,14 @@
 
 ghost use Rattle.std.specs.Prelude.{◌≡◌, ◌⊎◌, codes, IfErr, IfOk};
 ghost use Rattle.std.specs.List.{AllByRecursion};
-ghost use Rattle.occ_lex.specs.Placed.{IsLineOf};
-ghost use Rattle.occ_lex_symbols.specs.Symbols.{Extends, with_names_of_all};
+ghost use Rattle.occ_script_lines.specs.occ_lex.Placed.{IsLineOf};
+ghost use Rattle.occ_script_lines.specs.occ_lex.Symbols.{Extends, with_names_of_all};
 ghost use Rattle.occ_parse_part.specs.Arrays.{array_names};
 ghost use Rattle.occ_parse_part.specs.Elements.{elements_in, with_arrays};
 ghost use Rattle.occ_parse_part.specs.Parts.{IsNoPart, IsPart};
 ghost use Rattle.occ_parse_part.specs.Shown.{elements_of, lines_of};
-ghost use Rattle.occ_parse_reading.specs.declared.fault.ParseFault.{ParseFault as AnyFault};
-ghost use Rattle.occ_parse_rules.specs.Forest.{lines_at};
+ghost use Rattle.occ_parse_part.specs.occ_parse.declared.fault.ParseFault.{ParseFault as AnyFault};
+ghost use Rattle.occ_parse_part.specs.occ_parse_rules.Forest.{lines_at};
 ghost use Rattle.occ_script.specs.declared.fault.ScriptFault.TheVariants as fault;
 ghost use Rattle.occ_script.specs.Refusals.{IsBadPart, IsBadStep};
 ghost use Rattle.occ_script.specs.Steps.{HasPart, IsLaw, IsPartIn, IsStep};
@@ -19,13 +19,9 @@ use crate::content::Content;
 use crate::fault::text_fault;
 use crate::judging::{judged_lines, lacks_part, layout_fault};
 use crate::{ScriptFault, Step};
-use occ_base::{Memory, Names};
 use occ_law::{LawId, find};
-use occ_lex::Line;
-use occ_parse::ParseFault;
-use occ_parse_forms::one_form;
-use occ_parse_part::{Raw, form};
-use occ_script_lines::{Section, step_line};
+use occ_parse_part::{ParseFault, Raw, form, one_form};
+use occ_script_lines::{Line, Memory, Names, Section, step_line};
 use std::alloc::Global;
 
 /// The part that lines without a fault are.

@@ -1,19 +1,19 @@
 //! Scripts as they are read.
 
 ghost use Rattle.std.specs.Prelude.{◌≡◌, ◌⊎◌, ◌<◌, length, true, IfErr, IfOk};
-ghost use Rattle.occ_lex_symbols.specs.Symbols.{Extends};
-ghost use Rattle.occ_parse.specs.Known.{NamesAreKnown};
-ghost use Rattle.occ_parse_reading.specs.Limits.{is_limited};
+ghost use Rattle.occ_script_lines.specs.occ_lex.Symbols.{Extends};
+ghost use Rattle.occ_parse_part.specs.occ_parse.Known.{NamesAreKnown};
+ghost use Rattle.occ_parse_part.specs.occ_parse.Limits.{is_limited};
 ghost use Rattle.occ_script.specs.declared.fault.ScriptFault.TheVariants as fault;
 ghost use Rattle.occ_script.specs.Refusals.{IsBadText, IsScriptFault};
 ghost use Rattle.occ_script.specs.Scripts.{IsProgram, IsScript};
-ghost use Rattle.occ_usage.specs.Accepted.{IsTyped};
+ghost use Rattle.occ_script_lines.specs.occ_usage.Accepted.{IsTyped};
 
 use crate::fault::text_fault;
 use crate::forming::formed;
 use crate::{Script, ScriptFault};
-use occ_base::Names;
-use occ_parse::{Bound, ParseFault, Text, Which, parse};
+use occ_parse_part::{Bound, ParseFault, Text, Which, parse};
+use occ_script_lines::Names;
 use std::alloc::Global;
 
 pub(crate) const MOST_BYTES: usize = 4_194_304;

@@ -1,10 +1,8 @@
 ghost use Rattle.std.specs.Prelude.{◌<◌, length};
 
-use occ_base::List;
 use occ_law::LawId;
-use occ_parse::Text;
-use occ_parse_part::Raw;
-use occ_script_path::{Direction, Path};
+use occ_parse_part::{Raw, Text};
+use occ_script_lines::{Direction, List, Path};
 use occ_syntax::Program;
 
 /// A step: the law, the way in which it is used, the path of a part, and the part that comes into its place. The law is None

@@ -8,8 +8,8 @@ use Rattle.occ_script_lines.specs.declared.keyword.Head.{Head as Seen}
 use Rattle.occ_script_lines.specs.declared.keyword.Words.{Words}
 use Rattle.occ_script_lines.specs.Heads.{AreHeads, AreWords, head_in, is_step}
 use Rattle.occ_script_lines.specs.Lines.{Head, direction_of, head_from, head_of, head_of_words, is_empty}
-use Rattle.occ_script_path.specs.declared.direction.Direction.{Direction}
-use Rattle.occ_script_path.specs.Texts.{is_byte, path_of}
+use Rattle.occ_script_lines.specs.declared.direction.Direction.{Direction}
+use Rattle.occ_script_lines.specs.Texts.{is_byte, path_of}
 
 -- too few words
 pub one_word : (pieces : List (List ℕ)) (a : List ℕ) → pieces ≡ a ∷ [] → (k : List ℕ) → head_of_words k pieces ≡ None

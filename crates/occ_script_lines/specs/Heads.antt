@@ -5,8 +5,8 @@ use Rattle.std.specs.Str.{bytes_eq}
 use Rattle.occ_script_lines.specs.declared.keyword.Head.{Head as Seen}
 use Rattle.occ_script_lines.specs.declared.keyword.Words.{Words}
 use Rattle.occ_script_lines.specs.Lines.{Head, direction_of, head_from, head_of_words, is_empty, is_law_word}
-use Rattle.occ_script_path.specs.Places.{pieces_behind}
-use Rattle.occ_script_path.specs.Texts.{path_of}
+use Rattle.occ_script_lines.specs.Places.{pieces_behind}
+use Rattle.occ_script_lines.specs.Texts.{path_of}
 
 -- what is found on a line is what it says
 pub record IsHead (w : Head) (h : Seen) : Type 0 where

@@ -4,11 +4,11 @@ use Rattle.std.specs.List.{list_all, slice_split, starts_with}
 use Rattle.std.specs.Str.{bytes_eq}
 use Rattle.occ_lex.specs.Rows.{code_of, is_space}
 use Rattle.occ_lex.specs.Spelling.{is_between, is_name_byte}
-use Rattle.occ_script_path.specs.declared.direction.Direction.{Direction}
-use Rattle.occ_script_path.specs.declared.direction.Direction.TheVariants as direction
+use Rattle.occ_script_lines.specs.declared.direction.Direction.{Direction}
+use Rattle.occ_script_lines.specs.declared.direction.Direction.TheVariants as direction
 use Rattle.occ_script_lines.specs.declared.section.Format.{Format}
 use Rattle.occ_script_lines.specs.declared.section.Format.TheVariants as format
-use Rattle.occ_script_path.specs.Texts.{is_byte, path_of}
+use Rattle.occ_script_lines.specs.Texts.{is_byte, path_of}
 
 -- a byte that a name could go on with
 abbrev pub goes_on : Option ℕ → Bool

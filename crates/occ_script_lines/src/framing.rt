@@ -6,8 +6,7 @@ ghost use Rattle.occ_script_lines.specs.Sections.{blank as blank_of, framed as f
 
 use crate::keyword::is_blank_row;
 use crate::section::Section;
-use occ_base::Memory;
-use occ_lex::first_row;
+use occ_lex::{Memory, first_row};
 use std::alloc::Global;
 
 impl<'a> Section<'a> {

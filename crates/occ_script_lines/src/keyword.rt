@@ -5,13 +5,12 @@ ghost use Rattle.std.specs.List.{list_all, slice_split};
 ghost use Rattle.occ_lex.specs.Rows.{code_of, is_space};
 ghost use Rattle.occ_script_lines.specs.Heads.{AreHeads, AreWords, head_in, is_step};
 ghost use Rattle.occ_script_lines.specs.Lines.{begins_with, direction_of, goes_on, head_of, is_blank_row, is_empty, is_keyword, is_law_byte, is_law_word, is_line};
-ghost use Rattle.occ_script_path.specs.Places.{pieces_behind};
-ghost use Rattle.occ_script_path.specs.Texts.{is_byte};
+ghost use Rattle.occ_script_lines.specs.Places.{pieces_behind};
+ghost use Rattle.occ_script_lines.specs.Texts.{is_byte};
 
 use crate::section::Format;
-use occ_base::Memory;
-use occ_lex::{code, is_name_byte};
-use occ_script_path::{Direction, Path, cut, path};
+use crate::{Direction, Path, cut, path};
+use occ_lex::{Memory, code, is_name_byte};
 use std::alloc::Global;
 
 /// What a step or an order says on its line: the name of a law, the way in which it is used, and the path of a part.

@@ -5,8 +5,7 @@ ghost use Rattle.occ_lex.specs.Rows.{line_of};
 ghost use Rattle.occ_script_lines.specs.Sections.{reading_in, section as seen};
 
 use crate::section::Section;
-use occ_base::Memory;
-use occ_lex::{Line, LineFault, Reading, RowFault, first_row, line};
+use occ_lex::{Line, LineFault, Memory, Reading, RowFault, first_row, line};
 use std::alloc::Global;
 
 fn keep(lines: &mut Vec<Line>, line: Option<Line>) -> Result<(), Memory>

@@ -2,18 +2,18 @@
 use Rattle.std.proofs.Common.{◌≡◌, ℕ, ◌<◌, true, nat_le, nat_lt, List, [], ◌∷◌, length, get_or, Option, Some, None, ap, sym, ◌∙◌, arith}
 use Rattle.std.specs.List.{AllByRecursion}
 use Rattle.std.proofs.lemmas.Bool.{and_from, and_parts, lt-ltb, ltb-true}
-use Rattle.occ_lex.specs.declared.token.TokenKind.TheVariants as token
-use Rattle.occ_lex.specs.Spelling.{is_name, kind_of}
-use Rattle.occ_lex.proofs.Printing.{spelled}
-use Rattle.occ_parse.proofs.Places.{known_step, knows, one_to_one}
-use Rattle.occ_parse.proofs.Texts.{is_plain}
-use Rattle.occ_parse_rules.specs.Places.{Place}
-use Rattle.occ_parse_sound.specs.Agreement.{Has}
-use Rattle.occ_parse_unroll.specs.Numbers.{number_in}
-use Rattle.occ_print.specs.Spelled.{name_text}
-use Rattle.occ_print_back.specs.Placed.{IsPlace, IsTable}
-use Rattle.occ_print_back.proofs.Stable.{index_is, numbered}
-use Rattle.occ_print_part_back.specs.Tables.{IsBase}
+use Rattle.occ_script_back.specs.occ_lex.declared.token.TokenKind.TheVariants as token
+use Rattle.occ_script_back.specs.occ_lex.Spelling.{is_name, kind_of}
+use Rattle.occ_script_back.proofs.from_lex.Printing.{spelled}
+use Rattle.occ_script_back.proofs.from_parse.Places.{known_step, knows, one_to_one}
+use Rattle.occ_script_back.proofs.from_parse.Texts.{is_plain}
+use Rattle.occ_script_back.specs.occ_parse_rules.Places.{Place}
+use Rattle.occ_script_back.specs.occ_parse_rules.Agreement.{Has}
+use Rattle.occ_script_back.specs.occ_parse_unroll.Numbers.{number_in}
+use Rattle.occ_script_back.specs.occ_print.Spelled.{name_text}
+use Rattle.occ_script_back.specs.occ_print_back.Placed.{IsPlace, IsTable}
+use Rattle.occ_script_back.proofs.from_print_back.Stable.{index_is, numbered}
+use Rattle.occ_script_back.specs.Tables.{IsBase}
 use Rattle.occ_script_table.proofs.Named.{IsElementIn}
 use Rattle.occ_script_table.proofs.Scoped.{AllFit, Fits}
 

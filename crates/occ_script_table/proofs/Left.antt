@@ -1,39 +1,39 @@
 -- The table that reading orders or a script leaves is one of places.
 use Rattle.std.proofs.Common.{◌≡◌, ℕ, ◌+◌, true, List, [], ◌∷◌, ◌++◌, map, drop, length, Option, Some, None, refl, ap, sym, ◌∙◌, subst, append-nil}
 use Rattle.std.specs.List.{AllByRecursion, concat, list_all}
-use Rattle.occ_base.specs.declared.names.Name.{Name}
-use Rattle.occ_lex.specs.declared.token.Line.{Line}
-use Rattle.occ_lex.specs.Placed.{IsLineOf}
-use Rattle.occ_lex.specs.Rows.{rows}
-use Rattle.occ_lex.proofs.Placing.{concat-rows}
-use Rattle.occ_lex_symbols.specs.Symbols.{with_names_of_all}
-use Rattle.occ_lex_symbols.proofs.Interned.{extends_same}
-use Rattle.occ_parse.proofs.Texts.{is_plain, plain_table}
-use Rattle.occ_parse_part.specs.Arrays.{array_names, arrays_of}
-use Rattle.occ_parse_part.specs.Elements.{with_arrays}
-use Rattle.occ_parse_part.specs.Parts.{IsPart}
-use Rattle.occ_parse_part.specs.Shown.{lines_of}
-use Rattle.occ_parse_part.specs.declared.raw.Raw.{Raw}
-use Rattle.occ_parse_part.proofs.Known.{arrays_pass, lines_are_of, lines_pass_test, names_pass}
-use Rattle.occ_parse_reading.specs.declared.bound.Bound.TheVariants as bound
-use Rattle.occ_parse_rules.specs.Forest.{Forest, lines_at}
-use Rattle.occ_parse_rules.specs.Places.{Place}
-use Rattle.occ_print_back.specs.Placed.{IsTable}
-use Rattle.occ_print_part_back.specs.Tables.{Grows, IsBase}
-use Rattle.occ_print_part_back.proofs.Growing.{arrays_grow}
-use Rattle.occ_script.specs.declared.script.Order.{Order}
-use Rattle.occ_script.specs.declared.script.Script.{Script}
-use Rattle.occ_script.specs.declared.script.Step.{Step}
-use Rattle.occ_script.specs.Lines.{named_in}
-use Rattle.occ_script.specs.Orders.{AreOrders, IsOrders, IsPartThere, and_order, no_order}
-use Rattle.occ_script.specs.Scripts.{IsDerivation, IsEnd, IsFormed, IsScript}
-use Rattle.occ_script.specs.Steps.{AreSteps, IsPartIn, and_step, no_step}
-use Rattle.occ_script_lines.specs.Sections.{Section, reading_in, upto}
-use Rattle.occ_script_lines.proofs.Placing.{lines_placed}
+use Rattle.occ_script_back.specs.occ_base.declared.names.Name.{Name}
+use Rattle.occ_script_back.specs.occ_lex.declared.token.Line.{Line}
+use Rattle.occ_script_back.specs.occ_lex.Placed.{IsLineOf}
+use Rattle.occ_script_back.specs.occ_lex.Rows.{rows}
+use Rattle.occ_script_back.proofs.from_lex.Placing.{concat-rows}
+use Rattle.occ_script_back.specs.occ_lex.Symbols.{with_names_of_all}
+use Rattle.occ_script_back.proofs.from_lex.Interned.{extends_same}
+use Rattle.occ_script_back.proofs.from_parse.Texts.{is_plain, plain_table}
+use Rattle.occ_script_back.specs.occ_parse_part.Arrays.{array_names, arrays_of}
+use Rattle.occ_script_back.specs.occ_parse_part.Elements.{with_arrays}
+use Rattle.occ_script_back.specs.occ_parse_part.Parts.{IsPart}
+use Rattle.occ_script_back.specs.occ_parse_part.Shown.{lines_of}
+use Rattle.occ_script_back.specs.occ_parse_part.declared.raw.Raw.{Raw}
+use Rattle.occ_script_back.proofs.from_parse_part.Known.{arrays_pass, lines_are_of, lines_pass_test, names_pass}
+use Rattle.occ_script_back.specs.occ_parse.declared.bound.Bound.TheVariants as bound
+use Rattle.occ_script_back.specs.occ_parse_rules.Forest.{Forest, lines_at}
+use Rattle.occ_script_back.specs.occ_parse_rules.Places.{Place}
+use Rattle.occ_script_back.specs.occ_print_back.Placed.{IsTable}
+use Rattle.occ_script_back.specs.Tables.{Grows, IsBase}
+use Rattle.occ_script_back.proofs.Growing.{arrays_grow}
+use Rattle.occ_script_back.specs.occ_script.declared.script.Order.{Order}
+use Rattle.occ_script_back.specs.occ_script.declared.script.Script.{Script}
+use Rattle.occ_script_back.specs.occ_script.declared.script.Step.{Step}
+use Rattle.occ_script_back.specs.occ_script.Lines.{named_in}
+use Rattle.occ_script_back.specs.occ_script.Orders.{AreOrders, IsOrders, IsPartThere, and_order, no_order}
+use Rattle.occ_script_back.specs.occ_script.Scripts.{IsDerivation, IsEnd, IsFormed, IsScript}
+use Rattle.occ_script_back.specs.occ_script.Steps.{AreSteps, IsPartIn, and_step, no_step}
+use Rattle.occ_script_back.specs.occ_script_lines.Sections.{Section, reading_in, upto}
+use Rattle.occ_script_back.proofs.from_script_lines.Placing.{lines_placed}
 use Rattle.occ_script_table.proofs.Bases.{base_of}
 use Rattle.occ_script_table.proofs.Named.{as_it_is, lines_grow, one_behind}
 use Rattle.occ_script_table.proofs.Programs.{program_left}
-use Rattle.occ_syntax.specs.View.{numbers, tree}
+use Rattle.occ_script_back.specs.occ_syntax.View.{numbers, tree}
 
 bases_of : (t : List (List ℕ)) (P : ℕ → Place) → IsTable t P → (arrays : List Name) → AllByRecursion (λ (x : Name). is_plain t x.0 ≡ true) arrays
     → AllByRecursion (λ (x : Name). IsBase t x.0) arrays

@@ -4,27 +4,27 @@ use Rattle.std.specs.Prelude.{IfSome, IsTrue, if◌then◌else◌, is_ok, slice_
 use Rattle.std.specs.List.{AllByRecursion}
 use Rattle.std.proofs.lemmas.Bool.{cases_lt, lt-ltb, ltb-false, ltb-true}
 use Rattle.std.proofs.lemmas.Option.{slice_get_within}
-use Rattle.occ_base.specs.Names.{place_of, with_text}
-use Rattle.occ_base.proofs.Naming.{naming, place-le, with_new, with_there}
-use Rattle.occ_lex.specs.declared.fault.LineFault.TheVariants as fault
-use Rattle.occ_lex.specs.declared.token.Line.{Line}
-use Rattle.occ_lex.specs.declared.token.Token.{Token}
-use Rattle.occ_lex.specs.declared.token.TokenKind.{TokenKind}
-use Rattle.occ_lex.specs.declared.token.TokenKind.TheVariants as token
-use Rattle.occ_lex.specs.Placed.{IsLineOf, IsTokenOf}
-use Rattle.occ_lex.specs.Spelling.{kind_of}
-use Rattle.occ_lex.specs.Token.{text_of}
-use Rattle.occ_lex.specs.Tokens.{judged}
-use Rattle.occ_lex_symbols.specs.Symbols.{Extends, names_with, with_names, with_names_of_all}
-use Rattle.occ_lex_symbols.proofs.Interned.{extends_same, extends_text, longer}
-use Rattle.occ_parse_rules.specs.Places.{Place}
-use Rattle.occ_parse_unroll.specs.Elements.{with_place, with_places}
-use Rattle.occ_parse_unroll.specs.Numbers.{element_text}
-use Rattle.occ_print.specs.Spelled.{name_text}
-use Rattle.occ_print_back.specs.Placed.{IsPlace, IsTable, place_text}
-use Rattle.occ_print_back.proofs.Stable.{element_is, index_is}
-use Rattle.occ_print_part_back.specs.Tables.{Grows, IsBase}
-use Rattle.occ_print_part_back.proofs.Growing.{base_stays, grown_both, text_stays}
+use Rattle.occ_script_back.specs.occ_base.Names.{place_of, with_text}
+use Rattle.occ_script_back.proofs.from_base.Naming.{naming, place-le, with_new, with_there}
+use Rattle.occ_script_back.specs.occ_lex.declared.fault.LineFault.TheVariants as fault
+use Rattle.occ_script_back.specs.occ_lex.declared.token.Line.{Line}
+use Rattle.occ_script_back.specs.occ_lex.declared.token.Token.{Token}
+use Rattle.occ_script_back.specs.occ_lex.declared.token.TokenKind.{TokenKind}
+use Rattle.occ_script_back.specs.occ_lex.declared.token.TokenKind.TheVariants as token
+use Rattle.occ_script_back.specs.occ_lex.Placed.{IsLineOf, IsTokenOf}
+use Rattle.occ_script_back.specs.occ_lex.Spelling.{kind_of}
+use Rattle.occ_script_back.specs.occ_lex.Token.{text_of}
+use Rattle.occ_script_back.specs.occ_lex.Tokens.{judged}
+use Rattle.occ_script_back.specs.occ_lex.Symbols.{Extends, names_with, with_names, with_names_of_all}
+use Rattle.occ_script_back.proofs.from_lex.Interned.{extends_same, extends_text, longer}
+use Rattle.occ_script_back.specs.occ_parse_rules.Places.{Place}
+use Rattle.occ_script_back.specs.occ_parse_unroll.Elements.{with_place, with_places}
+use Rattle.occ_script_back.specs.occ_parse_unroll.Numbers.{element_text}
+use Rattle.occ_script_back.specs.occ_print.Spelled.{name_text}
+use Rattle.occ_script_back.specs.occ_print_back.Placed.{IsPlace, IsTable, place_text}
+use Rattle.occ_script_back.proofs.from_print_back.Stable.{element_is, index_is}
+use Rattle.occ_script_back.specs.Tables.{Grows, IsBase}
+use Rattle.occ_script_back.proofs.Growing.{base_stays, grown_both, text_stays}
 
 -- ---- tables that grow
 

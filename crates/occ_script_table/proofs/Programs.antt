@@ -2,42 +2,42 @@
 use Rattle.std.proofs.Common.{◌≡◌, ℕ, Bool, true, false, List, [], Option, Some, None, refl, ap, sym, ◌∙◌, subst}
 use Rattle.std.specs.List.{list_all}
 use Rattle.std.proofs.lemmas.Bool.{and_parts}
-use Rattle.occ_base.specs.declared.names.Name.{Name}
-use Rattle.occ_lex.specs.Rows.{reading_of}
-use Rattle.occ_lex.proofs.Placing.{reading_placed}
-use Rattle.occ_lex_symbols.proofs.Interned.{extends_same}
-use Rattle.occ_parse.proofs.Knowing.{EachLine, IsLineOf, each_map, line_passes, line_small, lines_are_of}
-use Rattle.occ_parse.proofs.Placed.{good_are_placed}
-use Rattle.occ_parse.proofs.Small.{shape_small}
-use Rattle.occ_parse.proofs.Texts.{is_plain, plain_table}
-use Rattle.occ_parse_forms.specs.declared.form.Param.{Param}
-use Rattle.occ_parse_forms.specs.Shape.{close, header}
-use Rattle.occ_parse_layout.specs.declared.placed.Frame.TheVariants as frame
-use Rattle.occ_parse_layout.specs.Layout.{least_bad}
-use Rattle.occ_parse_layout.specs.Whole.{IsProgram}
-use Rattle.occ_parse_layout.proofs.Framed.{whole_of}
-use Rattle.occ_parse_reading.specs.declared.bound.Bound.{Bound}
-use Rattle.occ_parse_reading.specs.declared.fault.ParseFault.{ParseFault}
-use Rattle.occ_parse_reading.specs.declared.bound.Bound.TheVariants as bound
-use Rattle.occ_parse_reading.specs.Drafts.{as_fault, draft_fault, header_below, header_params, name_fault_on, type_fault_on}
-use Rattle.occ_parse_reading.specs.Limits.{frame_of}
-use Rattle.occ_parse_reading.specs.Reading.{IsLaidOut, IsRead, names_in}
-use Rattle.occ_parse_rules.specs.Forest.{Forest, and_line, lines_at, no_line}
-use Rattle.occ_parse_rules.specs.Judging.{first_fault}
-use Rattle.occ_parse_rules.specs.Names.{name_fault}
-use Rattle.occ_parse_rules.specs.Places.{Place, declared_in, param_entries}
-use Rattle.occ_parse_rules.specs.Types.{type_fault}
-use Rattle.occ_parse_sound.specs.Passing.{param_passes, shape_passes}
-use Rattle.occ_parse_sound.specs.Sound.{are_placed}
-use Rattle.occ_parse_unroll.specs.Elements.{elements, params_places, program_places, with_elements, with_places}
-use Rattle.occ_print_back.specs.Placed.{IsTable}
-use Rattle.occ_print_part_back.specs.Tables.{Grows}
+use Rattle.occ_script_back.specs.occ_base.declared.names.Name.{Name}
+use Rattle.occ_script_back.specs.occ_lex.Rows.{reading_of}
+use Rattle.occ_script_back.proofs.from_lex.Placing.{reading_placed}
+use Rattle.occ_script_back.proofs.from_lex.Interned.{extends_same}
+use Rattle.occ_script_back.proofs.from_parse.Knowing.{EachLine, IsLineOf, each_map, line_passes, line_small, lines_are_of}
+use Rattle.occ_script_back.proofs.from_parse.Placed.{good_are_placed}
+use Rattle.occ_script_back.proofs.from_parse.Small.{shape_small}
+use Rattle.occ_script_back.proofs.from_parse.Texts.{is_plain, plain_table}
+use Rattle.occ_script_back.specs.occ_parse_forms.declared.form.Param.{Param}
+use Rattle.occ_script_back.specs.occ_parse_forms.Shape.{close, header}
+use Rattle.occ_script_back.specs.occ_parse_layout.declared.placed.Frame.TheVariants as frame
+use Rattle.occ_script_back.specs.occ_parse_layout.Layout.{least_bad}
+use Rattle.occ_script_back.specs.occ_parse_layout.Whole.{IsProgram}
+use Rattle.occ_script_back.proofs.from_parse_layout.Framed.{whole_of}
+use Rattle.occ_script_back.specs.occ_parse.declared.bound.Bound.{Bound}
+use Rattle.occ_script_back.specs.occ_parse.declared.fault.ParseFault.{ParseFault}
+use Rattle.occ_script_back.specs.occ_parse.declared.bound.Bound.TheVariants as bound
+use Rattle.occ_script_back.specs.occ_parse.Drafts.{as_fault, draft_fault, header_below, header_params, name_fault_on, type_fault_on}
+use Rattle.occ_script_back.specs.occ_parse.Limits.{frame_of}
+use Rattle.occ_script_back.specs.occ_parse.Reading.{IsLaidOut, IsRead, names_in}
+use Rattle.occ_script_back.specs.occ_parse_rules.Forest.{Forest, and_line, lines_at, no_line}
+use Rattle.occ_script_back.specs.occ_parse_rules.Judging.{first_fault}
+use Rattle.occ_script_back.specs.occ_parse_rules.Names.{name_fault}
+use Rattle.occ_script_back.specs.occ_parse_rules.Places.{Place, declared_in, param_entries}
+use Rattle.occ_script_back.specs.occ_parse_rules.Types.{type_fault}
+use Rattle.occ_script_back.specs.occ_parse_rules.Passing.{param_passes, shape_passes}
+use Rattle.occ_script_back.specs.occ_parse_rules.Sound.{are_placed}
+use Rattle.occ_script_back.specs.occ_parse_unroll.Elements.{elements, params_places, program_places, with_elements, with_places}
+use Rattle.occ_script_back.specs.occ_print_back.Placed.{IsTable}
+use Rattle.occ_script_back.specs.Tables.{Grows}
 use Rattle.occ_script_table.proofs.Bases.{elements_of}
 use Rattle.occ_script_table.proofs.Named.{lines_grow, one_behind, places_grow}
 use Rattle.occ_script_table.proofs.Scoped.{AllFit, behind_params, both_fit, nothing_in_scope, params_fit, params_from}
 use Rattle.occ_script_table.proofs.Walked.{InOrder, first_none, in_order, lines_fit, second_none}
-use Rattle.occ_syntax.specs.declared.scope.Kind.{Kind}
-use Rattle.occ_syntax.specs.Tree.{Tree}
+use Rattle.occ_script_back.specs.occ_syntax.declared.scope.Kind.{Kind}
+use Rattle.occ_script_back.specs.occ_syntax.Tree.{Tree}
 
 -- ---- a program without a fault
 

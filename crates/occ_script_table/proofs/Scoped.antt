@@ -2,21 +2,21 @@
 use Rattle.std.proofs.Common.{◌≡◌, ℕ, zero, suc, ◌+◌, ◌<◌, ◌≤◌, Bool, true, false, ◌==◌, nat_lt, if◌then◌else◌, List, [], ◌∷◌, ◌++◌, Option, Some, None, refl, sym, subst, ◌∙◌, arith}
 use Rattle.std.specs.List.{AllByRecursion, flat_map, list_all, list_any}
 use Rattle.std.proofs.lemmas.Bool.{and_parts, eqb-true, ltb-true, or_parts}
-use Rattle.occ_meaning.proofs.Facts.{false_not_true, none_not_some}
-use Rattle.occ_parse.proofs.Small.{declared_small}
-use Rattle.occ_parse_forms.specs.declared.form.Declared.{Declared}
-use Rattle.occ_parse_forms.specs.declared.form.Declared.TheVariants as declared
-use Rattle.occ_parse_forms.specs.declared.form.Param.{Param}
-use Rattle.occ_parse_forms.specs.declared.form.Times.{Times}
-use Rattle.occ_parse_rules.specs.declared.sort.Entry.{Entry}
-use Rattle.occ_parse_rules.specs.declared.sort.Sort.{Sort}
-use Rattle.occ_parse_rules.specs.declared.sort.Sort.TheVariants as sort
-use Rattle.occ_parse_rules.specs.Places.{Place, Sorts, Indices, counter_of, declared_in, declares, elements_from, entries_of, entry_of, for_some, numbers_from, param_entries, places, sort_at, sort_of, taken_by, values_of, with_index}
-use Rattle.occ_parse_sound.specs.Passing.{declared_passes, param_passes}
-use Rattle.occ_print.proofs.Lists.{all-append}
-use Rattle.occ_syntax.specs.declared.scope.Kind.{Kind}
-use Rattle.occ_syntax.specs.declared.scope.Kind.TheVariants as kind
-use Rattle.occ_syntax.specs.Types.{is_width, width_of_kind}
+use Rattle.occ_script_back.proofs.from_meaning.Facts.{false_not_true, none_not_some}
+use Rattle.occ_script_back.proofs.from_parse.Small.{declared_small}
+use Rattle.occ_script_back.specs.occ_parse_forms.declared.form.Declared.{Declared}
+use Rattle.occ_script_back.specs.occ_parse_forms.declared.form.Declared.TheVariants as declared
+use Rattle.occ_script_back.specs.occ_parse_forms.declared.form.Param.{Param}
+use Rattle.occ_script_back.specs.occ_parse_forms.declared.form.Times.{Times}
+use Rattle.occ_script_back.specs.occ_parse_rules.declared.sort.Entry.{Entry}
+use Rattle.occ_script_back.specs.occ_parse_rules.declared.sort.Sort.{Sort}
+use Rattle.occ_script_back.specs.occ_parse_rules.declared.sort.Sort.TheVariants as sort
+use Rattle.occ_script_back.specs.occ_parse_rules.Places.{Place, Sorts, Indices, counter_of, declared_in, declares, elements_from, entries_of, entry_of, for_some, numbers_from, param_entries, places, sort_at, sort_of, taken_by, values_of, with_index}
+use Rattle.occ_script_back.specs.occ_parse_rules.Passing.{declared_passes, param_passes}
+use Rattle.occ_script_back.proofs.from_print.Lists.{all-append}
+use Rattle.occ_script_back.specs.occ_syntax.declared.scope.Kind.{Kind}
+use Rattle.occ_script_back.specs.occ_syntax.declared.scope.Kind.TheVariants as kind
+use Rattle.occ_script_back.specs.occ_syntax.Types.{is_width, width_of_kind}
 
 -- ---- places
 

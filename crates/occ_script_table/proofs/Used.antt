@@ -3,21 +3,21 @@ use Rattle.std.proofs.Common.{◌≡◌, Bool, true, false, not, ◌||◌, List,
 use Rattle.std.specs.Prelude.{option_to_list}
 use Rattle.std.specs.List.{AllByRecursion, list_any}
 use Rattle.std.proofs.lemmas.Bool.{not-false, or_parts}
-use Rattle.occ_meaning.proofs.Facts.{and_second, true_not_false}
-use Rattle.occ_parse_forms.specs.declared.form.Item.{Item}
-use Rattle.occ_parse_forms.specs.declared.phrase.Index.{Index}
-use Rattle.occ_parse_forms.specs.Shape.{Said, Shape, Waiting}
-use Rattle.occ_parse_forms.specs.Shape as line
-use Rattle.occ_parse_rules.specs.declared.fault.NameFault.TheVariants as name
-use Rattle.occ_parse_rules.specs.declared.fault.TypeFault.TheVariants as type
-use Rattle.occ_parse_rules.specs.declared.sort.Sort.{Sort}
-use Rattle.occ_parse_rules.specs.declared.sort.Sort.TheVariants as sort
-use Rattle.occ_parse_rules.specs.Names.{index_counts, is_outside, is_undeclared, is_undeclared_at, items_in, items_in_all, items_of_waiting, left_items, name_fault, redeclares, some_meet, uses}
-use Rattle.occ_parse_rules.specs.Places.{Place, Sorts, Indices, for_some, place_at, place_with, sort_at, sort_of_place}
-use Rattle.occ_parse_rules.specs.Types.{has_lost, line_clashes, sort_here, type_fault}
-use Rattle.occ_parse_sound.proofs.Facts.{if_none}
-use Rattle.occ_parse_unroll.specs.Elements.{item_places, items_places, operand_places, places_in, values_places, waiting_places}
-use Rattle.occ_print.proofs.Lists.{all-back, all-front}
+use Rattle.occ_script_back.proofs.from_meaning.Facts.{and_second, true_not_false}
+use Rattle.occ_script_back.specs.occ_parse_forms.declared.form.Item.{Item}
+use Rattle.occ_script_back.specs.occ_parse_forms.declared.phrase.Index.{Index}
+use Rattle.occ_script_back.specs.occ_parse_forms.Shape.{Said, Shape, Waiting}
+use Rattle.occ_script_back.specs.occ_parse_forms.Shape as line
+use Rattle.occ_script_back.specs.occ_parse_rules.declared.fault.NameFault.TheVariants as name
+use Rattle.occ_script_back.specs.occ_parse_rules.declared.fault.TypeFault.TheVariants as type
+use Rattle.occ_script_back.specs.occ_parse_rules.declared.sort.Sort.{Sort}
+use Rattle.occ_script_back.specs.occ_parse_rules.declared.sort.Sort.TheVariants as sort
+use Rattle.occ_script_back.specs.occ_parse_rules.Names.{index_counts, is_outside, is_undeclared, is_undeclared_at, items_in, items_in_all, items_of_waiting, left_items, name_fault, redeclares, some_meet, uses}
+use Rattle.occ_script_back.specs.occ_parse_rules.Places.{Place, Sorts, Indices, for_some, place_at, place_with, sort_at, sort_of_place}
+use Rattle.occ_script_back.specs.occ_parse_rules.Types.{has_lost, line_clashes, sort_here, type_fault}
+use Rattle.occ_script_back.proofs.from_parse_rules.Facts.{if_none}
+use Rattle.occ_script_back.specs.occ_parse_unroll.Elements.{item_places, items_places, operand_places, places_in, values_places, waiting_places}
+use Rattle.occ_script_back.proofs.from_print.Lists.{all-back, all-front}
 use Rattle.occ_script_table.proofs.Scoped.{AllFit, IsFit, both_fit, in_scope}
 
 some_of : {A : Type 0} (o : Option A) → is_none o ≡ false → (a : A) × (o ≡ Some a)

@@ -2,24 +2,24 @@
 use Rattle.std.proofs.Common.{◌≡◌, Bool, true, ◌&&◌, List, [], ◌∷◌, ◌++◌, Option, Some, None, refl, ℕ}
 use Rattle.std.specs.List.{AllByRecursion, list_all}
 use Rattle.std.proofs.lemmas.Bool.{and_parts}
-use Rattle.occ_meaning.proofs.Facts.{false_not_true}
-use Rattle.occ_parse.proofs.Knowing.{EachLine}
-use Rattle.occ_parse.proofs.Small.{shape_small}
-use Rattle.occ_parse_forms.specs.declared.form.Group.{Group}
-use Rattle.occ_parse_forms.specs.declared.form.Group.TheVariants as word
-use Rattle.occ_parse_forms.specs.declared.form.Times.{Times}
-use Rattle.occ_parse_forms.specs.Shape.{Shape}
-use Rattle.occ_parse_forms.specs.Shape as line
-use Rattle.occ_parse_rules.specs.Forest.{Forest, no_line, and_line}
-use Rattle.occ_parse_rules.specs.Judging.{behind, first_fault, inside, on_line, or_else}
-use Rattle.occ_parse_rules.specs.Names.{name_fault}
-use Rattle.occ_parse_rules.specs.Places.{Place, Sorts, Indices, counter_of, declared_in, entries_of, numbers_from, values_of, with_index}
-use Rattle.occ_parse_rules.specs.Types.{type_fault}
-use Rattle.occ_parse_rules.specs.Unrolled.{copies}
-use Rattle.occ_parse_sound.specs.Passing.{declared_passes, shape_passes, times_passes}
-use Rattle.occ_parse_sound.specs.Sound.{are_options, are_placed, is_declare, options_below}
-use Rattle.occ_parse_unroll.specs.Elements.{all_places, as_slots, branch_places, case_places, construct_places, copied_places, elements, first_places, nested_branches_places, nested_cases_places, parts_places, places_in, process_places, waiting_places}
-use Rattle.occ_syntax.specs.Types.{is_width, width_of_kind}
+use Rattle.occ_script_back.proofs.from_meaning.Facts.{false_not_true}
+use Rattle.occ_script_back.proofs.from_parse.Knowing.{EachLine}
+use Rattle.occ_script_back.proofs.from_parse.Small.{shape_small}
+use Rattle.occ_script_back.specs.occ_parse_forms.declared.form.Group.{Group}
+use Rattle.occ_script_back.specs.occ_parse_forms.declared.form.Group.TheVariants as word
+use Rattle.occ_script_back.specs.occ_parse_forms.declared.form.Times.{Times}
+use Rattle.occ_script_back.specs.occ_parse_forms.Shape.{Shape}
+use Rattle.occ_script_back.specs.occ_parse_forms.Shape as line
+use Rattle.occ_script_back.specs.occ_parse_rules.Forest.{Forest, no_line, and_line}
+use Rattle.occ_script_back.specs.occ_parse_rules.Judging.{behind, first_fault, inside, on_line, or_else}
+use Rattle.occ_script_back.specs.occ_parse_rules.Names.{name_fault}
+use Rattle.occ_script_back.specs.occ_parse_rules.Places.{Place, Sorts, Indices, counter_of, declared_in, entries_of, numbers_from, values_of, with_index}
+use Rattle.occ_script_back.specs.occ_parse_rules.Types.{type_fault}
+use Rattle.occ_script_back.specs.occ_parse_rules.Unrolled.{copies}
+use Rattle.occ_script_back.specs.occ_parse_rules.Passing.{declared_passes, shape_passes, times_passes}
+use Rattle.occ_script_back.specs.occ_parse_rules.Sound.{are_options, are_placed, is_declare, options_below}
+use Rattle.occ_script_back.specs.occ_parse_unroll.Elements.{all_places, as_slots, branch_places, case_places, construct_places, copied_places, elements, first_places, nested_branches_places, nested_cases_places, parts_places, places_in, process_places, waiting_places}
+use Rattle.occ_script_back.specs.occ_syntax.Types.{is_width, width_of_kind}
 use Rattle.occ_script_table.proofs.Scoped.{AllDeclaredFit, AllFit, Among, IsFit, at_value, behind_declared, both_fit, copies_among, declared_fit, declared_from}
 use Rattle.occ_script_table.proofs.Used.{LineInOrder, assigned_fit, guard_fits, said_fits, used, waiting_fits}
 

@@ -1,20 +1,20 @@
 -- Tables that begin empty are tables of places.
 use Rattle.std.proofs.Common.{ℕ, List, [], None}
-use Rattle.occ_base.specs.declared.names.Name.{Name}
-use Rattle.occ_parse_reading.specs.declared.bound.Bound.{Bound}
-use Rattle.occ_parse_reading.specs.Reading.{IsRead}
-use Rattle.occ_parse_rules.specs.Places.{Place}
-use Rattle.occ_print_part_back.specs.Tables.{Grows}
-use Rattle.occ_script.specs.declared.script.Order.{Order}
-use Rattle.occ_script.specs.declared.script.Script.{Script}
-use Rattle.occ_script.specs.Orders.{IsOrders}
-use Rattle.occ_script.specs.Scripts.{IsScript}
+use Rattle.occ_script_back.specs.occ_base.declared.names.Name.{Name}
+use Rattle.occ_script_back.specs.occ_parse.declared.bound.Bound.{Bound}
+use Rattle.occ_script_back.specs.occ_parse.Reading.{IsRead}
+use Rattle.occ_script_back.specs.occ_parse_rules.Places.{Place}
+use Rattle.occ_script_back.specs.Tables.{Grows}
+use Rattle.occ_script_back.specs.occ_script.declared.script.Order.{Order}
+use Rattle.occ_script_back.specs.occ_script.declared.script.Script.{Script}
+use Rattle.occ_script_back.specs.occ_script.Orders.{IsOrders}
+use Rattle.occ_script_back.specs.occ_script.Scripts.{IsScript}
 use Rattle.occ_script_table.specs.Tables.{HasPlaces}
 use Rattle.occ_script_table.proofs.Left.{orders_left, script_left}
 use Rattle.occ_script_table.proofs.Named.{no_names}
 use Rattle.occ_script_table.proofs.Programs.{program_left}
-use Rattle.occ_syntax.specs.declared.scope.Kind.{Kind}
-use Rattle.occ_syntax.specs.Tree.{Tree}
+use Rattle.occ_script_back.specs.occ_syntax.declared.scope.Kind.{Kind}
+use Rattle.occ_script_back.specs.occ_syntax.Tree.{Tree}
 
 grown : (names : List (List ℕ)) (P : ℕ → Place) (more : List (List ℕ)) → Grows names P more → HasPlaces more
 grown names P more g = (g.0, g.1.table)

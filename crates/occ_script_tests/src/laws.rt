@@ -1,4 +1,4 @@
-use occ_law::{LawId, TABLE, find, name};
+use occ_script::{LawId, TABLE, find, law_name as name};
 
 #[test]
 fn names_and_numbers(rt: HostRuntime) {

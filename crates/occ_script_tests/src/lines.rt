@@ -1,6 +1,7 @@
-use occ_base::Memory;
-use occ_script_lines::{Format, Sections, is_blank, last_line, lines, step_line};
-use occ_script_path::Direction;
+use occ_script::{
+    Direction, Format, Memory, Sections, is_blank, last_line, script_lines_lines as lines,
+    step_line,
+};
 
 const SCRIPT: &[u8] =
     b"occam-script 2\nFROM -- first\n\nSTEP seq-one FORWARD /0/12\n  SKIP\n\nTO\nTOP\n\n";

@@ -1,13 +1,14 @@
 ghost use Rattle.std.specs.Prelude.{◌≡◌, ◌∷◌, IfOk, true, []};
-ghost use Rattle.occ_behaviour.specs.States.{is_state};
-ghost use Rattle.occ_usage.specs.Accepted.{IsTyped};
+ghost use Rattle.occ_run_schedule.specs.occ_behaviour.States.{is_state};
+ghost use Rattle.occ_script.specs.occ_usage.Accepted.{IsTyped};
 
-use occ_base::{Dir, Event, Memory, Name, State, Width};
-use occ_run::{Move, Stand, StepFault, start};
+use occ_run_schedule::{Move, Stand, StepFault, start};
+use occ_script::{
+    Accepted, Dir, Event, Memory, Name, State, UsageFault, Width, check, keeps_scope, keeps_types,
+};
 use occ_syntax::{
     Expr, Exprs, Kind, NameList, Proc, Procs, Program, Scope, controls, interface_bits, scope_bits,
 };
-use occ_usage::{Accepted, UsageFault, check, keeps_scope, keeps_types};
 use std::alloc::Global;
 
 const X: Name = Name(0);

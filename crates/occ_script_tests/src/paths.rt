@@ -1,9 +1,8 @@
-use occ_base::{List, Name, Width};
-use occ_script_path::{at, path};
+use occ_script::{List, Name, Width, at, script_lines_path as path};
 use occ_syntax::{Kind, Proc, Procs, Program, Scope};
 use std::alloc::Global;
 
-fn program(alloc: Global) -> Result<Program, occ_base::Memory> {
+fn program(alloc: Global) -> Result<Program, occ_script::Memory> {
     let mut parts = Procs::new(alloc);
     parts.push(Proc::Skip)?;
     parts.push(Proc::Stop)?;
@@ -14,7 +13,7 @@ fn program(alloc: Global) -> Result<Program, occ_base::Memory> {
 }
 
 #[test]
-fn paths_lead_to_parts(rt: HostRuntime) -> Result<(), occ_base::Memory> {
+fn paths_lead_to_parts(rt: HostRuntime) -> Result<(), occ_script::Memory> {
     let program = program(rt.alloc())?;
     if let Some(below) = path(rt.alloc(), b"/0/1")? {
         assert!(rt; matches!(at(&program, &below), Some(Proc::Stop)));
@@ -26,7 +25,7 @@ fn paths_lead_to_parts(rt: HostRuntime) -> Result<(), occ_base::Memory> {
 }
 
 #[test]
-fn texts_write_paths(rt: HostRuntime) -> Result<(), occ_base::Memory> {
+fn texts_write_paths(rt: HostRuntime) -> Result<(), occ_script::Memory> {
     let rows: [(&[u8], bool); 10] = [
         (b"/", true),
         (b"/0", true),

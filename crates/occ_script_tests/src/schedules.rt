@@ -1,5 +1,5 @@
-use occ_base::{Memory, Names, Width};
-use occ_run_read::{ScheduleFault, read};
+use occ_run_schedule::{ScheduleFault, read};
+use occ_script::{Memory, Names, Width};
 use occ_syntax::Kind;
 
 #[test]

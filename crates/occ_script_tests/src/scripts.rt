@@ -1,6 +1,4 @@
-use occ_base::Names;
-use occ_parse::ParseFault;
-use occ_script::{ScriptFault, orders, read};
+use occ_script::{Names, ParseFault, ScriptFault, orders, read};
 use std::alloc::Global;
 
 const SCRIPT: &[u8] =

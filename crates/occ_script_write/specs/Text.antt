@@ -5,8 +5,8 @@ use Rattle.occ_law.specs.declared.table.LawId.{LawId}
 use Rattle.occ_law.specs.Table.{law_names}
 use Rattle.occ_print.specs.Known.{PartIsKnown}
 use Rattle.occ_print.specs.Spelled.{part_text, program_text}
-use Rattle.occ_script_path.specs.declared.direction.Direction.{Direction}
-use Rattle.occ_script_path.specs.declared.direction.Direction.TheVariants as direction
+use Rattle.occ_script_lines.specs.declared.direction.Direction.{Direction}
+use Rattle.occ_script_lines.specs.declared.direction.Direction.TheVariants as direction
 use Rattle.occ_syntax.specs.declared.scope.Program.{Program}
 use Rattle.occ_syntax.specs.View.{tree}
 use Rattle.occ_script_write.specs.declared.writing.Done.{Done}

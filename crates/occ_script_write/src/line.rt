@@ -4,8 +4,7 @@ ghost use Rattle.std.specs.Prelude.{◌≡◌, ◌++◌, OnOk, decimal};
 ghost use Rattle.occ_script_write.specs.Text.{direction_text, line, numbers_text, path_text, place_text};
 
 use itoa::Buffer;
-use occ_base::Memory;
-use occ_script_path::{Direction, Path};
+use occ_script_lines::{Direction, Memory, Path};
 
 /// Adds words and a line feed.
 pub(crate) fn push_line(text: &mut Vec<u8>, words: &[u8]) -> Result<(), Memory>

@@ -7,10 +7,9 @@ ghost use Rattle.occ_syntax.specs.View.{tree};
 ghost use Rattle.occ_script_write.specs.Text.{IsWritable, script_text, step_text, step_words, steps_text};
 
 use crate::line::{direction_word, push_line, push_path};
-use occ_base::{Memory, Names};
 use occ_law::{LawId, name};
 use occ_print::{print, print_part};
-use occ_script_path::{Direction, Path};
+use occ_script_lines::{Direction, Memory, Names, Path};
 use occ_syntax::{Proc, Program};
 use std::alloc::Global;
 
@@ -65,7 +64,8 @@ fn push_steps(
 }
 
 /// The text of a script: the first line of the format, the program that it begins with, its steps, each with its part, and the program
-/// that it comes to. Names are those of the table, and laws have numbers from 1 to 63; the one refusal is want of memory.
+/// that it comes to. Names are those of the table, and laws have numbers from 1 to 63; it is refused only where memory
+/// runs out.
 pub fn write(
     alloc: Global,
     names: &Names,

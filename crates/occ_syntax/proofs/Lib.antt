@@ -6,3 +6,5 @@ pub mod Counting
 pub mod Widest
 pub mod Rows
 pub mod Within
+pub mod Widths
+pub use Rattle.occ_base.proofs as from_base

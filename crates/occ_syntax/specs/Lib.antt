@@ -9,3 +9,4 @@ pub mod Meaning
 pub mod Same
 pub mod Counts
 pub mod Declarations
+pub use Rattle.occ_base.specs as occ_base

@@ -85,7 +85,7 @@ impl Exprs {
         }
     }
 
-    /// Adds an expression at the end. After want of memory the list is as before.
+    /// Adds an expression at the end. Where memory runs out, the list is as before.
     pub fn push(&mut self, item: Expr) -> Result<(), Memory>
         ensures ok { OnOk result (self.new ≡ self.old ++ item ∷ []) }
         ensures err { OnErr result (self.new ≡ self.old) }

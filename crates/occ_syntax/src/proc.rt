@@ -150,7 +150,7 @@ impl Procs {
         }
     }
 
-    /// Adds a process at the end. After want of memory the list is as before.
+    /// Adds a process at the end. Where memory runs out, the list is as before.
     pub fn push(&mut self, item: Proc) -> Result<(), Memory>
         ensures ok { OnOk result (in_procs self.new ≡ in_procs self.old ++ item ∷ []) }
         ensures err { OnErr result (in_procs self.new ≡ in_procs self.old) }
@@ -187,7 +187,7 @@ impl Choices {
         }
     }
 
-    /// Adds a choice at the end. After want of memory the list is as before.
+    /// Adds a choice at the end. Where memory runs out, the list is as before.
     pub fn push(&mut self, item: (Expr, Proc)) -> Result<(), Memory>
         ensures ok { OnOk result (in_choices self.new ≡ in_choices self.old ++ item ∷ []) }
         ensures err { OnErr result (in_choices self.new ≡ in_choices self.old) }
@@ -224,7 +224,7 @@ impl Alternatives {
         }
     }
 
-    /// Adds an alternative at the end. After want of memory the list is as before.
+    /// Adds an alternative at the end. Where memory runs out, the list is as before.
     pub fn push(&mut self, item: (Guard, Proc)) -> Result<(), Memory>
         ensures ok { OnOk result (in_alternatives self.new ≡ in_alternatives self.old ++ item ∷ []) }
         ensures err { OnErr result (in_alternatives self.new ≡ in_alternatives self.old) }

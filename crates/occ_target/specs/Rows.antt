@@ -1,11 +1,11 @@
 -- The process of a row of a table: an ALT of its offers, its acceptances and its ends.
 use Rattle.std.specs.Prelude.{ℕ, ◌==◌, Bool, true, false, ◌&&◌, List, [], ◌∷◌, ◌++◌, drop, map, filter, get_or, Option, None, Some, if◌then◌else◌}
-use Rattle.occ_base.specs.declared.event.Dir.{Dir}
-use Rattle.occ_base.specs.declared.event.Dir.TheVariants.{Input, Output}
-use Rattle.occ_base.specs.declared.event.Event.{Event}
-use Rattle.occ_base.specs.declared.names.Name.{Name}
-use Rattle.occ_base.specs.declared.width.Width.{Width}
-use Rattle.occ_base.specs.declared.width.Width.TheVariants.{Bool as Truth}
+use Rattle.occ_nform_table.specs.occ_base.declared.event.Dir.{Dir}
+use Rattle.occ_nform_table.specs.occ_base.declared.event.Dir.TheVariants.{Input, Output}
+use Rattle.occ_nform_table.specs.occ_base.declared.event.Event.{Event}
+use Rattle.occ_nform_table.specs.occ_base.declared.names.Name.{Name}
+use Rattle.occ_nform_table.specs.occ_base.declared.width.Width.{Width}
+use Rattle.occ_nform_table.specs.occ_base.declared.width.Width.TheVariants.{Bool as Truth}
 use Rattle.occ_syntax.specs.declared.scope.Kind.{Kind}
 use Rattle.occ_syntax.specs.declared.scope.Kind.TheVariants.{Var, Chan}
 use Rattle.occ_syntax.specs.Scopes.{channel_width, environment, same_event}

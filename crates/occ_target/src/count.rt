@@ -11,8 +11,9 @@ ghost use Rattle.occ_target.specs.Sizes.{acceptance_size, choices_size, events_s
 use crate::events::{is_in_branch, is_on};
 use crate::inputs::width_count;
 use crate::row::chosen;
-use occ_base::{Dir, Event, Events, List, Memory, Name, Names};
-use occ_nform_table::{Table, TableRow};
+use occ_nform_table::{
+    BaseEvents as Events, BaseNames as Names, Dir, Event, List, Memory, Name, Table, TableRow,
+};
 use occ_syntax::Kind;
 use std::alloc::Global;
 

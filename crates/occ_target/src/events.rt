@@ -8,7 +8,7 @@ ghost use Rattle.occ_target.specs.Rows.{behind, choices, guarded, is_in_branch, 
 
 use crate::state::{constant, is_at};
 use crate::widths::{variable_of, width_in};
-use occ_base::{Dir, Event, Memory, Name};
+use occ_nform_table::{Dir, Event, Memory, Name};
 use occ_syntax::{Alternatives, Choices, Expr, Guard, Kind, Proc, Wait};
 use std::alloc::Global;
 
@@ -90,7 +90,7 @@ impl Frame<'_> {
     }
 
     /// What follows the first of these events; all inputs from its channel are one branch.
-    #[tactic(auto, unfolding(occ_syntax::specs::View::tree))]
+    #[tactic(auto, unfolding(crate::specs::tree))]
     fn behind(
         &self,
         alloc: Global,

@@ -9,8 +9,7 @@ ghost use Rattle.occ_target.specs.Rows.{acceptance, begins_with, chosen, end_bra
 
 use crate::events::Frame;
 use crate::state::ending;
-use occ_base::{Event, Events, Memory, State};
-use occ_nform_table::{TableOffers, TableRow};
+use occ_nform_table::{BaseEvents as Events, Event, Memory, State, TableOffers, TableRow};
 use occ_syntax::{Alternatives, Expr, Guard, Proc, Wait};
 use std::alloc::Global;
 

@@ -4,7 +4,7 @@ ghost use Rattle.std.specs.Prelude.{◌≡◌, ◌≤◌};
 ghost use Rattle.occ_target.specs.Inputs.{digit_of, is_input_of, is_input_width, same_width};
 ghost use Rattle.occ_target.specs.Rows.{variable_of, width_in};
 
-use occ_base::{Dir, Name, Width};
+use occ_nform_table::{Dir, Name, Width};
 use occ_syntax::Kind;
 
 pub(crate) fn same_width(left: Width, right: Width) -> bool

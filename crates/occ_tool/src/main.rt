@@ -1,8 +1,7 @@
 //! The program: `occam` over the files of the system and its standard output.
 #![tactic(auto)]
 
-use occ_desk::RealDesk;
-use occ_tool_run::run;
+use occ_tool_run::{RealDesk, run};
 use std::env;
 use std::io::ErrorKind;
 use std::process::ExitCode;

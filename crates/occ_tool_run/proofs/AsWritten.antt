@@ -1,23 +1,23 @@
 -- Laws on texts by how they are written, and what a program's normal text and table are by them.
 use Rattle.std.proofs.Common.{◌≡◌, ◌<◌, ◌≤◌, ◌^◌, ◌↔◌, ◌∙◌, ℕ, true, List, [], length, None, Ok, Err, Vec, Global, refl, sym, subst, arith}
-use Rattle.occ_base.specs.Names.{IsDistinct}
-use Rattle.occ_base.specs.declared.names.Name.{Name}
-use Rattle.occ_behaviour.specs.declared.behaviour.Behaviour.{Behaviour}
-use Rattle.occ_behaviour_read.specs.Claims.{bare_lines, claim_read}
-use Rattle.occ_gen.specs.declared.shape.Shape.{Shape}
-use Rattle.occ_lex.specs.Rows.{rows}
-use Rattle.occ_nform.specs.Written.{IsNormalText}
-use Rattle.occ_nform.specs.declared.figures.Counts.{Counts}
-use Rattle.occ_nform_program.specs.Counted.{HasCounts}
-use Rattle.occ_nform_table.specs.Behaviours.{Stands}
-use Rattle.occ_nform_table.specs.Normal.{Parts, table_fault, text_read}
-use Rattle.occ_nform_table.specs.Tables.{IsInterface, IsNormal, are_params}
-use Rattle.occ_nform_table.specs.Texts.{table_text}
-use Rattle.occ_nform_table.specs.declared.table.TableFault.{TableFault}
-use Rattle.occ_nform_table.specs.declared.table.TableRow.{TableRow}
-use Rattle.occ_nform_written.specs.Behaviours.{AreBehaviourLines, IsBehaviourText}
-use Rattle.occ_nform_written.specs.Stops.{StopsAt}
-use Rattle.occ_nform_written.specs.Tables.{IsTableFault, IsTableOf, IsTableText, IsTextOf}
+use Rattle.occ_desk.specs.occ_base.Names.{IsDistinct}
+use Rattle.occ_desk.specs.occ_base.declared.names.Name.{Name}
+use Rattle.occ_run_schedule.specs.occ_behaviour.declared.behaviour.Behaviour.{Behaviour}
+use Rattle.occ_run_schedule.specs.occ_behaviour_read.Claims.{bare_lines, claim_read}
+use Rattle.occ_tool_words.specs.occ_gen.declared.shape.Shape.{Shape}
+use Rattle.occ_replay.specs.occ_lex.Rows.{rows}
+use Rattle.occ_read_renamed.specs.occ_nform.Written.{IsNormalText}
+use Rattle.occ_read_renamed.specs.occ_nform.declared.figures.Counts.{Counts}
+use Rattle.occ_read_renamed.specs.occ_nform.Counted.{HasCounts}
+use Rattle.occ_run_schedule.specs.occ_nform_table.Behaviours.{Stands}
+use Rattle.occ_run_schedule.specs.occ_nform_table.Normal.{Parts, table_fault, text_read}
+use Rattle.occ_run_schedule.specs.occ_nform_table.Tables.{IsInterface, IsNormal, are_params}
+use Rattle.occ_run_schedule.specs.occ_nform_table.Texts.{table_text}
+use Rattle.occ_run_schedule.specs.occ_nform_table.declared.table.TableFault.{TableFault}
+use Rattle.occ_run_schedule.specs.occ_nform_table.declared.table.TableRow.{TableRow}
+use Rattle.occ_run_schedule.specs.occ_behaviour_read.Behaviours.{AreBehaviourLines, IsBehaviourText}
+use Rattle.occ_run_schedule.specs.occ_behaviour_read.Stops.{StopsAt}
+use Rattle.occ_run_schedule.specs.occ_behaviour_read.Tables.{IsTableFault, IsTableOf, IsTableText, IsTextOf}
 use Rattle.occ_syntax.specs.Tree.{Tree}
 use Rattle.occ_syntax.specs.Types.{scope_kept}
 use Rattle.occ_syntax.specs.declared.scope.Kind.{Kind}

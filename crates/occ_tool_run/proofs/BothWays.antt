@@ -1,16 +1,16 @@
 -- Two accepted programs mean the same exactly where each refines the other, by the answers to them.
 use Rattle.std.proofs.Common.{◌≡◌, ◌↔◌, ◌==◌, ℕ, List, [], ◌∷◌, Bool, false, codes, refl, sym, ap, ◌∙◌, subst}
 use Rattle.std.proofs.lemmas.Bool.{false≢true}
-use Rattle.occ_base.specs.declared.names.Name.{Name}
+use Rattle.occ_desk.specs.occ_base.declared.names.Name.{Name}
 use Rattle.occ_syntax.specs.declared.scope.Kind.{Kind}
 use Rattle.occ_syntax.specs.Tree.{Tree}
-use Rattle.occ_behaviour.specs.declared.behaviour.Verdict.{Verdict}
-use Rattle.occ_behaviour.specs.declared.behaviour.Verdict.TheVariants.{Same, Differ}
-use Rattle.occ_behaviour.specs.Texts.{text_of_verdict}
-use Rattle.occ_verdict.specs.Verdict.{IsVerdictOf}
-use Rattle.occ_views.specs.declared.refined.Refined.{Refined as Refinement}
-use Rattle.occ_views.specs.declared.refined.Refined.TheVariants.{Yes, No}
-use Rattle.occ_views.specs.Programs.{IsRefinement}
+use Rattle.occ_run_schedule.specs.occ_behaviour.declared.behaviour.Verdict.{Verdict}
+use Rattle.occ_run_schedule.specs.occ_behaviour.declared.behaviour.Verdict.TheVariants.{Same, Differ}
+use Rattle.occ_run_schedule.specs.occ_behaviour.Texts.{text_of_verdict}
+use Rattle.occ_refine.specs.Verdict.{IsVerdictOf}
+use Rattle.occ_run_schedule.specs.occ_compare.declared.refined.Refined.{Refined as Refinement}
+use Rattle.occ_run_schedule.specs.occ_compare.declared.refined.Refined.TheVariants.{Yes, No}
+use Rattle.occ_run_schedule.specs.occ_compare.Programs.{IsRefinement}
 use Rattle.occ_tool_run.specs.declared.answer.Answer.{Answer}
 use Rattle.occ_tool_run.specs.Texts.{text_of, refined_text}
 use Rattle.occ_tool_run.specs.Answers.{Compares, apart, compared, Refines, other, allowed}

@@ -1,16 +1,16 @@
 -- Normal programs that were derived.
 use Rattle.std.proofs.Common.{◌≡◌, ◌≤◌, ℕ, List, Result, Ok, Err, IfOk, refl, sym, subst}
-use Rattle.occ_base.specs.declared.memory.Memory.{Memory}
+use Rattle.occ_desk.specs.occ_base.declared.memory.Memory.{Memory}
 use Rattle.occ_derive.specs.Derived.{CanBeWritten as IsDerivedIn, IsDerivation}
-use Rattle.occ_engine.specs.declared.outcome.Outcome.{Outcome}
-use Rattle.occ_fresh.specs.Growth.{GrowsByNames}
-use Rattle.occ_nform_program.specs.Tabled.{IsTableOf}
-use Rattle.occ_nform_table.specs.declared.table.Table.{Table}
+use Rattle.occ_engine_written.specs.occ_engine.declared.outcome.Outcome.{Outcome}
+use Rattle.occ_replay.specs.occ_lex.Growth.{GrowsByNames}
+use Rattle.occ_read_renamed.specs.occ_nform.Tabled.{IsTableOf}
+use Rattle.occ_run_schedule.specs.occ_nform_table.declared.table.Table.{Table}
 use Rattle.occ_syntax.specs.Counts.{controls}
 use Rattle.occ_syntax.specs.declared.scope.Program.{Program}
 use Rattle.occ_syntax.specs.Tree.{Tree}
 use Rattle.occ_syntax.specs.View.{tree}
-use Rattle.occ_target.specs.Program.{normal_body}
+use Rattle.occ_derive.specs.occ_target.Program.{normal_body}
 use Rattle.occ_tool_run.specs.declared.answer.Answer.{Answer}
 use Rattle.occ_tool_run.specs.Derived.{IsDerived, IsNormalBody, derived}
 use Rattle.occ_tool_run.specs.Transformed.{CanBeWritten}

@@ -6,14 +6,14 @@ use Rattle.std.specs.Ordering.{ordering_reverse}
 use Rattle.std.specs.declared.cmp.Ordering.{Ordering}
 use Rattle.std.specs.declared.cmp.Ordering.TheVariants.{Less, Equal, Greater}
 use Rattle.std.proofs.lemmas.Bool.{cases_Bool, false≢true}
-use Rattle.occ_base.specs.declared.names.Name.{Name}
+use Rattle.occ_desk.specs.occ_base.declared.names.Name.{Name}
 use Rattle.occ_syntax.specs.declared.scope.Kind.{Kind}
 use Rattle.occ_syntax.specs.Tree.{Tree}
-use Rattle.occ_behaviour.specs.declared.behaviour.Side.{Side}
-use Rattle.occ_behaviour.specs.declared.behaviour.Side.TheVariants.{First, Second}
-use Rattle.occ_parse_reading.specs.Reading.{too_long}
-use Rattle.occ_verdict.specs.Verdict.{IsVerdictOf}
-use Rattle.occ_views.specs.Programs.{IsRefinement}
+use Rattle.occ_run_schedule.specs.occ_behaviour.declared.behaviour.Side.{Side}
+use Rattle.occ_run_schedule.specs.occ_behaviour.declared.behaviour.Side.TheVariants.{First, Second}
+use Rattle.occ_tool_words.specs.occ_parse.Reading.{too_long}
+use Rattle.occ_refine.specs.Verdict.{IsVerdictOf}
+use Rattle.occ_run_schedule.specs.occ_compare.Programs.{IsRefinement}
 use Rattle.occ_tool_words.specs.Words.{is_plain, refine, same}
 use Rattle.occ_tool_run.specs.declared.answer.Answer.{Answer}
 use Rattle.occ_tool_run.specs.declared.answer.Answer.TheVariants.{Refused, Unusable, Usage}

@@ -2,36 +2,36 @@
 use Rattle.std.proofs.Common.{◌≡◌, ◌≢◌, ◌≤◌, ◌<◌, ◌++◌, ◌⊎◌, inl, inr, ℕ, true, List, [], ◌∷◌, length, Option, Some, Result, Ok, Err, IfOk, IfErr, Vec, Global, refl, sym, ap, subst, ◌∙◌, arith}
 use Rattle.std.specs.List.{AllByRecursion}
 use Rattle.std.proofs.lemmas.List.{length-append}
-use Rattle.occ_base.specs.declared.memory.Memory.{Memory}
-use Rattle.occ_base.specs.declared.names.Name.{Name}
-use Rattle.occ_behaviour.specs.declared.behaviour.Side.TheVariants.{First}
-use Rattle.occ_derive_check.specs.Derivations.{IsDerived}
-use Rattle.occ_derive_steps.specs.Steps.{Steps}
-use Rattle.occ_engine.specs.declared.fault.EngineFault.{EngineFault}
-use Rattle.occ_engine.specs.declared.fault.EngineFault.TheVariants as engine
-use Rattle.occ_engine.specs.declared.outcome.Outcome.{Outcome}
-use Rattle.occ_engine.specs.Granted.{IsExpansion, IsNotExpanded}
-use Rattle.occ_engine.specs.Moved.{moves_of, orders_of}
-use Rattle.occ_engine.specs.Outcomes.{AreStopped, IsLedOut, IsOutcome, IsTabled}
-use Rattle.occ_engine_known.specs.Known.{IsKnownPart, LeadToKnown, MovesAreKnown, NamesAreBelow}
-use Rattle.occ_engine_rules.specs.Expansion.{IsExpanded}
-use Rattle.occ_engine_rules.specs.Moves.{Move, Moves}
-use Rattle.occ_engine_rules.specs.Orders.{Follows, no_law, no_path, not_accepted, not_applicable}
-use Rattle.occ_lex_symbols.specs.Symbols.{Extends}
-use Rattle.occ_meaning.specs.Context.{put}
-use Rattle.occ_parse_reading.specs.declared.bound.Bound.{Bound}
-use Rattle.occ_parse_reading.specs.declared.bound.Bound.TheVariants as bound
-use Rattle.occ_parse_reading.specs.Reading.{IsRead}
-use Rattle.occ_print.specs.Known.{ProgramIsKnown}
-use Rattle.occ_script.specs.declared.fault.ScriptFault.{ScriptFault}
-use Rattle.occ_script.specs.declared.fault.ScriptFault.TheVariants as script
-use Rattle.occ_script.specs.declared.script.Order.{Order}
-use Rattle.occ_script.specs.Orders.{IsBadOrder, IsBadRest, IsOrders, IsOrdersFault, bad_head, bad_rest, behind_order, in_lines, in_order, no_line, no_order_line, too_long}
-use Rattle.occ_script_lines.specs.declared.section.Format.TheVariants as format
-use Rattle.occ_script_lines.specs.Sections.{Section}
-use Rattle.occ_script.specs.Lines.{named_in}
-use Rattle.occ_script_write.specs.declared.writing.Done.{Done}
-use Rattle.occ_script_write.specs.Text.{IsWritable, script_text}
+use Rattle.occ_desk.specs.occ_base.declared.memory.Memory.{Memory}
+use Rattle.occ_desk.specs.occ_base.declared.names.Name.{Name}
+use Rattle.occ_run_schedule.specs.occ_behaviour.declared.behaviour.Side.TheVariants.{First}
+use Rattle.occ_derive.specs.occ_derive_search.Derivations.{IsDerived}
+use Rattle.occ_derive.specs.occ_derive_moves.Steps.{Steps}
+use Rattle.occ_engine_written.specs.occ_engine.declared.fault.EngineFault.{EngineFault}
+use Rattle.occ_engine_written.specs.occ_engine.declared.fault.EngineFault.TheVariants as engine
+use Rattle.occ_engine_written.specs.occ_engine.declared.outcome.Outcome.{Outcome}
+use Rattle.occ_engine_written.specs.occ_engine.Granted.{IsExpansion, IsNotExpanded}
+use Rattle.occ_engine_written.specs.occ_engine.Moved.{moves_of, orders_of}
+use Rattle.occ_engine_written.specs.occ_engine.Outcomes.{AreStopped, IsLedOut, IsOutcome, IsTabled}
+use Rattle.occ_engine_written.specs.occ_engine_known.Known.{IsKnownPart, LeadToKnown, MovesAreKnown, NamesAreBelow}
+use Rattle.occ_replay.specs.occ_replay_rules.Expansion.{IsExpanded}
+use Rattle.occ_replay.specs.occ_replay_rules.Moves.{Move, Moves}
+use Rattle.occ_replay.specs.occ_replay_rules.Orders.{Follows, no_law, no_path, not_accepted, not_applicable}
+use Rattle.occ_replay.specs.occ_lex.Symbols.{Extends}
+use Rattle.occ_run_schedule.specs.occ_meaning.Context.{put}
+use Rattle.occ_tool_words.specs.occ_parse.declared.bound.Bound.{Bound}
+use Rattle.occ_tool_words.specs.occ_parse.declared.bound.Bound.TheVariants as bound
+use Rattle.occ_tool_words.specs.occ_parse.Reading.{IsRead}
+use Rattle.occ_replay.specs.occ_print.Known.{ProgramIsKnown}
+use Rattle.occ_replay.specs.occ_script.declared.fault.ScriptFault.{ScriptFault}
+use Rattle.occ_replay.specs.occ_script.declared.fault.ScriptFault.TheVariants as script
+use Rattle.occ_replay.specs.occ_script.declared.script.Order.{Order}
+use Rattle.occ_replay.specs.occ_script.Orders.{IsBadOrder, IsBadRest, IsOrders, IsOrdersFault, bad_head, bad_rest, behind_order, in_lines, in_order, no_line, no_order_line, too_long}
+use Rattle.occ_replay.specs.occ_script_lines.declared.section.Format.TheVariants as format
+use Rattle.occ_replay.specs.occ_script_lines.Sections.{Section}
+use Rattle.occ_replay.specs.occ_script.Lines.{named_in}
+use Rattle.occ_derive.specs.occ_script_write.declared.writing.Done.{Done}
+use Rattle.occ_derive.specs.occ_script_write.Text.{IsWritable, script_text}
 use Rattle.occ_syntax.specs.declared.scope.Kind.{Kind}
 use Rattle.occ_syntax.specs.declared.scope.Program.{Program}
 use Rattle.occ_syntax.specs.Same.{SAME}
@@ -40,7 +40,7 @@ use Rattle.occ_syntax.specs.Tree.{Tree}
 use Rattle.occ_syntax.specs.Types.{scope_kept, types_kept}
 use Rattle.occ_syntax.specs.Usage.{Keeps}
 use Rattle.occ_syntax.specs.View.{tree}
-use Rattle.occ_usage.specs.Accepted.{IsAccepted as IsAcceptedProgram}
+use Rattle.occ_replay.specs.occ_usage.Accepted.{IsAccepted as IsAcceptedProgram}
 use Rattle.occ_tool_run.specs.declared.accept.Refusal.{Refusal}
 use Rattle.occ_tool_run.specs.declared.answer.Answer.{Answer}
 use Rattle.occ_tool_run.specs.declared.answer.Answer.TheVariants.{Written}

@@ -1,22 +1,22 @@
 -- What files that were read are answered with.
 use Rattle.std.proofs.Common.{◌≡◌, ℕ, true, List, [], length, Option, Some, None, Result, Ok, Err, IfOk, IfErr, refl, sym, subst}
 use Rattle.std.proofs.lemmas.Bool.{lt-ltb}
-use Rattle.occ_base.specs.Names.{IsDistinct}
-use Rattle.occ_base.specs.declared.memory.Memory.{Memory}
-use Rattle.occ_base.specs.declared.names.Name.{Name}
+use Rattle.occ_desk.specs.occ_base.Names.{IsDistinct}
+use Rattle.occ_desk.specs.occ_base.declared.memory.Memory.{Memory}
+use Rattle.occ_desk.specs.occ_base.declared.names.Name.{Name}
 use Rattle.occ_syntax.specs.declared.scope.Kind.{Kind}
 use Rattle.occ_syntax.specs.declared.scope.Program.{Program as Stored}
 use Rattle.occ_syntax.specs.Tree.{Tree}
 use Rattle.occ_syntax.specs.View.{tree}
-use Rattle.occ_nform_table.specs.Tables.{IsInterface, are_params}
-use Rattle.occ_parse_reading.specs.Reading.{too_long, IsRead}
-use Rattle.occ_parse_reading.specs.Reading.{IsRefused as IsRefusedText}
-use Rattle.occ_parse_reading.specs.declared.bound.Bound.TheVariants as bound
-use Rattle.occ_parse_reading.specs.declared.fault.ParseFault.{ParseFault}
-use Rattle.occ_usage.specs.declared.accepted.Accepted.{Accepted}
-use Rattle.occ_usage.specs.declared.fault.UsageFault.{UsageFault}
-use Rattle.occ_behaviour.specs.declared.behaviour.Side.{Side}
-use Rattle.occ_behaviour.specs.declared.behaviour.Side.TheVariants.{First}
+use Rattle.occ_run_schedule.specs.occ_nform_table.Tables.{IsInterface, are_params}
+use Rattle.occ_tool_words.specs.occ_parse.Reading.{too_long, IsRead}
+use Rattle.occ_tool_words.specs.occ_parse.Reading.{IsRefused as IsRefusedText}
+use Rattle.occ_tool_words.specs.occ_parse.declared.bound.Bound.TheVariants as bound
+use Rattle.occ_tool_words.specs.occ_parse.declared.fault.ParseFault.{ParseFault}
+use Rattle.occ_replay.specs.occ_usage.declared.accepted.Accepted.{Accepted}
+use Rattle.occ_replay.specs.occ_usage.declared.fault.UsageFault.{UsageFault}
+use Rattle.occ_run_schedule.specs.occ_behaviour.declared.behaviour.Side.{Side}
+use Rattle.occ_run_schedule.specs.occ_behaviour.declared.behaviour.Side.TheVariants.{First}
 use Rattle.occ_tool_run.specs.declared.answer.Answer.{Answer}
 use Rattle.occ_tool_run.specs.declared.accept.Refusal.{Refusal}
 use Rattle.occ_tool_run.specs.declared.accept.Refusal.TheVariants as refusal

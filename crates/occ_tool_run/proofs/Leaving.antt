@@ -6,7 +6,7 @@ use Rattle.occ_tool_run.specs.declared.load.Loaded.{Loaded}
 use Rattle.occ_tool_run.specs.declared.load.Stop.{Stop}
 use Rattle.occ_tool_run.specs.declared.load.Stop.TheVariants.{Read, Memory}
 use Rattle.occ_tool_run.specs.declared.answer.Answer.{Answer}
-use Rattle.occ_gen.specs.declared.shape.Shape.{Shape}
+use Rattle.occ_tool_words.specs.occ_gen.declared.shape.Shape.{Shape}
 use Rattle.occ_tool_words.specs.Words.{same, normalise, normal, belongs, stress, refine, deadlock, job_of, replay, run, transform, expand, derive}
 use Rattle.occ_tool_run.specs.Files.{Files, AsksFront, AsksFor, IsLoaded}
 use Rattle.occ_tool_run.specs.Texts.{status_of, text_of}

@@ -19,3 +19,11 @@ pub mod OneTransform
 pub mod Engine
 pub mod Deriving
 pub mod AsWritten
+pub use Rattle.occ_engine_written.proofs as from_engine_written
+pub use Rattle.occ_run_schedule.proofs.from_nform_table as from_nform_table
+pub use Rattle.occ_read_renamed.proofs as from_read_renamed
+pub use Rattle.occ_read_renamed.proofs.from_renamed as from_renamed
+pub use Rattle.occ_run_schedule.proofs.from_run as from_run
+pub use Rattle.occ_run_schedule.proofs as from_run_schedule
+pub use Rattle.occ_read_renamed.proofs.from_script_table as from_script_table
+pub use Rattle.occ_replay.proofs.from_usage as from_usage

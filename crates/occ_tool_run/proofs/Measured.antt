@@ -1,13 +1,13 @@
 -- A generated program is accepted, and so it is measured.
 use Rattle.std.proofs.Common.{◌≡◌, ℕ, ◌∷◌, List, [], Some, Result, Ok, Err, IfOk, refl, sym, subst, ◌∙◌}
-use Rattle.occ_base.specs.declared.memory.Memory.{Memory}
-use Rattle.occ_base.specs.declared.names.Name.{Name}
-use Rattle.occ_gen.specs.Programs.{program_text}
-use Rattle.occ_gen.specs.declared.shape.Shape.{Shape}
-use Rattle.occ_gen_accepted.specs.Accepted.{IsTextOfAccepted}
-use Rattle.occ_parse_reading.specs.Reading.{IsRead, IsRefused as IsRefusedText}
-use Rattle.occ_parse_reading.specs.declared.bound.Bound.TheVariants as bound
-use Rattle.occ_parse_reading.specs.declared.fault.ParseFault.{ParseFault}
+use Rattle.occ_desk.specs.occ_base.declared.memory.Memory.{Memory}
+use Rattle.occ_desk.specs.occ_base.declared.names.Name.{Name}
+use Rattle.occ_tool_words.specs.occ_gen.Programs.{program_text}
+use Rattle.occ_tool_words.specs.occ_gen.declared.shape.Shape.{Shape}
+use Rattle.occ_tool_words.specs.occ_gen.Accepted.{IsTextOfAccepted}
+use Rattle.occ_tool_words.specs.occ_parse.Reading.{IsRead, IsRefused as IsRefusedText}
+use Rattle.occ_tool_words.specs.occ_parse.declared.bound.Bound.TheVariants as bound
+use Rattle.occ_tool_words.specs.occ_parse.declared.fault.ParseFault.{ParseFault}
 use Rattle.occ_syntax.specs.Tree.{Tree}
 use Rattle.occ_syntax.specs.Usage.{KeepsUsage}
 use Rattle.occ_syntax.specs.declared.scope.Kind.{Kind}
@@ -22,9 +22,9 @@ use Rattle.occ_tool_run.specs.declared.accept.Refusal.TheVariants as refusal
 use Rattle.occ_tool_run.specs.declared.answer.Answer.{Answer}
 use Rattle.occ_tool_run.specs.declared.load.Loaded.{Loaded}
 use Rattle.occ_tool_run.proofs.Judging.{accepted_file, refused_file, unusable_file}
-use Rattle.occ_usage.proofs.Law.{keeps_no_fault}
-use Rattle.occ_usage.specs.Faults.{names_of}
-use Rattle.occ_usage.specs.declared.fault.UsageFault.{UsageFault}
+use Rattle.occ_replay.proofs.from_usage.Law.{keeps_no_fault}
+use Rattle.occ_replay.specs.occ_usage.Faults.{names_of}
+use Rattle.occ_replay.specs.occ_usage.declared.fault.UsageFault.{UsageFault}
 
 -- the same bytes
 some_is : (a b : List ℕ) → Some a ≡ Some b → a ≡ b
@@ -38,7 +38,7 @@ stressed_from shape stages (Ok answer) l {text = text} names p same loaded read 
     let e : a.bytes ≡ program_text shape stages = sym (some_is text a.bytes a.there) ∙ same in
     record { names = names; program = seen p; text = subst (λ (t : List ℕ). IsAcceptedText t [] names (seen p)) e a.text; stressed = stressed }
 
--- a refusal that isn't want of memory can't be
+-- a refusal for another reason than memory can't be
 no_faults : (f : UsageFault) (fs : List UsageFault) → f ∷ fs ≡ [] → ⊥
 no_faults f fs e = cc
 

@@ -1,19 +1,19 @@
 -- Normal texts and behaviours that were read.
 use Rattle.std.proofs.Common.{◌≡◌, ◌≤◌, ◌↔◌, ◌⊎◌, ◌≢◌, ◌∙◌, inl, inr, ℕ, Bool, IsTrue, List, [], length, Option, Some, Result, Ok, Err, IfOk, Vec, Global, refl, sym, ap, subst}
-use Rattle.occ_base.specs.Names.{IsDistinct}
-use Rattle.occ_base.specs.declared.memory.Memory.{Memory}
-use Rattle.occ_base.specs.declared.names.Name.{Name}
+use Rattle.occ_desk.specs.occ_base.Names.{IsDistinct}
+use Rattle.occ_desk.specs.occ_base.declared.memory.Memory.{Memory}
+use Rattle.occ_desk.specs.occ_base.declared.names.Name.{Name}
 use Rattle.occ_syntax.specs.declared.scope.Kind.{Kind}
 use Rattle.occ_syntax.specs.declared.scope.Program.{Program}
 use Rattle.occ_syntax.specs.View.{tree}
-use Rattle.occ_behaviour.specs.declared.behaviour.Behaviour.{Behaviour}
-use Rattle.occ_behaviour.specs.Members.{IsMember}
-use Rattle.occ_nform_table.specs.Normal.{Parts, text_read}
-use Rattle.occ_nform_table.specs.declared.table.TableFault.{TableFault}
-use Rattle.occ_nform_table.specs.declared.table.TableFault.TheVariants as table
-use Rattle.occ_behaviour_read.specs.Claims.{claim_read, IsFaultOf}
-use Rattle.occ_behaviour_read.specs.declared.claim.ClaimFault.{ClaimFault}
-use Rattle.occ_behaviour_read.specs.declared.claim.ClaimFault.TheVariants as claim
+use Rattle.occ_run_schedule.specs.occ_behaviour.declared.behaviour.Behaviour.{Behaviour}
+use Rattle.occ_run_schedule.specs.occ_behaviour.Members.{IsMember}
+use Rattle.occ_run_schedule.specs.occ_nform_table.Normal.{Parts, text_read}
+use Rattle.occ_run_schedule.specs.occ_nform_table.declared.table.TableFault.{TableFault}
+use Rattle.occ_run_schedule.specs.occ_nform_table.declared.table.TableFault.TheVariants as table
+use Rattle.occ_run_schedule.specs.occ_behaviour_read.Claims.{claim_read, IsFaultOf}
+use Rattle.occ_run_schedule.specs.occ_behaviour_read.declared.claim.ClaimFault.{ClaimFault}
+use Rattle.occ_run_schedule.specs.occ_behaviour_read.declared.claim.ClaimFault.TheVariants as claim
 use Rattle.occ_tool_run.proofs.AsWritten.{BehaviourFaultsLaw, BehavioursLaw, TableFaultsLaw, TablesLaw, few_bytes}
 use Rattle.occ_tool_run.specs.declared.answer.Answer.{Answer}
 use Rattle.occ_tool_run.specs.declared.answer.Answer.TheVariants.{RefusedTable, Counted, Member}

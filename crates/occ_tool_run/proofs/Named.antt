@@ -2,15 +2,15 @@
 use Rattle.std.proofs.Common.{◌≡◌, ℕ, zero, suc, true, ◌<◌, List, [], ◌∷◌, Option, Some, None, length, arith}
 use Rattle.std.specs.List.{All}
 use Rattle.std.proofs.lemmas.Bool.{and_parts, ltb-true}
-use Rattle.occ_base.specs.declared.names.Name.{Name}
+use Rattle.occ_desk.specs.occ_base.declared.names.Name.{Name}
 use Rattle.occ_syntax.specs.declared.scope.Kind.{Kind}
-use Rattle.occ_parse.specs.Known.{params_declare, is_below}
-use Rattle.occ_behaviour.specs.declared.behaviour.Verdict.{Verdict}
-use Rattle.occ_behaviour.specs.Members.{VerdictIsNamed}
-use Rattle.occ_behaviour.specs.declared.behaviour.Behaviour.{Behaviour}
-use Rattle.occ_compare.specs.Verdicts.{IsPrintable}
-use Rattle.occ_views.specs.declared.refined.Refined.{Refined as Refinement}
-use Rattle.occ_views.specs.declared.refined.Refined.TheVariants.{Yes, No}
+use Rattle.occ_tool_words.specs.occ_parse.Known.{params_declare, is_below}
+use Rattle.occ_run_schedule.specs.occ_behaviour.declared.behaviour.Verdict.{Verdict}
+use Rattle.occ_run_schedule.specs.occ_behaviour.Members.{VerdictIsNamed}
+use Rattle.occ_run_schedule.specs.occ_behaviour.declared.behaviour.Behaviour.{Behaviour}
+use Rattle.occ_run_schedule.specs.occ_compare.Verdicts.{IsPrintable}
+use Rattle.occ_run_schedule.specs.occ_compare.declared.refined.Refined.{Refined as Refinement}
+use Rattle.occ_run_schedule.specs.occ_compare.declared.refined.Refined.TheVariants.{Yes, No}
 use Rattle.occ_refine.specs.Roots.{RefinedIsNamed, DeadlockIsNamed}
 use Rattle.occ_tool_run.specs.Texts.{RefinementIsNamed, FoundIsNamed}
 

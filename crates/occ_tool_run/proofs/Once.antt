@@ -1,8 +1,8 @@
 -- What is asked of the reading of texts for an answer to be one, and what one answer is.
 use Rattle.std.proofs.Common.{◌≡◌, ◌∙◌, ap, sym, ℕ, List, Option, Some}
-use Rattle.occ_parse_reading.specs.Reading.{IsRefused as IsRefusedText}
-use Rattle.occ_parse_reading.specs.declared.bound.Bound.TheVariants as bound
-use Rattle.occ_parse_reading.specs.declared.fault.ParseFault.{ParseFault}
+use Rattle.occ_tool_words.specs.occ_parse.Reading.{IsRefused as IsRefusedText}
+use Rattle.occ_tool_words.specs.occ_parse.declared.bound.Bound.TheVariants as bound
+use Rattle.occ_tool_words.specs.occ_parse.declared.fault.ParseFault.{ParseFault}
 use Rattle.occ_tool_run.specs.declared.answer.Answer.{Answer}
 use Rattle.occ_tool_run.specs.Accepts.{Program, ReadsAs}
 use Rattle.occ_tool_run.specs.Texts.{status_of, text_of}

@@ -2,40 +2,40 @@
 use Rattle.std.proofs.Common.{◌≡◌, ◌≤◌, ◌↔◌, ◌<◌, ◌^◌, ℕ, Bool, true, false, IsTrue, List, [], length, Option, Some, None, Result, Ok, Err, Vec, Global, refl, sym, ◌∙◌, ap, ap₂, subst, arith}
 use Rattle.std.specs.declared.cmp.Ordering.{Ordering}
 use Rattle.std.specs.declared.cmp.Ordering.TheVariants.{Less, Equal, Greater}
-use Rattle.occ_base.specs.declared.names.Name.{Name}
+use Rattle.occ_desk.specs.occ_base.declared.names.Name.{Name}
 use Rattle.occ_syntax.specs.declared.scope.Program.{Program as Stored}
 use Rattle.occ_syntax.specs.declared.scope.Kind.{Kind}
 use Rattle.occ_syntax.specs.Tree.{Tree}
 use Rattle.occ_syntax.specs.View.{tree}
-use Rattle.occ_behaviour.specs.declared.behaviour.Behaviour.{Behaviour}
-use Rattle.occ_behaviour.specs.declared.behaviour.Side.TheVariants.{First, Second}
-use Rattle.occ_behaviour.specs.declared.behaviour.Verdict.{Verdict}
-use Rattle.occ_behaviour.specs.Members.{IsMember}
-use Rattle.occ_verdict.specs.Verdict.{IsVerdictOf}
-use Rattle.occ_views.specs.declared.refined.Refined.{Refined as Refinement}
-use Rattle.occ_views.specs.Programs.{IsRefinement, IsDeadlockAnswer}
-use Rattle.occ_lex.specs.Rows.{rows}
-use Rattle.occ_nform_table.specs.Normal.{Parts, table_fault, text_read}
-use Rattle.occ_nform_table.specs.Texts.{table_text}
-use Rattle.occ_nform_table.specs.declared.table.TableFault.{TableFault}
-use Rattle.occ_nform_table.specs.declared.table.TableRow.{TableRow}
-use Rattle.occ_behaviour_read.specs.Claims.{bare_lines, claim_read}
-use Rattle.occ_nform_written.specs.Behaviours.{AreBehaviourLines, IsBehaviourText}
-use Rattle.occ_nform_written.specs.Stops.{StopsAt}
-use Rattle.occ_nform_written.specs.Tables.{IsTableFault, IsTableOf, IsTableText, IsTextOf}
-use Rattle.occ_gen.specs.declared.shape.Shape.{Shape}
-use Rattle.occ_gen.specs.Programs.{program_text}
-use Rattle.occ_nform_program.specs.Counted.{counts_of}
+use Rattle.occ_run_schedule.specs.occ_behaviour.declared.behaviour.Behaviour.{Behaviour}
+use Rattle.occ_run_schedule.specs.occ_behaviour.declared.behaviour.Side.TheVariants.{First, Second}
+use Rattle.occ_run_schedule.specs.occ_behaviour.declared.behaviour.Verdict.{Verdict}
+use Rattle.occ_run_schedule.specs.occ_behaviour.Members.{IsMember}
+use Rattle.occ_refine.specs.Verdict.{IsVerdictOf}
+use Rattle.occ_run_schedule.specs.occ_compare.declared.refined.Refined.{Refined as Refinement}
+use Rattle.occ_run_schedule.specs.occ_compare.Programs.{IsRefinement, IsDeadlockAnswer}
+use Rattle.occ_replay.specs.occ_lex.Rows.{rows}
+use Rattle.occ_run_schedule.specs.occ_nform_table.Normal.{Parts, table_fault, text_read}
+use Rattle.occ_run_schedule.specs.occ_nform_table.Texts.{table_text}
+use Rattle.occ_run_schedule.specs.occ_nform_table.declared.table.TableFault.{TableFault}
+use Rattle.occ_run_schedule.specs.occ_nform_table.declared.table.TableRow.{TableRow}
+use Rattle.occ_run_schedule.specs.occ_behaviour_read.Claims.{bare_lines, claim_read}
+use Rattle.occ_run_schedule.specs.occ_behaviour_read.Behaviours.{AreBehaviourLines, IsBehaviourText}
+use Rattle.occ_run_schedule.specs.occ_behaviour_read.Stops.{StopsAt}
+use Rattle.occ_run_schedule.specs.occ_behaviour_read.Tables.{IsTableFault, IsTableOf, IsTableText, IsTextOf}
+use Rattle.occ_tool_words.specs.occ_gen.declared.shape.Shape.{Shape}
+use Rattle.occ_tool_words.specs.occ_gen.Programs.{program_text}
+use Rattle.occ_read_renamed.specs.occ_nform.Counted.{counts_of}
 use Rattle.occ_tool_words.specs.Words.{Job, same, normalise, normal, belongs, stress, refine, deadlock, replay, run, transform, expand, derive, job_of}
 use Rattle.occ_tool_run.specs.declared.answer.Answer.{Answer}
 use Rattle.occ_tool_run.specs.declared.answer.Answer.TheVariants.{Usage, Refused, Unusable, TooLong, RefusedTable, RefusedClaim, InterfacesDiffer, Compared, Counted, Member, Stressed, Allowed, Sought, RefusedSchedule, Stepped}
 use Rattle.occ_tool_run.specs.declared.judge.Question.{Question}
 use Rattle.occ_tool_run.specs.declared.judge.Question.TheVariants.{WhetherSame, WhetherRefined}
 use Rattle.occ_tool_run.specs.Files.{Files, most_table_bytes, order_of}
-use Rattle.occ_run_follow.specs.declared.following.Followed.{Followed}
-use Rattle.occ_run_follow.specs.Following.{IsFollowed}
-use Rattle.occ_run_read.specs.declared.schedule.Schedule.{Schedule}
-use Rattle.occ_run_read.specs.Schedules.{schedule_read}
+use Rattle.occ_run_schedule.specs.declared.following.Followed.{Followed}
+use Rattle.occ_run_schedule.specs.Following.{IsFollowed}
+use Rattle.occ_run_schedule.specs.declared.schedule.Schedule.{Schedule}
+use Rattle.occ_run_schedule.specs.Schedules.{schedule_read}
 use Rattle.occ_tool_run.specs.Derivations.{Replays}
 use Rattle.occ_tool_run.specs.Runs.{IsRun, too_long_schedule, faulty_schedule, followed_schedule}
 use Rattle.occ_tool_run.specs.Transforms.{IsExpandedTo, IsTransformed}

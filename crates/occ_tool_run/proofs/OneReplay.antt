@@ -2,19 +2,19 @@
 use Rattle.std.proofs.Common.{◌≡◌, ◌≢◌, ◌≤◌, ℕ, List, [], ◌∷◌, length, map, Option, Err, refl, sym, ◌∙◌, ap, subst, arith}
 use Rattle.std.specs.Option.{option_map}
 use Rattle.std.proofs.lemmas.List.{length-map}
-use Rattle.occ_base.specs.declared.names.Name.{Name}
-use Rattle.occ_behaviour.specs.declared.behaviour.Side.TheVariants.{First}
+use Rattle.occ_desk.specs.occ_base.declared.names.Name.{Name}
+use Rattle.occ_run_schedule.specs.occ_behaviour.declared.behaviour.Side.TheVariants.{First}
 use Rattle.occ_replay.specs.declared.result.Rejected.{Rejected}
 use Rattle.occ_replay.specs.declared.result.Rejected.TheVariants as rejected
 use Rattle.occ_replay.specs.Scripts.{IsReplayed, number_of, step_of, steps_of}
-use Rattle.occ_replay_rules.specs.Replays.{IsEnd, Replayed, Replays, breaks_usage, joined, lacking, wrong_end}
-use Rattle.occ_replay_rules.specs.Steps.{Derives, Lack, Step, Stops, no_law, no_path, not_accepted, not_instance}
-use Rattle.occ_script.specs.declared.fault.ScriptFault.{ScriptFault}
-use Rattle.occ_script.specs.declared.script.Script.{Script}
-use Rattle.occ_script.specs.declared.script.Step.{Step as Read}
-use Rattle.occ_script.specs.Refusals.{IsScriptFault}
-use Rattle.occ_script.specs.Scripts.{IsScript}
-use Rattle.occ_script.specs.Shown.{ShownStep, shown, shown_program, shown_step}
+use Rattle.occ_replay.specs.occ_replay_rules.Replays.{IsEnd, Replayed, Replays, breaks_usage, joined, lacking, wrong_end}
+use Rattle.occ_replay.specs.occ_replay_rules.Steps.{Derives, Lack, Step, Stops, no_law, no_path, not_accepted, not_instance}
+use Rattle.occ_replay.specs.occ_script.declared.fault.ScriptFault.{ScriptFault}
+use Rattle.occ_replay.specs.occ_script.declared.script.Script.{Script}
+use Rattle.occ_replay.specs.occ_script.declared.script.Step.{Step as Read}
+use Rattle.occ_replay.specs.occ_script.Refusals.{IsScriptFault}
+use Rattle.occ_replay.specs.occ_script.Scripts.{IsScript}
+use Rattle.occ_replay.specs.occ_script.Shown.{ShownStep, shown, shown_program, shown_step}
 use Rattle.occ_syntax.specs.declared.scope.Kind.{Kind}
 use Rattle.occ_syntax.specs.declared.scope.Program.{Program}
 use Rattle.occ_syntax.specs.Counts.{bits_of_scope, controls, most_bits}
@@ -23,9 +23,9 @@ use Rattle.occ_syntax.specs.Tree.{Tree}
 use Rattle.occ_syntax.specs.Types.{scope_kept, types_kept}
 use Rattle.occ_syntax.specs.Usage.{Keeps, KeepsUsage}
 use Rattle.occ_syntax.specs.View.{tree}
-use Rattle.occ_usage.specs.Accepted.{IsAccepted, IsFirst, IsTyped}
-use Rattle.occ_usage.specs.Faults.{faults, names_of}
-use Rattle.occ_usage.specs.declared.fault.UsageFault.{UsageFault}
+use Rattle.occ_replay.specs.occ_usage.Accepted.{IsAccepted, IsFirst, IsTyped}
+use Rattle.occ_replay.specs.occ_usage.Faults.{faults, names_of}
+use Rattle.occ_replay.specs.occ_usage.declared.fault.UsageFault.{UsageFault}
 use Rattle.occ_tool_run.specs.declared.answer.Answer.{Answer}
 use Rattle.occ_tool_run.specs.declared.answer.Answer.TheVariants.{Joined, RefusedScript, TooLong, Unjoined}
 use Rattle.occ_tool_run.specs.Derivations.{IsReplayAnswer, IsReplayOf, Replays as IsReplay, faulty_script, joined_script, line_of_cause, rejected_script, replayed_script, too_long_script}

@@ -3,21 +3,21 @@ use Rattle.std.proofs.Common.{◌≡◌, ◌≤◌, ◌++◌, ℕ, List, [], ◌
 use Rattle.std.specs.Prelude.{◌-◌, codes, slice_get, unwrap_or}
 use Rattle.std.specs.List.{flat_map}
 use Rattle.std.specs.Option.{option_map}
-use Rattle.occ_base.specs.declared.names.Name.{Name}
-use Rattle.occ_behaviour.specs.declared.behaviour.Side.TheVariants.{Second}
-use Rattle.occ_engine.specs.Moved.{moves_of, number_of, order_of, orders_of}
-use Rattle.occ_engine_rules.specs.Expansion.{IsBlocked, IsExpanded, IsNoPar}
-use Rattle.occ_engine_rules.specs.Moves.{Move}
-use Rattle.occ_engine_rules.specs.Orders.{Follows, Lack, Order as Wanted, Stops}
-use Rattle.occ_law.specs.Table.{law_names}
-use Rattle.occ_meaning.specs.Context.{part_at}
-use Rattle.occ_print.specs.Spelled.{part_text, program_text}
-use Rattle.occ_script.specs.declared.fault.ScriptFault.{ScriptFault}
-use Rattle.occ_script.specs.declared.script.Order.{Order}
-use Rattle.occ_script.specs.Orders.{IsOrders, IsOrdersFault}
-use Rattle.occ_script.specs.Shown.{ShownOrder, shown_order}
-use Rattle.occ_script_write.specs.declared.writing.Done.{Done}
-use Rattle.occ_script_write.specs.Text.{direction_text, line, path_text, script_text, steps_text, text_of_program}
+use Rattle.occ_desk.specs.occ_base.declared.names.Name.{Name}
+use Rattle.occ_run_schedule.specs.occ_behaviour.declared.behaviour.Side.TheVariants.{Second}
+use Rattle.occ_engine_written.specs.occ_engine.Moved.{moves_of, number_of, order_of, orders_of}
+use Rattle.occ_replay.specs.occ_replay_rules.Expansion.{IsBlocked, IsExpanded, IsNoPar}
+use Rattle.occ_replay.specs.occ_replay_rules.Moves.{Move}
+use Rattle.occ_replay.specs.occ_replay_rules.Orders.{Follows, Lack, Order as Wanted, Stops}
+use Rattle.occ_replay.specs.occ_law.Table.{law_names}
+use Rattle.occ_run_schedule.specs.occ_meaning.Context.{part_at}
+use Rattle.occ_replay.specs.occ_print.Spelled.{part_text, program_text}
+use Rattle.occ_replay.specs.occ_script.declared.fault.ScriptFault.{ScriptFault}
+use Rattle.occ_replay.specs.occ_script.declared.script.Order.{Order}
+use Rattle.occ_replay.specs.occ_script.Orders.{IsOrders, IsOrdersFault}
+use Rattle.occ_replay.specs.occ_script.Shown.{ShownOrder, shown_order}
+use Rattle.occ_derive.specs.occ_script_write.declared.writing.Done.{Done}
+use Rattle.occ_derive.specs.occ_script_write.Text.{direction_text, line, path_text, script_text, steps_text, text_of_program}
 use Rattle.occ_syntax.specs.declared.scope.Kind.{Kind}
 use Rattle.occ_syntax.specs.declared.scope.Program.{Program}
 use Rattle.occ_syntax.specs.Tree.{Tree}

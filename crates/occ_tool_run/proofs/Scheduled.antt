@@ -3,18 +3,18 @@ use Rattle.std.proofs.Common.{◌≡◌, ◌≤◌, ◌<◌, ◌∙◌, ℕ, tru
 use Rattle.std.specs.List.{All}
 use Rattle.std.proofs.lemmas.Bool.{and_parts, ltb-true}
 use Rattle.std.proofs.lemmas.List.Elements.{All-cons, All-nil}
-use Rattle.occ_base.specs.declared.memory.Memory.{Memory}
-use Rattle.occ_base.specs.declared.names.Name.{Name}
-use Rattle.occ_parse.specs.Known.{NamesAreKnown, is_below, params_declare}
-use Rattle.occ_run_follow.specs.declared.following.Followed.{Followed}
-use Rattle.occ_run_follow.specs.Following.{IsFollowed, ParametersAreNamed}
-use Rattle.occ_run_read.specs.declared.schedule.Schedule.{Schedule}
-use Rattle.occ_run_read.specs.declared.schedule.ScheduleFault.{ScheduleFault}
-use Rattle.occ_run_read.specs.declared.schedule.ScheduleFault.TheVariants as fault
-use Rattle.occ_run_read.specs.Schedules.{IsFaultOf, schedule_read}
+use Rattle.occ_desk.specs.occ_base.declared.memory.Memory.{Memory}
+use Rattle.occ_desk.specs.occ_base.declared.names.Name.{Name}
+use Rattle.occ_tool_words.specs.occ_parse.Known.{NamesAreKnown, is_below, params_declare}
+use Rattle.occ_run_schedule.specs.declared.following.Followed.{Followed}
+use Rattle.occ_run_schedule.specs.Following.{IsFollowed, ParametersAreNamed}
+use Rattle.occ_run_schedule.specs.declared.schedule.Schedule.{Schedule}
+use Rattle.occ_run_schedule.specs.declared.schedule.ScheduleFault.{ScheduleFault}
+use Rattle.occ_run_schedule.specs.declared.schedule.ScheduleFault.TheVariants as fault
+use Rattle.occ_run_schedule.specs.Schedules.{IsFaultOf, schedule_read}
 use Rattle.occ_syntax.specs.declared.scope.Kind.{Kind}
 use Rattle.occ_syntax.specs.declared.scope.Program.{Program}
-use Rattle.occ_behaviour.specs.declared.behaviour.Side.TheVariants.{First}
+use Rattle.occ_run_schedule.specs.occ_behaviour.declared.behaviour.Side.TheVariants.{First}
 use Rattle.occ_tool_run.specs.declared.accept.Refusal.{Refusal}
 use Rattle.occ_tool_run.specs.declared.answer.Answer.{Answer}
 use Rattle.occ_tool_run.specs.declared.answer.Answer.TheVariants.{Stepped}

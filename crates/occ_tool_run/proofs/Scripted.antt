@@ -1,25 +1,25 @@
 -- Scripts that were read and replayed.
 use Rattle.std.proofs.Common.{◌≡◌, ◌≢◌, ◌≤◌, ◌⊎◌, inl, inr, ℕ, List, [], length, Option, Result, Ok, Err, IfOk, Vec, Global, refl, sym, ap, subst, ◌∙◌}
-use Rattle.occ_base.specs.declared.memory.Memory.{Memory}
-use Rattle.occ_parse.specs.Known.{NamesAreKnown}
-use Rattle.occ_parse_reading.specs.declared.fault.ParseFault.{ParseFault}
-use Rattle.occ_parse_reading.specs.declared.fault.ParseFault.TheVariants as parse
+use Rattle.occ_desk.specs.occ_base.declared.memory.Memory.{Memory}
+use Rattle.occ_tool_words.specs.occ_parse.Known.{NamesAreKnown}
+use Rattle.occ_tool_words.specs.occ_parse.declared.fault.ParseFault.{ParseFault}
+use Rattle.occ_tool_words.specs.occ_parse.declared.fault.ParseFault.TheVariants as parse
 use Rattle.occ_replay.specs.declared.result.Rejected.{Rejected}
 use Rattle.occ_replay.specs.declared.result.Rejected.TheVariants as rejected
 use Rattle.occ_replay.specs.Scripts.{IsJoined, IsReplayed, steps_of}
-use Rattle.occ_replay_rules.specs.Replays.{IsDerivation}
-use Rattle.occ_script.specs.declared.fault.ScriptFault.{ScriptFault}
-use Rattle.occ_script.specs.declared.fault.ScriptFault.TheVariants as script
-use Rattle.occ_script.specs.declared.script.Script.{Script}
-use Rattle.occ_script.specs.Faults.{text_fault}
-use Rattle.occ_script.specs.declared.content.Content.{Content}
-use Rattle.occ_script.specs.declared.content.Content.TheVariants as content
-use Rattle.occ_script.specs.Lines.{named_in}
-use Rattle.occ_script.specs.Refusals.{IsBadEnd, IsBadHead, IsBadPart, IsBadProgram, IsBadStep, IsBadTarget, IsNoDerivation, IsScriptFault, IsUnformed, another, another_word, bad_head, bad_lines, bad_part, behind_head, behind_source, behind_step, earlier, further, in_from, in_lines, in_part, in_source, in_step, in_target, in_to, next_line, no_end, no_line, no_lines, no_part, no_source, no_step_line, no_target, too_long, unformed, unread}
-use Rattle.occ_script_lines.specs.declared.section.Format.{Format}
-use Rattle.occ_script_lines.specs.declared.section.Format.TheVariants as format
-use Rattle.occ_script_lines.specs.Sections.{Section, last_line_of}
-use Rattle.occ_script.specs.Scripts.{IsScript}
+use Rattle.occ_replay.specs.occ_replay_rules.Replays.{IsDerivation}
+use Rattle.occ_replay.specs.occ_script.declared.fault.ScriptFault.{ScriptFault}
+use Rattle.occ_replay.specs.occ_script.declared.fault.ScriptFault.TheVariants as script
+use Rattle.occ_replay.specs.occ_script.declared.script.Script.{Script}
+use Rattle.occ_replay.specs.occ_script.Faults.{text_fault}
+use Rattle.occ_replay.specs.occ_script.declared.content.Content.{Content}
+use Rattle.occ_replay.specs.occ_script.declared.content.Content.TheVariants as content
+use Rattle.occ_replay.specs.occ_script.Lines.{named_in}
+use Rattle.occ_replay.specs.occ_script.Refusals.{IsBadEnd, IsBadHead, IsBadPart, IsBadProgram, IsBadStep, IsBadTarget, IsNoDerivation, IsScriptFault, IsUnformed, another, another_word, bad_head, bad_lines, bad_part, behind_head, behind_source, behind_step, earlier, further, in_from, in_lines, in_part, in_source, in_step, in_target, in_to, next_line, no_end, no_line, no_lines, no_part, no_source, no_step_line, no_target, too_long, unformed, unread}
+use Rattle.occ_replay.specs.occ_script_lines.declared.section.Format.{Format}
+use Rattle.occ_replay.specs.occ_script_lines.declared.section.Format.TheVariants as format
+use Rattle.occ_replay.specs.occ_script_lines.Sections.{Section, last_line_of}
+use Rattle.occ_replay.specs.occ_script.Scripts.{IsScript}
 use Rattle.occ_syntax.specs.declared.scope.Program.{Program}
 use Rattle.occ_syntax.specs.Same.{SAME}
 use Rattle.occ_syntax.specs.Scopes.{environment}
@@ -60,7 +60,7 @@ script_refused (Ok a) bytes start f e short told (inr bad) = absurd (told.1 bad)
 -- ---- replays
 
 -- what a replay joins means the same
-pub joining : ((from to : Program) (steps : List Rattle.occ_replay_rules.specs.Steps.Step) → IsDerivation from steps to → SAME (environment from.params) (tree from.body) (tree to.body))
+pub joining : ((from to : Program) (steps : List Rattle.occ_replay.specs.occ_replay_rules.Steps.Step) → IsDerivation from steps to → SAME (environment from.params) (tree from.body) (tree to.body))
     → (s : Script) (names : List (List ℕ)) (found : Rattle.occ_replay.specs.declared.result.Joined.Joined) (n : ℕ) → IsJoined s found → n ≡ found.steps → IsReplayOf s names (Joined n)
 joining sound s names found n h e = joined_script (record {
   derivation = h.joins;

@@ -2,8 +2,8 @@
 use Rattle.std.proofs.Common.{◌≡◌, ◌+◌, ◌≤◌, ℕ, zero, suc, Bool, true, false, cond, ◌&&◌, List, [], ◌∷◌, Option, Some, None, codes, decimal, if◌then◌else◌, find, option_and_then, option_map, arith, sym, subst}
 use Rattle.std.specs.List.{range_with_len}
 use Rattle.std.specs.Str.{bytes_eq}
-use Rattle.occ_gen.specs.declared.shape.Shape.{Shape}
-use Rattle.occ_script_path.specs.Texts.{path_of}
+use Rattle.occ_tool_words.specs.occ_gen.declared.shape.Shape.{Shape}
+use Rattle.occ_replay.specs.occ_script_lines.Texts.{path_of}
 use Rattle.occ_tool_words.specs.Words.{Job, same, normalise, normal, belongs, stress, refine, deadlock, replay, run, transform, expand, derive, expand_of, is_plain, job_of, shape_of, stages_of, stress_of, with_one, with_two, with_two_later}
 
 abbrev pub InRange : ℕ → Type 0

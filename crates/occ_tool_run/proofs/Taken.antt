@@ -1,12 +1,12 @@
 -- What becomes of a text is one.
 use Rattle.std.proofs.Common.{◌≡◌, ℕ, List, [], ◌∷◌, Option, sym, ◌∙◌, ap, subst, slice_index_or}
 use Rattle.occ_syntax.specs.declared.scope.Program.{Program as Stored}
-use Rattle.occ_parse_reading.specs.Reading.{IsRefused as IsRefusedText}
-use Rattle.occ_parse_reading.specs.declared.bound.Bound.TheVariants as bound
-use Rattle.occ_parse_reading.specs.declared.fault.ParseFault.{ParseFault}
-use Rattle.occ_usage.specs.Faults.{faults, names_of}
-use Rattle.occ_usage.specs.declared.fault.UsageFault.{UsageFault}
-use Rattle.occ_behaviour.specs.declared.behaviour.Side.{Side}
+use Rattle.occ_tool_words.specs.occ_parse.Reading.{IsRefused as IsRefusedText}
+use Rattle.occ_tool_words.specs.occ_parse.declared.bound.Bound.TheVariants as bound
+use Rattle.occ_tool_words.specs.occ_parse.declared.fault.ParseFault.{ParseFault}
+use Rattle.occ_replay.specs.occ_usage.Faults.{faults, names_of}
+use Rattle.occ_replay.specs.occ_usage.declared.fault.UsageFault.{UsageFault}
+use Rattle.occ_run_schedule.specs.occ_behaviour.declared.behaviour.Side.{Side}
 use Rattle.occ_tool_run.specs.declared.answer.Answer.{Answer}
 use Rattle.occ_tool_run.specs.declared.answer.Answer.TheVariants.{Refused, Unusable}
 use Rattle.occ_tool_run.specs.Accepts.{IsAccepted, IsRefused, IsUnusable, Program, ReadsAs, node_of, usage_faults}

@@ -1,15 +1,15 @@
 -- The answer to a script.
 use Rattle.std.specs.Prelude.{ℕ, ◌≡◌, ◌≢◌, ◌≤◌, ◌<◌, List, [], length, slice_index_or, Option, Some, Err}
-use Rattle.occ_behaviour.specs.declared.behaviour.Side.TheVariants.{First}
+use Rattle.occ_run_schedule.specs.occ_behaviour.declared.behaviour.Side.TheVariants.{First}
 use Rattle.occ_replay.specs.declared.result.Rejected.{Rejected}
 use Rattle.occ_replay.specs.declared.result.Rejected.TheVariants as rejected
 use Rattle.occ_replay.specs.Scripts.{IsReplayed, steps_of}
-use Rattle.occ_replay_rules.specs.Replays.{IsDerivation}
-use Rattle.occ_script.specs.declared.fault.ScriptFault.{ScriptFault}
-use Rattle.occ_script.specs.declared.fault.ScriptFault.TheVariants as script
-use Rattle.occ_script.specs.declared.script.Script.{Script}
-use Rattle.occ_script.specs.Refusals.{IsScriptFault}
-use Rattle.occ_script.specs.Scripts.{IsScript}
+use Rattle.occ_replay.specs.occ_replay_rules.Replays.{IsDerivation}
+use Rattle.occ_replay.specs.occ_script.declared.fault.ScriptFault.{ScriptFault}
+use Rattle.occ_replay.specs.occ_script.declared.fault.ScriptFault.TheVariants as script
+use Rattle.occ_replay.specs.occ_script.declared.script.Script.{Script}
+use Rattle.occ_replay.specs.occ_script.Refusals.{IsScriptFault}
+use Rattle.occ_replay.specs.occ_script.Scripts.{IsScript}
 use Rattle.occ_syntax.specs.Same.{SAME}
 use Rattle.occ_syntax.specs.Scopes.{environment}
 use Rattle.occ_syntax.specs.View.{tree}

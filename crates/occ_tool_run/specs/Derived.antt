@@ -1,19 +1,19 @@
 -- The answer to a program whose normal program is to be derived.
 use Rattle.std.specs.Prelude.{ℕ, ◌≡◌, ◌≤◌, ◌<◌, List}
 use Rattle.std.specs.List.{AllByRecursion}
-use Rattle.occ_derive_steps.specs.Steps.{Steps}
-use Rattle.occ_engine.specs.Moved.{moves_of}
-use Rattle.occ_fresh.specs.Growth.{GrowsByNames}
-use Rattle.occ_nform_program.specs.Tabled.{IsTableOf}
-use Rattle.occ_nform_table.specs.declared.table.Table.{Table}
-use Rattle.occ_script_write.specs.declared.writing.Done.{Done}
-use Rattle.occ_script_write.specs.Text.{IsWritable}
-use Rattle.occ_script_write_back.specs.Said.{IsSaid}
+use Rattle.occ_derive.specs.occ_derive_moves.Steps.{Steps}
+use Rattle.occ_engine_written.specs.occ_engine.Moved.{moves_of}
+use Rattle.occ_replay.specs.occ_lex.Growth.{GrowsByNames}
+use Rattle.occ_read_renamed.specs.occ_nform.Tabled.{IsTableOf}
+use Rattle.occ_run_schedule.specs.occ_nform_table.declared.table.Table.{Table}
+use Rattle.occ_derive.specs.occ_script_write.declared.writing.Done.{Done}
+use Rattle.occ_derive.specs.occ_script_write.Text.{IsWritable}
+use Rattle.occ_derive.specs.occ_script_back.Said.{IsSaid}
 use Rattle.occ_syntax.specs.Counts.{controls}
 use Rattle.occ_syntax.specs.declared.scope.Program.{Program}
 use Rattle.occ_syntax.specs.Tree.{Tree}
 use Rattle.occ_syntax.specs.View.{tree}
-use Rattle.occ_target.specs.Program.{normal_body}
+use Rattle.occ_derive.specs.occ_target.Program.{normal_body}
 use Rattle.occ_tool_run.specs.declared.answer.Answer.{Answer}
 use Rattle.occ_tool_run.specs.declared.answer.Answer.TheVariants.{Long}
 use Rattle.occ_tool_run.specs.Transforms.{IsScriptOf}

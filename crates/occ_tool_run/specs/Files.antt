@@ -59,8 +59,8 @@ pub record AsksFront (old new : Option (List (List ℕ))) (names : List (List �
   pub most : count ≤ length names
   pub asked : new ≡ with_more old (take count names)
 
--- All the names were asked for, in order, or a front of them: one that ends with the failed read, or, for want of
--- memory, any.
+-- All the names were asked for, in order, or a front of them: one that ends with the failed read, or, where memory
+-- runs out, any.
 abbrev pub AsksFor : {T : Type 0} → Option (List (List ℕ)) → Option (List (List ℕ)) → List (List ℕ) → Result T Stop → Type 0
 AsksFor old new names (Ok _) = new ≡ with_more old names
 AsksFor old new names (Err Read) = AsksFront old new names 1

@@ -1,19 +1,19 @@
 -- What is judged of files that were read.
 use Rattle.std.specs.Prelude.{ℕ, ◌≡◌, ◌≢◌, List, [], ◌∷◌, true, slice_index_or}
 use Rattle.occ_syntax.specs.declared.scope.Program.{Program}
-use Rattle.occ_nform_table.specs.Tables.{IsInterface, are_params}
-use Rattle.occ_usage.specs.Accepted.{usage_faults}
-use Rattle.occ_usage.specs.declared.fault.UsageFault.{UsageFault}
-use Rattle.occ_usage.specs.declared.fault.UsageFault.TheVariants as shared
-use Rattle.occ_behaviour.specs.declared.behaviour.Side.{Side}
-use Rattle.occ_parse_reading.specs.Reading.{IsRefused as IsRefusedText}
-use Rattle.occ_parse_reading.specs.declared.bound.Bound.TheVariants as bound
-use Rattle.occ_parse_reading.specs.declared.fault.ParseFault.TheVariants.{Limit}
-use Rattle.occ_parse_reading.specs.declared.fault.ParseFault.TheVariants.{Memory as NoMemory}
-use Rattle.occ_parse_reading.specs.declared.fault.Which.TheVariants.{Bytes as AllBytes}
-use Rattle.occ_behaviour_read.specs.declared.claim.ClaimFault.{ClaimFault}
-use Rattle.occ_behaviour_read.specs.declared.claim.ClaimFault.TheVariants as claim
-use Rattle.occ_parse.specs.Known.{NamesAreKnown}
+use Rattle.occ_run_schedule.specs.occ_nform_table.Tables.{IsInterface, are_params}
+use Rattle.occ_replay.specs.occ_usage.Accepted.{usage_faults}
+use Rattle.occ_replay.specs.occ_usage.declared.fault.UsageFault.{UsageFault}
+use Rattle.occ_replay.specs.occ_usage.declared.fault.UsageFault.TheVariants as shared
+use Rattle.occ_run_schedule.specs.occ_behaviour.declared.behaviour.Side.{Side}
+use Rattle.occ_tool_words.specs.occ_parse.Reading.{IsRefused as IsRefusedText}
+use Rattle.occ_tool_words.specs.occ_parse.declared.bound.Bound.TheVariants as bound
+use Rattle.occ_tool_words.specs.occ_parse.declared.fault.ParseFault.TheVariants.{Limit}
+use Rattle.occ_tool_words.specs.occ_parse.declared.fault.ParseFault.TheVariants.{Memory as NoMemory}
+use Rattle.occ_tool_words.specs.occ_parse.declared.fault.Which.TheVariants.{Bytes as AllBytes}
+use Rattle.occ_run_schedule.specs.occ_behaviour_read.declared.claim.ClaimFault.{ClaimFault}
+use Rattle.occ_run_schedule.specs.occ_behaviour_read.declared.claim.ClaimFault.TheVariants as claim
+use Rattle.occ_tool_words.specs.occ_parse.Known.{NamesAreKnown}
 use Rattle.occ_tool_run.specs.declared.answer.Answer.{Answer}
 use Rattle.occ_tool_run.specs.declared.answer.Answer.TheVariants.{Refused, Unusable, RefusedClaim}
 use Rattle.occ_tool_run.specs.declared.accept.Refusal.{Refusal}
@@ -78,7 +78,7 @@ IsRefusalAnswer names place (refusal.Text fault) answer = answer ≡ Refused pla
 IsRefusalAnswer names place (refusal.Usage line fault) answer = answer ≡ Unusable names place line fault
 IsRefusalAnswer names place refusal.Memory answer = ⊥
 
--- the refusal can be said: it isn't want of memory, and what it names has a text
+-- the refusal can be said: it isn't `Memory`, and what it names has a text
 abbrev pub IsSayable : List (List ℕ) → Refusal → Type 0
 IsSayable names (refusal.Text fault) = fault ≢ NoMemory
 IsSayable names (refusal.Usage line fault) = FaultIsNamed names fault

@@ -2,7 +2,7 @@
 use Rattle.std.specs.Prelude.{ℕ, ◌⊎◌, List, Option}
 use Rattle.std.specs.declared.cmp.Ordering.{Ordering}
 use Rattle.occ_syntax.specs.declared.scope.Program.{Program}
-use Rattle.occ_parse.specs.Known.{NamesAreKnown}
+use Rattle.occ_tool_words.specs.occ_parse.Known.{NamesAreKnown}
 use Rattle.occ_tool_run.specs.declared.answer.Answer.{Answer}
 use Rattle.occ_tool_run.specs.declared.judge.Question.{Question}
 use Rattle.occ_tool_run.specs.declared.load.Loaded.{Loaded}

@@ -12,8 +12,8 @@ pub data Ran (files : Files) (words : List (List ℕ)) (status : ℕ) (old new :
   unread : status ≡ 4 → new ≡ old → Ran files words status old new
   no_memory : status ≡ 6 → new ≡ old → Ran files words status old new
 
--- All these names were asked for, in order, and no other; or a front of them that ends with a failed read; or, for want of
--- memory, any front.
+-- All these names were asked for, in order, and no other; or a front of them that ends with a failed read; or, where
+-- memory runs out, any front.
 pub data Asked (names : List (List ℕ)) (status : ℕ) (old new : Option (List (List ℕ))) : Type 0 where
   all : status ≢ 4 → new ≡ with_more old names → Asked names status old new
   up_to_failure : status ≡ 4 → AsksFront old new names 1 → Asked names status old new

@@ -1,12 +1,12 @@
 -- The answer to a program and a schedule.
 use Rattle.std.specs.Prelude.{ℕ, ◌≡◌, ◌≤◌, ◌<◌, List, length, Ok, Err}
-use Rattle.occ_behaviour.specs.declared.behaviour.Side.TheVariants.{Second}
-use Rattle.occ_run_follow.specs.declared.following.Followed.{Followed}
-use Rattle.occ_run_follow.specs.Following.{IsFollowed}
-use Rattle.occ_run_read.specs.declared.schedule.Schedule.{Schedule}
-use Rattle.occ_run_read.specs.declared.schedule.ScheduleFault.{ScheduleFault}
-use Rattle.occ_run_read.specs.declared.schedule.ScheduleFault.TheVariants as fault
-use Rattle.occ_run_read.specs.Schedules.{schedule_read}
+use Rattle.occ_run_schedule.specs.occ_behaviour.declared.behaviour.Side.TheVariants.{Second}
+use Rattle.occ_run_schedule.specs.declared.following.Followed.{Followed}
+use Rattle.occ_run_schedule.specs.Following.{IsFollowed}
+use Rattle.occ_run_schedule.specs.declared.schedule.Schedule.{Schedule}
+use Rattle.occ_run_schedule.specs.declared.schedule.ScheduleFault.{ScheduleFault}
+use Rattle.occ_run_schedule.specs.declared.schedule.ScheduleFault.TheVariants as fault
+use Rattle.occ_run_schedule.specs.Schedules.{schedule_read}
 use Rattle.occ_syntax.specs.declared.scope.Program.{Program}
 use Rattle.occ_tool_run.specs.declared.answer.Answer.{Answer}
 use Rattle.occ_tool_run.specs.declared.answer.Answer.TheVariants.{TooLong, RefusedSchedule, Stepped}

@@ -1,33 +1,33 @@
 -- The status and the text of each answer.
 use Rattle.std.specs.Prelude.{ℕ, ◌≢◌, ◌<◌, true, false, List, [], ◌++◌, codes, decimal, length, slice_index_or, Option, Some, None}
-use Rattle.occ_usage.specs.declared.fault.UsageFault.{UsageFault}
-use Rattle.occ_usage.specs.declared.fault.UsageFault.TheVariants as shared
-use Rattle.occ_lex.specs.declared.fault.LineFault.{LineFault}
-use Rattle.occ_lex.specs.declared.fault.LineFault.TheVariants.{Tab, OddIndent, Char, Number, Name}
-use Rattle.occ_parse_reading.specs.declared.fault.Which.{Which}
-use Rattle.occ_parse_reading.specs.declared.fault.Which.TheVariants.{Bytes, Levels, Tokens, Parameters, Count, Controls, InterfaceBits, ScopeBits}
-use Rattle.occ_parse_reading.specs.declared.fault.ParseFault.{ParseFault}
-use Rattle.occ_parse_reading.specs.declared.fault.ParseFault.TheVariants.{Line, Form, Undeclared, Redeclared, Index, TypeClash, NoType, Direction, Limit, Memory}
-use Rattle.occ_behaviour.specs.declared.behaviour.Side.{Side}
-use Rattle.occ_behaviour.specs.declared.behaviour.Side.TheVariants.{First, Second}
-use Rattle.occ_behaviour.specs.declared.behaviour.Verdict.{Verdict}
-use Rattle.occ_behaviour.specs.declared.behaviour.Verdict.TheVariants.{Same, Differ}
-use Rattle.occ_behaviour.specs.declared.behaviour.Behaviour.{Behaviour}
-use Rattle.occ_behaviour.specs.Members.{VerdictIsNamed, IsNamed}
-use Rattle.occ_behaviour.specs.Texts.{mark_text, text_of_verdict, text_of_behaviour}
-use Rattle.occ_views.specs.declared.refined.Refined.{Refined as Refinement}
-use Rattle.occ_views.specs.declared.refined.Refined.TheVariants.{Yes, No}
-use Rattle.occ_nform_table.specs.declared.table.TableFault.{TableFault}
-use Rattle.occ_nform_table.specs.declared.table.TableFault.TheVariants as table
-use Rattle.occ_nform.specs.declared.figures.Counts.{Counts}
+use Rattle.occ_replay.specs.occ_usage.declared.fault.UsageFault.{UsageFault}
+use Rattle.occ_replay.specs.occ_usage.declared.fault.UsageFault.TheVariants as shared
+use Rattle.occ_replay.specs.occ_lex.declared.fault.LineFault.{LineFault}
+use Rattle.occ_replay.specs.occ_lex.declared.fault.LineFault.TheVariants.{Tab, OddIndent, Char, Number, Name}
+use Rattle.occ_tool_words.specs.occ_parse.declared.fault.Which.{Which}
+use Rattle.occ_tool_words.specs.occ_parse.declared.fault.Which.TheVariants.{Bytes, Levels, Tokens, Parameters, Count, Controls, InterfaceBits, ScopeBits}
+use Rattle.occ_tool_words.specs.occ_parse.declared.fault.ParseFault.{ParseFault}
+use Rattle.occ_tool_words.specs.occ_parse.declared.fault.ParseFault.TheVariants.{Line, Form, Undeclared, Redeclared, Index, TypeClash, NoType, Direction, Limit, Memory}
+use Rattle.occ_run_schedule.specs.occ_behaviour.declared.behaviour.Side.{Side}
+use Rattle.occ_run_schedule.specs.occ_behaviour.declared.behaviour.Side.TheVariants.{First, Second}
+use Rattle.occ_run_schedule.specs.occ_behaviour.declared.behaviour.Verdict.{Verdict}
+use Rattle.occ_run_schedule.specs.occ_behaviour.declared.behaviour.Verdict.TheVariants.{Same, Differ}
+use Rattle.occ_run_schedule.specs.occ_behaviour.declared.behaviour.Behaviour.{Behaviour}
+use Rattle.occ_run_schedule.specs.occ_behaviour.Members.{VerdictIsNamed, IsNamed}
+use Rattle.occ_run_schedule.specs.occ_behaviour.Texts.{mark_text, text_of_verdict, text_of_behaviour}
+use Rattle.occ_run_schedule.specs.occ_compare.declared.refined.Refined.{Refined as Refinement}
+use Rattle.occ_run_schedule.specs.occ_compare.declared.refined.Refined.TheVariants.{Yes, No}
+use Rattle.occ_run_schedule.specs.occ_nform_table.declared.table.TableFault.{TableFault}
+use Rattle.occ_run_schedule.specs.occ_nform_table.declared.table.TableFault.TheVariants as table
+use Rattle.occ_read_renamed.specs.occ_nform.declared.figures.Counts.{Counts}
 use Rattle.occ_replay.specs.declared.result.Rejected.{Rejected}
 use Rattle.occ_replay.specs.declared.result.Rejected.TheVariants as rejected
-use Rattle.occ_run_follow.specs.declared.following.Followed.{Followed}
-use Rattle.occ_run_follow.specs.declared.following.Followed.TheVariants.{Stood, NoStep}
-use Rattle.occ_run_follow.specs.Following.{FollowedIsNamed}
-use Rattle.occ_run_follow.specs.Texts.{followed_text}
-use Rattle.occ_script.specs.declared.fault.ScriptFault.{ScriptFault}
-use Rattle.occ_script.specs.declared.fault.ScriptFault.TheVariants as script
+use Rattle.occ_run_schedule.specs.declared.following.Followed.{Followed}
+use Rattle.occ_run_schedule.specs.declared.following.Followed.TheVariants.{Stood, NoStep}
+use Rattle.occ_run_schedule.specs.Following.{FollowedIsNamed}
+use Rattle.occ_run_schedule.specs.Texts.{followed_text}
+use Rattle.occ_replay.specs.occ_script.declared.fault.ScriptFault.{ScriptFault}
+use Rattle.occ_replay.specs.occ_script.declared.fault.ScriptFault.TheVariants as script
 use Rattle.occ_tool_words.specs.Words.{shape_text}
 use Rattle.occ_tool_run.specs.declared.answer.Answer.{Answer}
 use Rattle.occ_tool_run.specs.declared.answer.Answer.TheVariants.{Usage, Refused, Unusable, TooLong, RefusedTable, RefusedClaim, InterfacesDiffer, Compared, Written, Counted, Member, Stressed, Allowed, Sought, RefusedScript, Joined, Unjoined, RefusedSchedule, Stepped, RefusedOrders, RefusedOrder, RefusedPath, Long}
@@ -84,7 +84,7 @@ words_of_usage names (shared.SharedVariable node name) = codes "SharedVariable "
 words_of_usage names (shared.SharedEnd node name dir) = codes "SharedEnd " ++ slice_index_or names name.0 [] ++ codes " " ++ mark_text dir
 words_of_usage names shared.Memory = []
 
--- the fault names what has a text, and isn't want of memory
+-- the fault names what has a text, and isn't `Memory`
 abbrev pub FaultIsNamed : List (List ℕ) → UsageFault → Type 0
 FaultIsNamed names (shared.SharedVariable node name) = name.0 < length names
 FaultIsNamed names (shared.SharedEnd node name dir) = name.0 < length names
@@ -237,7 +237,7 @@ abbrev pub FoundIsNamed : List (List ℕ) → Option Behaviour → Type 0
 FoundIsNamed names None = Unit {0}
 FoundIsNamed names (Some behaviour) = IsNamed names behaviour
 
--- a refusal isn't want of memory, and the names that it or a verdict mentions have texts
+-- a refusal isn't `Memory`, and the names that it or a verdict mentions have texts
 abbrev pub IsPrintable : Answer → Type 0
 IsPrintable Usage = Unit {0}
 IsPrintable (Refused place fault) = fault ≢ Memory

@@ -1,14 +1,14 @@
 -- What is known of names where a program is transformed, and the answers to what an engine refuses.
 use Rattle.std.specs.Prelude.{ℕ, ◌≡◌, ◌≢◌, ◌<◌, List, length}
 use Rattle.std.specs.List.{AllByRecursion}
-use Rattle.occ_engine.specs.declared.fault.EngineFault.{EngineFault}
-use Rattle.occ_engine.specs.declared.fault.EngineFault.TheVariants as engine
-use Rattle.occ_engine.specs.declared.outcome.Outcome.{Outcome}
-use Rattle.occ_engine_known.specs.Known.{NamesAreBelow}
-use Rattle.occ_print.specs.Known.{ProgramIsKnown}
-use Rattle.occ_script.specs.declared.fault.ScriptFault.{ScriptFault}
-use Rattle.occ_script.specs.declared.fault.ScriptFault.TheVariants as script
-use Rattle.occ_script_write.specs.Text.{IsWritable}
+use Rattle.occ_engine_written.specs.occ_engine.declared.fault.EngineFault.{EngineFault}
+use Rattle.occ_engine_written.specs.occ_engine.declared.fault.EngineFault.TheVariants as engine
+use Rattle.occ_engine_written.specs.occ_engine.declared.outcome.Outcome.{Outcome}
+use Rattle.occ_engine_written.specs.occ_engine_known.Known.{NamesAreBelow}
+use Rattle.occ_replay.specs.occ_print.Known.{ProgramIsKnown}
+use Rattle.occ_replay.specs.occ_script.declared.fault.ScriptFault.{ScriptFault}
+use Rattle.occ_replay.specs.occ_script.declared.fault.ScriptFault.TheVariants as script
+use Rattle.occ_derive.specs.occ_script_write.Text.{IsWritable}
 use Rattle.occ_syntax.specs.declared.scope.Program.{Program}
 use Rattle.occ_syntax.specs.View.{tree}
 use Rattle.occ_tool_run.specs.declared.answer.Answer.{Answer}

@@ -1,16 +1,16 @@
 -- The answers to a program and orders, and to a program and the path of a PAR.
 use Rattle.std.specs.Prelude.{ℕ, ◌≡◌, ◌≤◌, ◌<◌, List, length, None, Vec}
 use Rattle.std.specs.declared.alloc.Global.{Global}
-use Rattle.occ_behaviour.specs.declared.behaviour.Side.TheVariants.{Second}
-use Rattle.occ_engine.specs.Moved.{moves_of, orders_of}
-use Rattle.occ_engine_rules.specs.Expansion.{IsBlocked, IsExpanded, IsNoPar}
-use Rattle.occ_engine_rules.specs.Orders.{Follows, Lack, Stops, no_law, no_path, not_accepted, not_applicable}
-use Rattle.occ_meaning.specs.Context.{part_at}
-use Rattle.occ_script.specs.declared.fault.ScriptFault.{ScriptFault}
-use Rattle.occ_script.specs.declared.script.Order.{Order}
-use Rattle.occ_script.specs.Orders.{IsOrders, IsOrdersFault}
-use Rattle.occ_script_write.specs.declared.writing.Done.{Done}
-use Rattle.occ_script_write.specs.Text.{script_text}
+use Rattle.occ_run_schedule.specs.occ_behaviour.declared.behaviour.Side.TheVariants.{Second}
+use Rattle.occ_engine_written.specs.occ_engine.Moved.{moves_of, orders_of}
+use Rattle.occ_replay.specs.occ_replay_rules.Expansion.{IsBlocked, IsExpanded, IsNoPar}
+use Rattle.occ_replay.specs.occ_replay_rules.Orders.{Follows, Lack, Stops, no_law, no_path, not_accepted, not_applicable}
+use Rattle.occ_run_schedule.specs.occ_meaning.Context.{part_at}
+use Rattle.occ_replay.specs.occ_script.declared.fault.ScriptFault.{ScriptFault}
+use Rattle.occ_replay.specs.occ_script.declared.script.Order.{Order}
+use Rattle.occ_replay.specs.occ_script.Orders.{IsOrders, IsOrdersFault}
+use Rattle.occ_derive.specs.occ_script_write.declared.writing.Done.{Done}
+use Rattle.occ_derive.specs.occ_script_write.Text.{script_text}
 use Rattle.occ_syntax.specs.declared.scope.Program.{Program}
 use Rattle.occ_syntax.specs.Same.{SAME}
 use Rattle.occ_syntax.specs.Scopes.{environment}

@@ -1,10 +1,10 @@
 //! Files as programs: accepted, or refused, and why.
 
 ghost use Rattle.std.specs.Prelude.{◌≡◌, ◌≢◌, ◌≤◌, [], IfOk, IfErr, length, slice_index_or};
-ghost use Rattle.occ_base.specs.Names.{IsDistinct};
+ghost use Rattle.occ_desk.specs.occ_base.Names.{IsDistinct};
 ghost use Rattle.occ_syntax.specs.View.{tree};
 ghost use Rattle.occ_syntax.specs.Usage.{KeepsUsage};
-ghost use Rattle.occ_usage.specs.Accepted.{IsTyped};
+ghost use Rattle.occ_replay.specs.occ_usage.Accepted.{IsTyped};
 ghost use Rattle.occ_tool_run.specs.Accepts.{node_of};
 ghost use Rattle.occ_tool_run.specs.Files.{IsShort, most_bytes};
 ghost use Rattle.occ_tool_run.specs.Texts.{IsPrintable};
@@ -12,12 +12,11 @@ ghost use Rattle.occ_tool_run.specs.Judged.{HasInterface, IsAcceptedFrom, IsAcce
 
 use crate::answer::Answer;
 use crate::load::Loaded;
-use occ_base::{Memory, Names};
-use occ_behaviour::Side;
-use occ_nform_params::parameters_have_names;
-use occ_parse::{Text, parse};
-use occ_parse_reading::{Bound, ParseFault, Which};
-use occ_usage::{Accepted, UsageFault, check};
+use occ_desk::{Memory, Names};
+use occ_read_renamed::parameters_have_names;
+use occ_replay::{Accepted, UsageFault, check};
+use occ_run_schedule::Side;
+use occ_tool_words::{Bound, ParseFault, Text, Which, parse};
 use std::alloc::Global;
 
 /// Why a program isn't accepted.
@@ -122,7 +121,7 @@ fn line_at(lines: &[u32], node: u32) -> u32
     }
 }
 
-/// The answer that refuses a text, or want of memory where that is why.
+/// The answer that refuses a text, or `Memory` where memory ran out.
 pub fn refused(names: Names, place: Side, refusal: Refusal) -> Result<Answer, Memory>
     requires { IsSayable names refusal }
     ensures refused { IfOk result (IsRefusalAnswer names place refusal) }

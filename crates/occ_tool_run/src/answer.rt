@@ -10,17 +10,14 @@ use crate::refusal::{
 };
 use crate::rejection::rejection;
 use itoa::Buffer;
-use occ_base::{Memory, Names};
-use occ_behaviour::{Behaviour, Side, Verdict, behaviour_text, verdict_text};
-use occ_gen::Shape;
-use occ_nform::Counts;
-use occ_nform_table::TableFault;
-use occ_parse_reading::ParseFault;
-use occ_replay::Rejected;
-use occ_run_follow::{Followed, followed_text};
-use occ_script::ScriptFault;
-use occ_usage::UsageFault;
-use occ_views::Refined;
+use occ_desk::{Memory, Names};
+use occ_read_renamed::Counts;
+use occ_replay::{Rejected, ScriptFault, UsageFault};
+use occ_run_schedule::{
+    Behaviour, Followed, Refined, Side, TableFault, Verdict, behaviour_text, followed_text,
+    verdict_text,
+};
+use occ_tool_words::{ParseFault, Shape};
 use std::alloc::Global;
 
 /// What a command line is answered with, where all files could be read and memory was found.
@@ -28,10 +25,10 @@ use std::alloc::Global;
 pub enum Answer {
     /// The words don't fit.
     Usage,
-    /// The text of a program is refused, the first that is. The fault is no want of memory.
+    /// The text of a program is refused, the first that is. The fault isn't `Memory`.
     Refused(Side, ParseFault),
     /// A text reads as a program in which the parts of a PAR share what they may not, the first text that is refused.
-    /// The PAR stands on the line. The names are those of the texts so far, and the fault is no want of memory.
+    /// The PAR stands on the line. The names are those of the texts so far, and the fault isn't `Memory`.
     Unusable {
         names: Names,
         place: Side,
@@ -40,7 +37,7 @@ pub enum Answer {
     },
     /// A text that is no program has more bytes than a text of its kind may have.
     TooLong(Side),
-    /// The first text isn't a normal one. The fault is no want of memory.
+    /// The first text isn't a normal one. The fault isn't `Memory`.
     RefusedTable(TableFault),
     /// The second text is no behaviour of the program's interface, by this line.
     RefusedClaim(u32),

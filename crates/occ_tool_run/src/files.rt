@@ -17,7 +17,7 @@ use crate::stuck::seek;
 use crate::to_normal::derive;
 use crate::transforming::{expand, transform};
 use occ_desk::Desk;
-use occ_script_path::Path;
+use occ_replay::Path;
 use std::alloc::Global;
 
 /// The answer to two files of whose programs this is asked.

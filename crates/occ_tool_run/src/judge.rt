@@ -2,7 +2,7 @@
 
 ghost use Rattle.std.specs.Prelude.{◌≡◌, ◌≢◌, ◌↔◌, ℕ, List, [], Option, IfOk, IsTrue};
 ghost use Rattle.std.specs.declared.cmp.Ordering.TheVariants.{Less, Equal, Greater};
-ghost use Rattle.occ_behaviour.specs.declared.behaviour.Side.TheVariants.{First, Second};
+ghost use Rattle.occ_run_schedule.specs.occ_behaviour.declared.behaviour.Side.TheVariants.{First, Second};
 ghost use Rattle.occ_tool_run.specs.Stored.{seen};
 ghost use Rattle.occ_tool_run.specs.Files.{IsLoaded, IsShort, most_bytes};
 ghost use Rattle.occ_tool_run.specs.Texts.{IsPrintable};
@@ -14,11 +14,11 @@ ghost use Rattle.occ_tool_run.specs.Pairs.{IsOneKnown, SettlesAll};
 use crate::accept::{Refusal, accept, accept_first, refused};
 use crate::answer::Answer;
 use crate::load::Loaded;
-use occ_base::{Memory, Name, Names};
-use occ_behaviour::Side;
+use occ_desk::{Memory, Name, Names};
+use occ_refine::{decide, refined};
+use occ_replay::Accepted;
+use occ_run_schedule::Side;
 use occ_syntax::Kind;
-use occ_usage::Accepted;
-use occ_verdict::{decide, refined};
 use std::alloc::Global;
 use std::cmp::Ordering;
 

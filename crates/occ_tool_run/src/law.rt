@@ -1,26 +1,24 @@
 ghost use Rattle.std.specs.Prelude.{ℕ, ◌≡◌, ◌↔◌, List, [], ◌∷◌, codes};
-ghost use Rattle.occ_base.specs.Names.{IsDistinct};
+ghost use Rattle.occ_desk.specs.occ_base.Names.{IsDistinct};
 ghost use Rattle.occ_syntax.specs.Usage.{KeepsUsage};
 ghost use Rattle.occ_tool_run.specs.Accepts.{IsAcceptedText, Program};
 ghost use Rattle.occ_tool_run.specs.Files.{Files};
 ghost use Rattle.occ_tool_run.specs.Answers.{Answers, IsDetermined};
 ghost use Rattle.occ_tool_words.specs.Words.{job_of};
 
-use occ_engine_once::{
+use occ_engine_written::{
     expansions_have_no_fault, expansions_have_one_fault, expansions_have_one_outcome,
     followed_orders_have_one_outcome, orders_follow_or_stop, orders_stop_once,
 };
-use occ_nform::programs_have_one_table;
-use occ_nform_written::{
+use occ_read_renamed::programs_have_one_table;
+use occ_refine::{one_verdict, refined_both_ways};
+use occ_replay::{one_orders, one_script, scripts_have_one_answer};
+use occ_run_schedule::{
     behaviours_are_read_as_written, faults_are_those_of_what_is_written,
-    faults_stand_where_nothing_goes_on, normal_texts_are_read_as_written,
+    faults_stand_where_nothing_goes_on, normal_texts_are_read_as_written, one_deadlock,
+    one_following, one_refinement,
 };
-use occ_parse_reading::one_reading;
-use occ_replay_rules::scripts_have_one_answer;
-use occ_run_follow::one_following;
-use occ_script::{one_orders, one_script};
-use occ_verdict::{one_verdict, refined_both_ways};
-use occ_views::{one_deadlock, one_refinement};
+use occ_tool_words::one_reading;
 
 /// A command line over the same files has one answer, with one status and one text; but the steps of `derive` are free.
 pub fn one_answer()

@@ -4,8 +4,7 @@ ghost use Rattle.std.specs.Prelude.{◌≡◌, ◌≤◌, ◌<◌, ◌∷◌, []
 ghost use Rattle.occ_tool_run.specs.Files.{IsLoaded, IsShort, AsksFor, CountsStop, most_bytes, most_script_bytes, most_table_bytes, loaded_bytes, text_order};
 ghost use Rattle.occ_tool_run.specs.declared.load.Stop.TheVariants.{Memory as NoMemory};
 
-use occ_base::Memory;
-use occ_desk::{Desk, ReadError};
+use occ_desk::{Desk, Memory, ReadError};
 use std::alloc::Global;
 use std::cmp::Ordering;
 use thiserror::Error;

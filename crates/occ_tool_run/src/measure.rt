@@ -8,13 +8,14 @@ ghost use Rattle.occ_tool_run.specs.Answers.{IsStressed, Stresses};
 use crate::accept::{Refusal, accept_first};
 use crate::answer::Answer;
 use crate::load::{Loaded, MOST_BYTES};
-use occ_base::{Memory, Names};
-use occ_gen::{GenFault, Shape, generate};
-use occ_gen_accepted::{generated_programs_are_accepted, generated_programs_are_never_refused};
-use occ_nform_program::measured;
-use occ_nform_text::a_normal_text_is_its_tables;
-use occ_parse_reading::one_reading;
-use occ_usage::Accepted;
+use occ_desk::{Memory, Names};
+use occ_read_renamed::measured;
+use occ_replay::Accepted;
+use occ_run_schedule::a_normal_text_is_its_tables;
+use occ_tool_words::{
+    GenFault, Shape, generate, generated_programs_are_accepted,
+    generated_programs_are_never_refused, one_reading,
+};
 use std::alloc::Global;
 
 /// The answer to the order to measure a generated program of that many stages, from 1 to 48, whose text is accepted.

@@ -1,8 +1,8 @@
 ghost use Rattle.std.specs.Prelude.{◌≡◌, ◌≢◌, ◌≤◌, ◌↔◌, ℕ, List, Option, Some, IfOk, IsTrue, length};
-ghost use Rattle.occ_base.specs.Names.{IsDistinct};
+ghost use Rattle.occ_desk.specs.occ_base.Names.{IsDistinct};
 ghost use Rattle.occ_syntax.specs.View.{tree};
-ghost use Rattle.occ_behaviour.specs.Members.{IsMember};
-ghost use Rattle.occ_behaviour_read.specs.Claims.{IsOf};
+ghost use Rattle.occ_run_schedule.specs.occ_behaviour.Members.{IsMember};
+ghost use Rattle.occ_run_schedule.specs.occ_behaviour_read.Claims.{IsOf};
 ghost use Rattle.occ_tool_run.specs.Files.{IsLoaded, IsShort, most_bytes};
 ghost use Rattle.occ_tool_run.specs.Judged.{HasInterface, IsClaimRefusal};
 ghost use Rattle.occ_tool_run.specs.Stored.{seen};
@@ -12,12 +12,12 @@ ghost use Rattle.occ_tool_run.specs.Answers.{IsJudged, Judges};
 use crate::accept::{accept_first, refused};
 use crate::answer::Answer;
 use crate::load::Loaded;
-use occ_base::{Memory, Names};
-use occ_behaviour::{Behaviour, Last, Side};
-use occ_behaviour_read::{ClaimFault, read};
-use occ_member::{ends, fails};
-use occ_nform_written::{behaviours_are_read_as_written, faults_stand_where_nothing_goes_on};
-use occ_usage::Accepted;
+use occ_desk::{Memory, Names};
+use occ_replay::Accepted;
+use occ_run_schedule::{
+    Behaviour, ClaimFault, Last, Side, behaviour_read_read as read, behaviours_are_read_as_written,
+    ends, fails, faults_stand_where_nothing_goes_on,
+};
 use std::alloc::Global;
 
 /// The answer to two files: of a program, and of a behaviour that may be one of the program's. The program is judged first.
@@ -80,7 +80,7 @@ fn judge_bytes(
     }
 }
 
-/// The answer that refuses a behaviour, or want of memory where that is why.
+/// The answer that refuses a behaviour, or `Memory` where memory ran out.
 fn refuse_claim(fault: ClaimFault) -> Result<Answer, Memory>
     ensures told { IfOk result (IsClaimRefusal fault) }
     ensures printable { IfOk result IsPrintable }

@@ -8,14 +8,13 @@ ghost use Rattle.occ_tool_run.specs.Answers.{Checks, IsChecked, IsNormalised, No
 use crate::accept::{accept_first, refused};
 use crate::answer::Answer;
 use crate::load::Loaded;
-use occ_base::{Memory, Names};
-use occ_behaviour::Side;
-use occ_nform_program::normal_text;
-use occ_nform_read::read;
-use occ_nform_table::TableFault;
-use occ_nform_text::a_normal_text_is_its_tables;
-use occ_nform_written::{faults_are_those_of_what_is_written, normal_texts_are_read_as_written};
-use occ_usage::Accepted;
+use occ_desk::{Memory, Names};
+use occ_read_renamed::normal_text;
+use occ_replay::Accepted;
+use occ_run_schedule::{
+    Side, TableFault, a_normal_text_is_its_tables, faults_are_those_of_what_is_written,
+    nform_read_read as read, normal_texts_are_read_as_written,
+};
 use std::alloc::Global;
 
 /// The answer to a file whose program's normal text is asked for.
@@ -73,7 +72,7 @@ fn check_bytes(alloc: Global, bytes: &[u8]) -> Result<Answer, Memory>
     }
 }
 
-/// The answer that refuses a normal text, or want of memory where that is why.
+/// The answer that refuses a normal text, or `Memory` where memory ran out.
 fn refuse_table(fault: TableFault) -> Result<Answer, Memory>
     ensures told { IfOk result (λ answer. answer ≡ Answer.RefusedTable fault) }
     ensures sound { IfOk result (λ answer. fault ≢ TableFault.Memory) }

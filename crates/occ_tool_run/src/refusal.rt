@@ -1,17 +1,14 @@
 //! The lines that refuse texts.
 
 ghost use Rattle.std.specs.Prelude.{◌≡◌, ◌≢◌, ◌++◌, ◌∷◌, decimal, codes, IfOk};
-ghost use Rattle.occ_behaviour.specs.Texts.{mark_text};
+ghost use Rattle.occ_run_schedule.specs.occ_behaviour.Texts.{mark_text};
 ghost use Rattle.occ_tool_run.specs.Texts.{place_text, told_of, refusal_text, refused_at_text, words_of_usage, line_fault_text, limit_text, row_refusal_text, script_refusal_text, table_refusal_text, FaultIsNamed, ScriptFaultIsTold};
 
 use itoa::Buffer;
-use occ_base::{Dir, Memory, Names};
-use occ_behaviour::Side;
-use occ_lex::LineFault;
-use occ_nform_table::TableFault;
-use occ_parse_reading::{ParseFault, Which};
-use occ_script::ScriptFault;
-use occ_usage::UsageFault;
+use occ_desk::{Dir, Memory, Names};
+use occ_replay::{LineFault, ScriptFault, UsageFault};
+use occ_run_schedule::{Side, TableFault};
+use occ_tool_words::{ParseFault, Which};
 use std::alloc::Global;
 
 /// The line that refuses a program.

@@ -3,7 +3,7 @@ ghost use Rattle.occ_tool_run.specs.Texts.{from_rejection_text, rejection_text, 
 
 use crate::refusal::usage_words;
 use itoa::Buffer;
-use occ_base::{Memory, Names};
+use occ_desk::{Memory, Names};
 use occ_replay::Rejected;
 use std::alloc::Global;
 

@@ -1,5 +1,5 @@
 ghost use Rattle.std.specs.Prelude.{◌≡◌, ◌≢◌, ◌≤◌, ℕ, List, Option, Some, IfOk, length};
-ghost use Rattle.occ_parse.specs.Known.{NamesAreKnown};
+ghost use Rattle.occ_tool_words.specs.occ_parse.Known.{NamesAreKnown};
 ghost use Rattle.occ_tool_run.specs.Answers.{Steps};
 ghost use Rattle.occ_tool_run.specs.Files.{IsLoaded, IsShort, most_bytes};
 ghost use Rattle.occ_tool_run.specs.Judged.{HasInterface};
@@ -9,11 +9,9 @@ ghost use Rattle.occ_tool_run.specs.Texts.{IsPrintable};
 use crate::accept::{accept_first, refused};
 use crate::answer::Answer;
 use crate::load::Loaded;
-use occ_base::{Memory, Names};
-use occ_behaviour::Side;
-use occ_run_follow::follow;
-use occ_run_read::{ScheduleFault, read};
-use occ_usage::Accepted;
+use occ_desk::{Memory, Names};
+use occ_replay::Accepted;
+use occ_run_schedule::{ScheduleFault, Side, follow, read};
 use std::alloc::Global;
 
 /// The answer to two files: of a program, and of a schedule that its steps are to follow. The program is judged first.
@@ -77,7 +75,7 @@ fn run_bytes(
     }
 }
 
-/// The answer that refuses a schedule, or want of memory where that is why.
+/// The answer that refuses a schedule, or `Memory` where memory ran out.
 fn refuse_schedule(fault: ScheduleFault) -> Result<Answer, Memory>
     ensures told { IfOk result (IsScheduleRefusal fault) }
     ensures printable { IfOk result IsPrintable }

@@ -3,15 +3,15 @@ ghost use Rattle.occ_tool_run.specs.Files.{IsLoaded, IsShort, most_bytes};
 ghost use Rattle.occ_tool_run.specs.Stored.{seen};
 ghost use Rattle.occ_tool_run.specs.Texts.{IsPrintable};
 ghost use Rattle.occ_tool_run.specs.Answers.{IsSought, Seeks};
-ghost use Rattle.occ_parse.specs.Known.{NamesAreKnown};
+ghost use Rattle.occ_tool_words.specs.occ_parse.Known.{NamesAreKnown};
 
 use crate::accept::{accept, refused};
 use crate::answer::Answer;
 use crate::load::Loaded;
-use occ_base::{Memory, Names};
-use occ_behaviour::Side;
-use occ_usage::Accepted;
-use occ_verdict::deadlocked;
+use occ_desk::{Memory, Names};
+use occ_refine::deadlocked;
+use occ_replay::Accepted;
+use occ_run_schedule::Side;
 use std::alloc::Global;
 
 /// The answer to a file whose program may be stuck.

@@ -11,11 +11,11 @@ use crate::accept::{accept_first, refused};
 use crate::answer::Answer;
 use crate::load::Loaded;
 use crate::transforming::script;
-use occ_base::{Memory, Names};
-use occ_behaviour::Side;
 use occ_derive::DeriveFault;
-use occ_nform_program::normal_table;
-use occ_usage::Accepted;
+use occ_desk::{Memory, Names};
+use occ_read_renamed::normal_table;
+use occ_replay::Accepted;
+use occ_run_schedule::Side;
 use std::alloc::Global;
 
 /// The answer to a file whose program's normal program is to be derived.

@@ -1,8 +1,8 @@
 //! Programs transformed by laws: orders that are followed, and a PAR that is expanded. The answer is the script of what was done.
 
 ghost use Rattle.std.specs.Prelude.{◌≡◌, ◌≢◌, ◌≤◌, ℕ, List, Option, Some, IfOk, length};
-ghost use Rattle.occ_derive_check.specs.Derivations.{IsDerived};
-ghost use Rattle.occ_script.specs.declared.fault.ScriptFault.TheVariants as script;
+ghost use Rattle.occ_derive.specs.occ_derive_search.Derivations.{IsDerived};
+ghost use Rattle.occ_replay.specs.occ_script.declared.fault.ScriptFault.TheVariants as script;
 ghost use Rattle.occ_tool_run.specs.Answers.{Expands, Transforms};
 ghost use Rattle.occ_tool_run.specs.Files.{IsLoaded, IsShort, most_bytes, most_script_bytes};
 ghost use Rattle.occ_tool_run.specs.Texts.{IsPrintable, ScriptFaultIsTold};
@@ -13,18 +13,14 @@ use crate::accept::{accept, refused};
 use crate::answer::Answer;
 use crate::load::Loaded;
 use crate::reason::Reason;
-use occ_base::{Memory, Names};
-use occ_behaviour::Side;
-use occ_derive_steps::{moves_are_steps, steps_keep_the_meaning};
-use occ_engine::{EngineFault, Outcome};
-use occ_engine_known::{
-    expansions_have_known_names, followed_orders_have_known_names, kept_parts_have_known_names,
-    names_stay_below, read_programs_have_known_names,
+use occ_derive::{moves_are_steps, steps_keep_the_meaning, write};
+use occ_desk::{Memory, Names};
+use occ_engine_written::{
+    EngineFault, Outcome, expansions_have_known_names, followed_orders_have_known_names,
+    kept_parts_have_known_names, names_stay_below, read_programs_have_known_names,
 };
-use occ_script::{ScriptFault, orders};
-use occ_script_path::Path;
-use occ_script_write::write;
-use occ_usage::Accepted;
+use occ_replay::{Accepted, Path, ScriptFault, orders};
+use occ_run_schedule::Side;
 use std::alloc::Global;
 
 /// The answer to two files: of a program, and of orders that are to be followed from it. The program is judged first.
@@ -86,7 +82,7 @@ fn transform_bytes(
         Ok(orders) => orders,
         Err(fault) => return refuse_orders(fault),
     };
-    match occ_engine::transform(alloc, accepted, orders.items()) {
+    match occ_engine_written::transform(alloc, accepted, orders.items()) {
         Ok(outcome) => script(alloc, &names, accepted, &outcome),
         Err(fault) => refuse_order(fault),
     }
@@ -154,7 +150,7 @@ fn expand_program(
     moves_are_steps();
     kept_parts_have_known_names();
     expansions_have_known_names();
-    match occ_engine::expand(alloc, accepted, path) {
+    match occ_engine_written::expand(alloc, accepted, path) {
         Ok(outcome) => script(alloc, names, accepted, &outcome),
         Err(fault) => refuse_path(fault),
     }

@@ -1,6 +1,6 @@
 use crate::tests::{EXPANDED, command_on};
 use itoa::Buffer;
-use occ_base::Memory;
+use occ_draw_run::Memory;
 use std::alloc::Global;
 use std::test::Fail;
 

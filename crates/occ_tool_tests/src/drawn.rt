@@ -1,7 +1,5 @@
 use crate::tests::{EXPANDED, desk_with, strings};
-use occ_base::Memory;
-use occ_desk::MemoryDesk;
-use occ_draw_run::draw;
+use occ_draw_run::{Memory, MemoryDesk, draw};
 use std::alloc::Global;
 use std::test::Fail;
 

@@ -1,8 +1,6 @@
 ghost use Rattle.std.specs.Prelude.{◌≡◌, ◌≤◌, IfOk};
 
-use occ_base::Memory;
-use occ_desk::MemoryDesk;
-use occ_tool_run::run;
+use occ_draw_run::{Memory, MemoryDesk, run};
 use std::alloc::Global;
 use std::test::Fail;
 

@@ -10,7 +10,7 @@ use Rattle.clap.specs.Kinds.{Kinds, or_else}
 use Rattle.clap.specs.Faults.{turn_fault, walk_fault, entered_fault, fault_of, settle_fault, defaults_fault, check_fault, stray_fault}
 use Rattle.clap.specs.Simple.{App, Shape, built, names_of, rows_at, subcommand_of, entered}
 use Rattle.clap.proofs.OnLiterals.{clap_on_literals}
-use Rattle.occ_base.specs.declared.memory.Memory.{Memory}
+use Rattle.occ_gen.specs.occ_base.declared.memory.Memory.{Memory}
 use Rattle.occ_tool_words.specs.declared.words.Command.{Command}
 use Rattle.occ_tool_words.specs.Words.{Job, same, normalise, normal, belongs, refine, deadlock, replay, run, is_plain, job, job_of, with_one, with_two}
 use Rattle.occ_tool_words.specs.CommandLine.{line, job_found, job_named}

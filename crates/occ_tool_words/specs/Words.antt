@@ -5,7 +5,7 @@ use Rattle.std.specs.Option.{option_map_or}
 use Rattle.std.specs.Str.{bytes_eq}
 use Rattle.occ_gen.specs.declared.shape.Shape.{Shape}
 use Rattle.occ_gen.specs.declared.shape.Shape.TheVariants.{Buffers, Adders, Muxes}
-use Rattle.occ_script_path.specs.Texts.{path_of}
+use Rattle.occ_gen.specs.occ_script_lines.Texts.{path_of}
 use Rattle.occ_tool_words.specs.declared.words.Command.{Command}
 use Rattle.occ_tool_words.specs.declared.words.Command.TheVariants.{Usage, Same, Normalise, Normal, Belongs, Stress, Refine, Deadlock, Replay, Run, Transform, Expand, Derive}
 

@@ -8,5 +8,9 @@ mod pair;
 mod stages;
 mod words;
 
+pub use occ_gen::{
+    Bound, GenFault, ParseFault, Shape, Text, Which, generate, generated_programs_are_accepted,
+    generated_programs_are_never_refused, one_reading, parse,
+};
 pub use pair::file_pair;
 pub use words::{Command, command_in, is_plain_word};

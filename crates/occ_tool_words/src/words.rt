@@ -9,9 +9,7 @@ ghost use Rattle.clap.specs.declared.builder.command.Command.TheViews.{out-Comma
 use crate::stages::{shape_in, stages_in};
 use clap::error::ErrorKind;
 use clap::{Arg, ArgMatches, Error};
-use occ_base::Memory;
-use occ_gen::Shape;
-use occ_script_path::{Path, path};
+use occ_gen::{Memory, Path, Shape, script_lines_path as path};
 use std::alloc::{AllocError, Global};
 
 /// What a command line asks for.
@@ -64,7 +62,7 @@ pub fn command_in<'a>(alloc: Global, words: &'a [String]) -> Result<Command<'a>,
     }
 }
 
-/// Whether a parse failed for want of memory.
+/// Whether a parse failed since memory ran out.
 fn is_memory(error: &Error) -> bool
     ensures { IsTrue result ↔ (kind_of error.now ≡ ErrorKind.OutOfMemory) }
 {

@@ -4,9 +4,9 @@ use Rattle.std.specs.List.{list_any}
 use Rattle.std.proofs.lemmas.Bool.{eqb-true, and_parts, or_parts, or_from}
 use Rattle.std.proofs.lemmas.List.{map-append, take-append-le, length_push}
 use Rattle.std.proofs.lemmas.List.Folds.{list_any-append}
-use Rattle.occ_base.specs.declared.event.Dir.{Dir}
-use Rattle.occ_base.specs.declared.event.Dir.TheVariants.{Input, Output}
-use Rattle.occ_base.specs.declared.names.Name.{Name}
+use Rattle.occ_names.specs.occ_base.declared.event.Dir.{Dir}
+use Rattle.occ_names.specs.occ_base.declared.event.Dir.TheVariants.{Input, Output}
+use Rattle.occ_names.specs.occ_base.declared.names.Name.{Name}
 use Rattle.occ_syntax.specs.declared.scope.Kind.{Kind}
 use Rattle.occ_syntax.specs.declared.scope.Kind.TheVariants.{Var, Chan}
 use Rattle.occ_syntax.specs.declared.scope.Program.{Program}
@@ -17,8 +17,8 @@ use Rattle.occ_syntax.specs.Scopes.{Environment, environment, with_name}
 use Rattle.occ_syntax.specs.Tree.{Tree, skip, stop, assign, receive, send, seq, par, select, alt, declare, connect, Trees, no_tree, and_tree, Cases, no_case, and_case, Branches, no_branch, and_branch}
 use Rattle.occ_syntax.specs.Types.{types_kept, all_types_kept, cases_kept, branches_kept, is_condition, waiting_kept, can_declare}
 use Rattle.occ_syntax.specs.Usage.{IsSeparate, KeepsUsage, AllKeepUsage, AreSeparate, CasesKeepUsage, BranchesKeepUsage}
-use Rattle.occ_meaning.proofs.Free.{not_written, none_written, no_end, some_no_end}
-use Rattle.occ_meaning.proofs.InScope.{free_in_scope}
+use Rattle.occ_names.proofs.from_meaning.Free.{not_written, none_written, no_end, some_no_end}
+use Rattle.occ_names.proofs.from_meaning.InScope.{free_in_scope}
 use Rattle.occ_usage.specs.declared.fault.UsageFault.{UsageFault}
 use Rattle.occ_usage.specs.declared.fault.UsageFault.TheVariants.{SharedVariable, SharedEnd, Memory}
 use Rattle.occ_usage.specs.Accepted.{IsTyped, IsAccepted, IsFaultless, IsFirst, usage_faults}

@@ -7,7 +7,7 @@ use Rattle.std.specs.Map.{lookup}
 use Rattle.indexmap.specs.IndexMap.{insert_entry}
 use Rattle.std.proofs.lemmas.Bool.{eqb-true, and_parts}
 use Rattle.std.proofs.lemmas.List.{at_drop_more, drop_all, drop_more, take-append-le, length_push}
-use Rattle.occ_base.specs.declared.names.Name.{Name}
+use Rattle.occ_names.specs.occ_base.declared.names.Name.{Name}
 use Rattle.occ_syntax.specs.declared.expr.Expr.{Expr}
 use Rattle.occ_syntax.specs.declared.scope.Kind.{Kind}
 use Rattle.occ_syntax.specs.declared.scope.Kind.TheVariants.{Var, Chan}
@@ -89,12 +89,6 @@ typed_further p q n k j es fs w all e f g t h r =
     let may : can_declare (environment es) n.0 (width_of_kind k) ≡ true = ap (λ v. can_declare (environment es) n.0 v) (sym g) ∙ t in
     ap (λ gs. types_kept q (environment gs)) h ∙ ap (types_kept q) (environment-push es n j none) ∙ ap (λ i. types_kept q (with_name (environment es) n.0 i)) f
     ∙ sym (ap (λ s. types_kept s (environment es)) e ∙ types_kept-declaring n.0 k q (environment es) ∙ ap (λ b. b && types_kept q (with_name (environment es) n.0 (unmarked k))) may) ∙ r
-
-pub untyped : (p q : Tree) (n : Name) (k : Kind) (es : List (Name × Kind)) (w : _) (all : Bool) → p ≡ declaring n.0 k q → w ≡ width_of_kind k
-    → can_declare (environment es) n.0 w ≡ false → types_kept p (environment es) ≡ all → false ≡ all
-untyped p q n k es w all e g t r =
-    let may : can_declare (environment es) n.0 (width_of_kind k) ≡ false = ap (λ v. can_declare (environment es) n.0 v) (sym g) ∙ t in
-    sym (ap (λ s. types_kept s (environment es)) e ∙ types_kept-declaring n.0 k q (environment es) ∙ ap (λ b. b && types_kept q (with_name (environment es) n.0 (unmarked k))) may) ∙ r
 
 -- ---- scopes and assignments
 

@@ -1,12 +1,11 @@
 -- Sets to which the names of parts are added.
 use Rattle.std.proofs.Common.{◌≡◌, ℕ, ◌+◌, ◌<◌, ◌≤◌, Bool, true, false, cond, ◌&&◌, ◌||◌, List, [], ◌∷◌, ◌++◌, length, get_or, take, drop, refl, sym, ap, ◌∙◌, subst}
 use mathlib.Core.Bool.{beq}
-use mathlib.Core.Path.{fun_ext}
 use Rattle.std.proofs.lemmas.Bool.{and_parts}
 use Rattle.std.proofs.lemmas.List.{at_drop_more, at_drop_all, take_more}
-use Rattle.occ_base.specs.declared.event.Dir.{Dir}
-use Rattle.occ_base.specs.declared.event.Dir.TheVariants.{Input}
-use Rattle.occ_base.specs.declared.names.Name.{Name}
+use Rattle.occ_names.specs.occ_base.declared.event.Dir.{Dir}
+use Rattle.occ_names.specs.occ_base.declared.event.Dir.TheVariants.{Input}
+use Rattle.occ_names.specs.occ_base.declared.names.Name.{Name}
 use Rattle.occ_syntax.specs.declared.proc.Proc.{Proc}
 use Rattle.occ_syntax.specs.Names.{is_in, free, written, uses_end, free_in_some, written_in_some, end_in_some}
 use Rattle.occ_syntax.specs.Tree.{Tree, Trees, no_tree, and_tree}
@@ -14,7 +13,7 @@ use Rattle.occ_syntax.specs.View.{numbers, tree, trees}
 use Rattle.occ_names.specs.Once.{has, with_one, same_number}
 use Rattle.occ_names.specs.Mentions.{called, same_end, end_number, end_numbers}
 use Rattle.occ_names.proofs.Listed.{IsTest, has_more_at, swap, or_nothing, numbers_tested}
-use Rattle.occ_usage.specs.Faults.{shared_variable, shared_end, end_faults}
+use Rattle.occ_usage.specs.Faults.{shared_variable, shared_end}
 use Rattle.occ_usage.specs.Sharing.{Shares, with_part}
 
 -- ---- equations of tests, tried at each of their values
@@ -177,8 +176,3 @@ trees-push (q ∷ ps) p = ap (and_tree (tree q)) (trees-push ps p)
 pub trees_more : (ps : List Proc) (i : ℕ) (p : Proc) → i < length ps → p ≡ get_or ps i p → with_part (trees (take i ps)) (tree p) ≡ trees (take (i + 1) ps)
 trees_more ps i p h e =
     ap (λ q. with_part (trees (take i ps)) (tree q)) e ∙ sym (trees-push (take i ps) (get_or ps i p)) ∙ ap trees (sym (take_more ps i p h))
-
--- ---- the first fault of a PAR
-
-same_ends : (f g : ℕ → Dir → Bool) (n : ℕ) (xs : List ℕ) → ((c : ℕ) (d : Dir) → f c d ≡ g c d) → end_faults f n xs ≡ end_faults g n xs
-same_ends f g n xs h = ap (λ t. end_faults t n xs) (fun_ext (λ c. fun_ext (h c)))

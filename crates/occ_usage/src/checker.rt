@@ -6,7 +6,7 @@ ghost use Rattle.occ_usage.specs.Accepted.{usage_faults};
 
 use crate::UsageFault;
 use crate::sharing::Sharing;
-use occ_base::{Memory, Name};
+use occ_names::{Memory, Name};
 use occ_syntax::{Expr, Guard, Kind, Proc, Program};
 use std::alloc::Global;
 
@@ -64,7 +64,7 @@ impl Checker {
         Ok(found)
     }
 
-    #[tactic(auto, unfolding(occ_syntax::specs::View::tree))]
+    #[tactic(auto, unfolding(crate::specs::tree))]
     #[cycle(check)]
     fn undeclared(&mut self, part: &Proc) -> Result<Option<UsageFault>, Memory>
         requires { is_declaration (tree part.now) ≡ false }

@@ -7,7 +7,7 @@ ghost use Rattle.occ_usage.specs.Typed.{unmarked as without_mark};
 
 use crate::kinds::Kinds;
 use crate::types::width_of;
-use occ_base::Memory;
+use occ_names::Memory;
 use occ_syntax::{Expr, Guard, Kind, Proc};
 use std::alloc::Global;
 
@@ -51,7 +51,7 @@ impl Typing {
         Ok(kept)
     }
 
-    #[tactic(auto, unfolding(occ_syntax::specs::View::tree))]
+    #[tactic(auto, unfolding(crate::specs::tree))]
     #[cycle(typing)]
     fn undeclared(&mut self, part: &Proc) -> Result<bool, Memory>
         requires { is_declaration (tree part.now) ≡ false }

@@ -12,3 +12,7 @@ pub mod AtOnce
 pub mod Passing
 pub mod Staying
 pub mod Keeping
+pub use Rattle.occ_choice.proofs.from_accept as from_accept
+pub use Rattle.occ_choice.proofs as from_choice
+pub use Rattle.occ_choice.proofs.from_mdd as from_mdd
+pub use Rattle.occ_choice.proofs.from_node as from_node

@@ -3,7 +3,7 @@ use Rattle.std.specs.Int.{bit_at}
 use Rattle.std.specs.Int.Bits.{bit_and}
 use Rattle.std.proofs.lemmas.Bool.{cond_both, cases_lt, eqb-true, eq-eqb}
 use Rattle.std.proofs.lemmas.Nat.Bits.{bit_at_and, bit_at_above, same_from_bits}
-use Rattle.occ_diagram.proofs.Bits.{bit_cases, is_one, is_zero}
+use Rattle.occ_choice.proofs.from_dd.Bits.{bit_cases, is_one, is_zero}
 use Rattle.occ_weave.specs.States.{JoinsStates}
 
 -- assignments that agree on the bits of a mask give one value

@@ -1,8 +1,8 @@
 use Rattle.std.specs.Prelude.{ℕ, ◌<◌, ◌≡◌, ◌^◌, ◌⊎◌}
 use Rattle.std.specs.Int.{bit_at}
 use Rattle.std.specs.Int.Bits.{bit_and}
-use Rattle.occ_syntax.specs.Scopes.{Values}
-use Rattle.occ_syntax.specs.Meaning.{join}
+use Rattle.occ_choice.specs.occ_syntax.Scopes.{Values}
+use Rattle.occ_choice.specs.occ_syntax.Meaning.{join}
 use Rattle.occ_weave.specs.Weave.{IsJoined}
 
 -- Final states by bits: each variable in scope has some bits of the assignment, its mask.

@@ -1,7 +1,7 @@
 ghost use Rattle.std.specs.Prelude.{◌≡◌};
 ghost use Rattle.occ_weave.specs.Weave.{is_open};
 
-use occ_base::{Event, Name};
+use occ_choice::{Event, Name};
 
 /// Whether an event is on none of the closed channels. It takes no memory.
 pub fn is_open(closed: &[Name], event: Event) -> bool

@@ -15,4 +15,8 @@ mod weaving;
 pub use calls::weave;
 pub use law::joined_ends_are_joined_states;
 pub use manner::Manner;
+pub use occ_choice::{
+    Both, Branch, MapId, Maps, NodeId, Offers, Row, Unions, World, add, alt, alt_with, least,
+    prefix_in, prefix_out, union_with,
+};
 pub use weaving::Weaver;

@@ -1,8 +1,7 @@
 //! The program: `witness` over the files of the system and its standard output.
 #![tactic(auto)]
 
-use occ_desk::RealDesk;
-use occ_witness_run::witness;
+use occ_witness_run::{RealDesk, witness};
 use std::env;
 use std::io::ErrorKind;
 use std::process::ExitCode;

@@ -1,14 +1,14 @@
 -- What is left behind: what was written.
 use Rattle.std.proofs.Common.{◌≡◌, ℕ, List, [], Option, Some, None, Result, IfSome, IfOk, refl, sym, ap, ◌∙◌, subst}
 use Rattle.std.specs.Prelude.{IsErrAnd}
-use Rattle.occ_desk.specs.Desk.{with_more, IsCutShort}
+use Rattle.occ_tool_run.specs.occ_desk.Desk.{with_more, IsCutShort}
 use Rattle.occ_tool_run.specs.declared.load.Loaded.{Loaded}
 use Rattle.occ_tool_run.proofs.Leaving.{err_is, memory_asked, with_nothing}
 use Rattle.occ_tool_run.specs.declared.load.Stop.{Stop}
 use Rattle.occ_tool_run.specs.declared.load.Stop.TheVariants.{Memory}
 use Rattle.occ_tool_run.specs.Files.{AsksFor, Files, IsLoaded, most_bytes}
 use Rattle.occ_witness_run.specs.Answers.{Answers, AnswersNames, Ran, Tells, answered, cut_short}
-use Rattle.occ_tool_words.specs.Pairs.{names_in}
+use Rattle.occ_tool_run.specs.occ_tool_words.Pairs.{names_in}
 use Rattle.occ_witness_run.specs.declared.top.Reply.{Reply}
 
 pub wrote_all : (told : Option Files) (words : List (List ℕ)) (status : ℕ) (text bytes : List ℕ) (old between new : Option (List ℕ))

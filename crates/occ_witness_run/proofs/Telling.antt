@@ -1,22 +1,22 @@
 -- What is told of two files.
 use Rattle.std.proofs.Common.{◌≡◌, ◌≤◌, ◌∙◌, ℕ, true, false, List, [], length, Option, Some, Result, Ok, Err, IfOk, Vec, Global, refl, sym, ap, subst, arith}
 use Rattle.std.specs.Prelude.{◌≢◌}
-use Rattle.occ_base.specs.Names.{IsDistinct}
-use Rattle.occ_base.specs.declared.memory.Memory.{Memory}
-use Rattle.occ_base.specs.declared.names.Name.{Name}
-use Rattle.occ_behaviour.specs.declared.behaviour.Behaviour.{Behaviour}
-use Rattle.occ_behaviour.specs.declared.behaviour.Side.{Side}
-use Rattle.occ_behaviour.specs.declared.behaviour.Side.TheVariants.{First, Second}
-use Rattle.occ_behaviour_read.specs.Claims.{IsFaultOf, bare_lines, claim_read}
-use Rattle.occ_behaviour_read.specs.declared.claim.ClaimFault.{ClaimFault}
-use Rattle.occ_behaviour_read.specs.declared.claim.ClaimFault.TheVariants as claim
-use Rattle.occ_nform_written.specs.Behaviours.{IsBehaviourText}
-use Rattle.occ_run_witness.specs.declared.witnessing.Witness.{Witness}
-use Rattle.occ_run_witness.specs.declared.witnessing.Witness.TheVariants as witness
-use Rattle.occ_run_witness.proofs.Inside.{claim_within}
-use Rattle.occ_run_witness.specs.Witnesses.{IsWithin, IsWitness}
-use Rattle.occ_syntax.specs.declared.scope.Kind.{Kind}
-use Rattle.occ_syntax.specs.declared.scope.Program.{Program}
+use Rattle.occ_tool_run.specs.occ_base.Names.{IsDistinct}
+use Rattle.occ_tool_run.specs.occ_base.declared.memory.Memory.{Memory}
+use Rattle.occ_tool_run.specs.occ_base.declared.names.Name.{Name}
+use Rattle.occ_tool_run.specs.occ_behaviour.declared.behaviour.Behaviour.{Behaviour}
+use Rattle.occ_tool_run.specs.occ_behaviour.declared.behaviour.Side.{Side}
+use Rattle.occ_tool_run.specs.occ_behaviour.declared.behaviour.Side.TheVariants.{First, Second}
+use Rattle.occ_tool_run.specs.occ_behaviour_read.Claims.{IsFaultOf, bare_lines, claim_read}
+use Rattle.occ_tool_run.specs.occ_behaviour_read.declared.claim.ClaimFault.{ClaimFault}
+use Rattle.occ_tool_run.specs.occ_behaviour_read.declared.claim.ClaimFault.TheVariants as claim
+use Rattle.occ_tool_run.specs.occ_behaviour_read.Behaviours.{IsBehaviourText}
+use Rattle.occ_tool_run.specs.occ_run_schedule.declared.witnessing.Witness.{Witness}
+use Rattle.occ_tool_run.specs.occ_run_schedule.declared.witnessing.Witness.TheVariants as witness
+use Rattle.occ_tool_run.proofs.from_run_schedule.Inside.{claim_within}
+use Rattle.occ_tool_run.specs.occ_run_schedule.Witnesses.{IsWithin, IsWitness}
+use Rattle.occ_tool_run.specs.occ_syntax.declared.scope.Kind.{Kind}
+use Rattle.occ_tool_run.specs.occ_syntax.declared.scope.Program.{Program}
 use Rattle.occ_tool_run.proofs.AsWritten.{BehaviourFaultsLaw, BehavioursLaw}
 use Rattle.occ_tool_run.proofs.Judging.{accepted_file, refuse_judging, there}
 use Rattle.occ_tool_run.specs.declared.accept.Refusal.{Refusal}

@@ -1,10 +1,10 @@
 -- What a command line is answered with, and what a call leaves.
 use Rattle.std.specs.Prelude.{ℕ, ◌≡◌, List, Option, None, Some}
-use Rattle.occ_desk.specs.Desk.{with_more, IsCutShort}
+use Rattle.occ_tool_run.specs.occ_desk.Desk.{with_more, IsCutShort}
 use Rattle.occ_tool_run.specs.Files.{Files}
 use Rattle.occ_witness_run.specs.declared.finding.Finding.{Finding}
 use Rattle.occ_witness_run.specs.Findings.{Finds, status_of_finding, text_of_finding}
-use Rattle.occ_tool_words.specs.Pairs.{file_pair}
+use Rattle.occ_tool_run.specs.occ_tool_words.Pairs.{file_pair}
 use Rattle.occ_witness_run.specs.Words.{usage_text}
 
 -- the files of a program and of a behaviour have an answer with this status and this text

@@ -1,14 +1,14 @@
 -- What two files are answered with, of a program and of a behaviour: a schedule that shows it, or what `belongs` says.
 use Rattle.std.specs.Prelude.{ℕ, ◌≡◌, ◌≢◌, ◌≤◌, true, false, List, [], length, Option, Some, codes}
-use Rattle.occ_behaviour.specs.declared.behaviour.Behaviour.{Behaviour}
-use Rattle.occ_behaviour.specs.declared.behaviour.Side.TheVariants.{First, Second}
-use Rattle.occ_behaviour_read.specs.Claims.{bare_lines}
-use Rattle.occ_behaviour_read.specs.declared.claim.ClaimFault.{ClaimFault}
-use Rattle.occ_nform_written.specs.Behaviours.{IsBehaviourText}
-use Rattle.occ_run_witness.specs.declared.witnessing.Witness.{Witness}
-use Rattle.occ_run_witness.specs.declared.witnessing.Witness.TheVariants as witness
-use Rattle.occ_run_witness.specs.Witnesses.{HasIt, IsWitness}
-use Rattle.occ_syntax.specs.declared.scope.Program.{Program}
+use Rattle.occ_tool_run.specs.occ_behaviour.declared.behaviour.Behaviour.{Behaviour}
+use Rattle.occ_tool_run.specs.occ_behaviour.declared.behaviour.Side.TheVariants.{First, Second}
+use Rattle.occ_tool_run.specs.occ_behaviour_read.Claims.{bare_lines}
+use Rattle.occ_tool_run.specs.occ_behaviour_read.declared.claim.ClaimFault.{ClaimFault}
+use Rattle.occ_tool_run.specs.occ_behaviour_read.Behaviours.{IsBehaviourText}
+use Rattle.occ_tool_run.specs.occ_run_schedule.declared.witnessing.Witness.{Witness}
+use Rattle.occ_tool_run.specs.occ_run_schedule.declared.witnessing.Witness.TheVariants as witness
+use Rattle.occ_tool_run.specs.occ_run_schedule.Witnesses.{HasIt, IsWitness}
+use Rattle.occ_tool_run.specs.occ_syntax.declared.scope.Program.{Program}
 use Rattle.occ_tool_run.specs.declared.accept.Refusal.{Refusal}
 use Rattle.occ_tool_run.specs.declared.answer.Answer.{Answer}
 use Rattle.occ_tool_run.specs.declared.answer.Answer.TheVariants.{Member}

@@ -3,11 +3,9 @@
 ghost use Rattle.std.specs.Prelude.{◌≡◌, ◌≢◌, ◌≤◌, IfOk};
 ghost use Rattle.occ_witness_run.specs.Findings.{IsSayable, finding_of, status_of_finding, text_of_finding};
 
-use occ_base::Memory;
-use occ_behaviour::Side;
-use occ_run_witness::Witness;
 use occ_tool_run::answer::{self, Answer};
 use occ_tool_run::refusal::refusal_with;
+use occ_tool_run::{Memory, Side, Witness};
 use std::alloc::Global;
 
 /// What the files of a program and of a behaviour are answered with.

@@ -6,4 +6,5 @@ mod finding;
 mod searching;
 mod top;
 
+pub use occ_tool_run::RealDesk;
 pub use top::witness;

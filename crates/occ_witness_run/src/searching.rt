@@ -1,21 +1,19 @@
 //! Two files as a program and a behaviour of it, and a schedule that shows it.
 
 ghost use Rattle.std.specs.Prelude.{◌≤◌, ℕ, List, Option, Some, IfOk, length};
-ghost use Rattle.occ_base.specs.Names.{IsDistinct};
+ghost use Rattle.occ_tool_run.specs.occ_base.Names.{IsDistinct};
 ghost use Rattle.occ_tool_run.specs.Files.{IsLoaded, IsShort, most_bytes};
 ghost use Rattle.occ_tool_run.specs.Judged.{HasInterface, IsSayable as CanBeSaid};
 ghost use Rattle.occ_witness_run.specs.Findings.{Finds, FindsIn, IsClaimRefused, IsRefusedBy, IsSayable};
 
 use crate::finding::{Finding, told};
-use occ_base::{Memory, Names};
-use occ_behaviour::Side;
-use occ_behaviour_read::{ClaimFault, read};
-use occ_nform_written::{behaviours_are_read_as_written, faults_stand_where_nothing_goes_on};
-use occ_run_witness::find_witness;
 use occ_tool_run::accept::{Refusal, accept_first, refused};
 use occ_tool_run::answer::Answer;
 use occ_tool_run::load::Loaded;
-use occ_usage::Accepted;
+use occ_tool_run::{
+    Accepted, ClaimFault, Memory, Names, Side, behaviour_read_read as read,
+    behaviours_are_read_as_written, faults_stand_where_nothing_goes_on, find_witness,
+};
 use std::alloc::Global;
 
 /// The answer to two files: of a program, and of a behaviour that may be one of the program's. The program is judged first.

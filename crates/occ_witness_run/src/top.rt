@@ -3,16 +3,14 @@
 ghost use Rattle.std.specs.Prelude.{◌≡◌, ◌≢◌, ◌≤◌, ◌<◌, ◌↔◌, ◌⊎◌, map, string_bytes, ℕ, List, Option, Some, None, Err, IfOk, IfSome};
 ghost use Rattle.occ_tool_run.specs.Files.{AsksFor, CountsStop, IsLoaded, IsShort, most_bytes};
 ghost use Rattle.occ_tool_run.specs.Ran.{Asked};
-ghost use Rattle.occ_tool_words.specs.Pairs.{file_pair as words_of, names_in};
+ghost use Rattle.occ_tool_run.specs.occ_tool_words.Pairs.{file_pair as words_of, names_in};
 ghost use Rattle.occ_witness_run.specs.Answers.{Answers, AnswersNames, Ran, Tells};
 ghost use Rattle.occ_witness_run.specs.Words.{usage_text};
 
 use crate::finding::{status, text};
 use crate::searching::find;
-use occ_base::Memory;
-use occ_desk::{Desk, send};
 use occ_tool_run::load::{Loaded, MOST_BYTES, Stop, load_both};
-use occ_tool_words::file_pair;
+use occ_tool_run::{Desk, Memory, file_pair, send};
 use std::alloc::Global;
 
 /// Runs the command: the words of a command line, the program's own name first, over a desk. Two words name the file of a program and

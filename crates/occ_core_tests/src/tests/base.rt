@@ -1,4 +1,4 @@
-use occ_base::{Dir, Event, Events, Memory, Name, Names, State, Width};
+use occ_desk::{Dir, Event, Events, Memory, Name, Names, State, Width};
 
 #[test]
 fn a_text_keeps_its_name(rt: HostRuntime) -> Result<(), Memory> {

@@ -1,5 +1,5 @@
-use occ_base::{Events, Memory, Name, Names, State};
-use occ_behaviour::{Behaviour, Last, Side, Verdict, behaviour_text, verdict_text};
+use occ_behaviour_read::{Behaviour, Last, Side, Verdict, behaviour_text, verdict_text};
+use occ_desk::{Events, Memory, Name, Names, State};
 use std::alloc::Global;
 
 fn listed(alloc: Global, values: &[(Name, u8)]) -> Result<State, Memory> {

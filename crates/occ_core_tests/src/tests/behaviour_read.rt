@@ -1,5 +1,5 @@
-use occ_base::{Dir, Memory, Names, Width};
 use occ_behaviour_read::{ClaimFault, read};
+use occ_desk::{Dir, Memory, Names, Width};
 use occ_syntax::Kind;
 
 #[test]

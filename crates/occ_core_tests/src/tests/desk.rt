@@ -1,8 +1,7 @@
 ghost use Rattle.std.specs.Prelude.{◌≡◌, ◌≤◌, [], ◌∷◌, IfOk, codes};
 ghost use Rattle.occ_desk.specs.MemoryDesk.{new_desk};
 
-use occ_base::Memory;
-use occ_desk::{Desk, MemoryDesk, ReadError, RealDesk, WriteFailed, send};
+use occ_desk::{Desk, Memory, MemoryDesk, ReadError, RealDesk, WriteFailed, send};
 use std::alloc::Global;
 use std::test::Fail;
 use std::{fs, process};

@@ -2,15 +2,15 @@
 
 ghost use Rattle.std.specs.Prelude.{◌≡◌, ◌<◌, IsTrue};
 ghost use Rattle.std.specs.List.{AllByRecursion};
-ghost use Rattle.occ_base.specs.declared.names.Name.{Name};
+ghost use Rattle.occ_desk.specs.occ_base.declared.names.Name.{Name};
 ghost use Rattle.occ_syntax.specs.declared.scope.Kind.{Kind};
 ghost use Rattle.occ_syntax.specs.View.{exp, exps, numbers, tree, trees, cases, branches, waiting};
-ghost use Rattle.occ_print.specs.Known.{ExpIsKnown, WaitingIsKnown, PartIsKnown, PartsAreKnown, CasesAreKnown, BranchesAreKnown};
+ghost use Rattle.occ_gen.specs.occ_print.Known.{ExpIsKnown, WaitingIsKnown, PartIsKnown, PartsAreKnown, CasesAreKnown, BranchesAreKnown};
 
-use occ_base::Name;
+use occ_desk::Name;
 use occ_syntax::{Expr, Guard, Kind, Proc, Wait};
 
-#[tactic(auto, unfolding(occ_syntax::specs::View::tree))]
+#[tactic(auto, unfolding(crate::specs::tree))]
 #[cycle(known)]
 pub fn part_below(part: &Proc, count: usize) -> bool
     ensures { IsTrue result → PartIsKnown count (tree part.now) }

@@ -1,6 +1,5 @@
-use occ_base::Names;
-use occ_nform_read::read;
-use occ_nform_table::TableFault;
+use occ_behaviour_read::{TableFault, nform_read_read as read};
+use occ_desk::Names;
 
 const NORMAL: &[u8] = b"occam-normal 1
 PARAM CHAN OF BOOL a!

@@ -1,8 +1,8 @@
 ghost use Rattle.std.specs.Prelude.{◌<◌, IfOk, length};
 
 use crate::tests::known::{params_below, part_below};
-use occ_base::{Dir, Memory, Name, Names, Width};
-use occ_print::{line_tokens, print, print_part};
+use occ_desk::{Dir, Memory, Name, Names, Width};
+use occ_gen::{line_tokens, print, print_part};
 use occ_syntax::{
     Alternatives, Choices, Expr, Exprs, Guard, Kind, NameList, Op, Proc, Procs, Program, Scope,
     Wait,

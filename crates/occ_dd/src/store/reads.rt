@@ -1,9 +1,8 @@
 ghost use Rattle.std.specs.Prelude.{◌≡◌, ℕ, ◌<◌, ◌≤◌, ◌^◌, IfOk, MatchOption, length};
-ghost use Rattle.occ_diagram.specs.Table.{nodes_of};
+ghost use Rattle.occ_dd.specs.Table.{nodes_of};
 
-use crate::{SetId, Store};
+use crate::{Node, SetId, Store};
 use occ_base::Memory;
-use occ_diagram::Node;
 
 impl Store {
     ghost use Rattle.occ_dd.specs.Store.{has, IsKnown, Keeps, IsEmpty, IsLeastMember, IsConstant, Splits, IsSubsetAnswer};

@@ -1,5 +1,5 @@
 ghost use Rattle.std.specs.Prelude.{◌≡◌, ℕ, ◌<◌, ◌≤◌, ◌^◌, IfOk, All, false, length, slice_index_or};
-ghost use Rattle.occ_diagram.specs.Table.{nodes_of};
+ghost use Rattle.occ_dd.specs.Table.{nodes_of};
 
 use crate::{SetId, Store};
 use occ_base::Memory;

@@ -1,5 +1,5 @@
 use Rattle.std.proofs.Common.{◌≡◌, ◌+◌, length}
-use Rattle.occ_lex.specs.Rows.{rows}
+use Rattle.occ_nform_read.specs.occ_lex.Rows.{rows}
 use Rattle.occ_behaviour_read.proofs.lines.last_number.Given as goal
 
 abbrev pub invariant-loop-after : goal.invariant-loop-after

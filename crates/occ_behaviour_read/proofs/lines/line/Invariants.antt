@@ -1,5 +1,5 @@
 use Rattle.std.proofs.Common.{◌≡◌, ◌+◌, drop}
-use Rattle.occ_lex.specs.Rows.{rows}
+use Rattle.occ_nform_read.specs.occ_lex.Rows.{rows}
 use Rattle.occ_behaviour_read.proofs.lines.line.Given as goal
 
 abbrev pub invariant-loop-before : goal.invariant-loop-before

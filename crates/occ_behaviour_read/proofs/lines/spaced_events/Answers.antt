@@ -1,7 +1,7 @@
 use Rattle.std.proofs.Common.{◌≡◌, ◌∙◌, sym, ap, [], Option, Some, length}
 use Rattle.occ_behaviour_read.proofs.Counting.{no_text}
-use Rattle.occ_nform_table.specs.Words.{each, then_read}
-use Rattle.occ_nform_table.specs.Lines.{event_of}
+use Rattle.occ_nform_read.specs.occ_nform_table.Words.{each, then_read}
+use Rattle.occ_nform_read.specs.occ_nform_table.Lines.{event_of}
 use Rattle.occ_behaviour_read.specs.Claims.{spaced_words}
 use Rattle.occ_behaviour_read.proofs.lines.spaced_events.Goals as goal
 

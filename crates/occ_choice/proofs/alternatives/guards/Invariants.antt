@@ -1,7 +1,7 @@
 use Rattle.std.proofs.Common.{◌≡◌, Some, take}
 use Rattle.std.specs.List.{list_any}
-use Rattle.occ_base.specs.declared.event.Event.{Event}
-use Rattle.occ_accept.specs.Accept.{in_set}
+use Rattle.occ_node.specs.occ_base.declared.event.Event.{Event}
+use Rattle.occ_node.specs.occ_accept.Accept.{in_set}
 use Rattle.occ_choice.specs.Branches.{is_at}
 use Rattle.occ_choice.proofs.alternatives.guards.Given as goal
 

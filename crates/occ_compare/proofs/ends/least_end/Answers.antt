@@ -1,6 +1,6 @@
 use Rattle.std.proofs.Common.{◌≡◌, ◌<◌, ◌+◌, ◌^◌, sym, ◌∙◌, subst, arith}
 use Rattle.occ_syntax.specs.Counts.{bits_of_scope}
-use Rattle.occ_dd.specs.Store.{has}
+use Rattle.occ_bits.specs.occ_dd.Store.{has}
 use Rattle.occ_compare.specs.Steps.{IsSide}
 use Rattle.occ_compare.proofs.Searching.{end_tells, same_ends}
 use Rattle.occ_compare.proofs.ends.least_end.Goals as goal

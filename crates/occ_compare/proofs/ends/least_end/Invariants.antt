@@ -1,5 +1,5 @@
 use Rattle.std.proofs.Common.{◌≡◌, ◌≤◌, ◌<◌, ◌-◌, ℕ}
-use Rattle.occ_dd.specs.Store.{has}
+use Rattle.occ_bits.specs.occ_dd.Store.{has}
 use Rattle.occ_compare.specs.Places.{assignment_at}
 use Rattle.occ_compare.proofs.ends.least_end.Given as goal
 

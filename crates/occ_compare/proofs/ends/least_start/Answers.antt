@@ -1,5 +1,5 @@
 use Rattle.std.proofs.Common.{◌≡◌, ◌<◌, ◌+◌, ◌^◌, true, false, sym, ◌∙◌, subst, rules, arith}
-use Rattle.occ_mdd.specs.Maps.{value}
+use Rattle.occ_node.specs.occ_mdd.Maps.{value}
 use Rattle.occ_compare.specs.Places.{assignment_at}
 use Rattle.occ_compare.specs.Steps.{same_node}
 use Rattle.occ_compare.proofs.Searching.{start_tells, start_more, each_place}

@@ -1,5 +1,5 @@
 use Rattle.std.proofs.Common.{◌≡◌, ◌≤◌, ◌<◌, ◌-◌, ℕ}
-use Rattle.occ_mdd.specs.Maps.{value}
+use Rattle.occ_node.specs.occ_mdd.Maps.{value}
 use Rattle.occ_compare.specs.Places.{assignment_at}
 use Rattle.occ_compare.proofs.ends.least_start.Given as goal
 

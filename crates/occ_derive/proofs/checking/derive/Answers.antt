@@ -1,10 +1,10 @@
 use Rattle.std.proofs.Common.{◌≤◌, length, ap, arith, subst, sym}
 use Rattle.occ_derive.proofs.Targets.{derived_grows}
 use Rattle.occ_derive.specs.Derived.{IsDerivation}
-use Rattle.occ_derive_steps.specs.Steps.{Derivable}
+use Rattle.occ_derive_search.specs.occ_derive_moves.Steps.{Derivable}
 use Rattle.occ_syntax.specs.Tree.{Tree}
 use Rattle.occ_syntax.specs.View.{tree}
-use Rattle.occ_usage.proofs.Law.{faultless_keeps}
+use Rattle.occ_script_back.proofs.from_usage.Law.{faultless_keeps}
 use Rattle.occ_derive.proofs.checking.derive.Goals as goal
 
 pub derive_to-requires : goal.derive_to-requires

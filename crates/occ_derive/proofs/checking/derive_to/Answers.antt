@@ -1,7 +1,7 @@
 use Rattle.std.proofs.Common.{subst}
 use Rattle.occ_derive.proofs.Known.{can_be_written}
 use Rattle.occ_derive.specs.Derived.{AreBelow}
-use Rattle.occ_fresh.proofs.Growing.{grows_on}
+use Rattle.occ_script_back.proofs.from_lex.Growing.{grows_on}
 use Rattle.occ_syntax.specs.declared.scope.Program.{Program}
 use Rattle.occ_syntax.specs.View.{tree}
 use Rattle.occ_derive.proofs.checking.derive_to.Goals as goal

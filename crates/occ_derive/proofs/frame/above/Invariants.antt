@@ -1,4 +1,4 @@
-use Rattle.occ_fresh.specs.Growth.{GrowsByNames}
+use Rattle.occ_script_back.specs.occ_lex.Growth.{GrowsByNames}
 use Rattle.occ_derive.proofs.frame.above.Given as goal
 
 -- the table has grown by the names that were tried

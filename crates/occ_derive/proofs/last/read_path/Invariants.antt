@@ -1,5 +1,5 @@
 use Rattle.std.proofs.Common.{take}
-use Rattle.occ_script_write_back.specs.Said.{IsShortPath}
+use Rattle.occ_script_back.specs.Said.{IsShortPath}
 use Rattle.occ_derive.proofs.last.read_path.Given as goal
 
 -- the numbers so far have 32 bits

@@ -1,4 +1,4 @@
-use Rattle.occ_fresh.specs.Growth.{GrowsByNames}
+use Rattle.occ_derive_trail.specs.occ_lex.Growth.{GrowsByNames}
 use Rattle.occ_derive_expose.proofs.naming.apart.Given as goal
 
 -- the table has grown by the names that were made

@@ -1,5 +1,5 @@
 use Rattle.std.proofs.Common.{IfOk, IsTrue, None, ◌≡◌, rules, subst}
-use Rattle.occ_derive_check.specs.Derivations.{AreFollowed, IsDerived}
+use Rattle.occ_derive_search.specs.Derivations.{AreFollowed, IsDerived}
 use Rattle.occ_derive_search.proofs.Trying.{AreRead, elsewhere, not_followed}
 use Rattle.occ_engine.specs.Followed.{ended}
 use Rattle.occ_engine.specs.Moved.{moves_of}

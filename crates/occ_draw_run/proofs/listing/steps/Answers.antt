@@ -1,4 +1,4 @@
-use Rattle.occ_draw_steps.proofs.Known.{laws_read}
+use Rattle.occ_draw_run.proofs.Known.{laws_read}
 use Rattle.occ_tool_run.proofs.Scripted.{fault_or_memory_told}
 use Rattle.occ_draw_run.proofs.Drawing.{listed_script, refused_script}
 use Rattle.occ_draw_run.proofs.listing.steps.Goals as goal

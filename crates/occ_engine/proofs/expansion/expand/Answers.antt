@@ -4,7 +4,7 @@ use Rattle.occ_engine.specs.declared.fault.Stopped.TheVariants as stopped
 use Rattle.occ_engine.specs.Granted.{AreCutOff, IsCutOff}
 use Rattle.occ_engine.specs.Outcomes.{IsOutcome}
 use Rattle.occ_engine.specs.Wishes.{wishes_of}
-use Rattle.occ_engine_rules.specs.Expansion.{IsBlocked, IsNoPar}
+use Rattle.occ_replay_rules.specs.Expansion.{IsBlocked, IsNoPar}
 use Rattle.occ_syntax.specs.View.{tree}
 use Rattle.occ_engine.proofs.expansion.expand.Goals as goal
 

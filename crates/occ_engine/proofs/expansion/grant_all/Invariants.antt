@@ -1,7 +1,7 @@
 use Rattle.std.proofs.Common.{take, map}
 use Rattle.occ_engine.specs.Granted.{IsBrought}
 use Rattle.occ_engine.specs.Wishes.{wish_of}
-use Rattle.occ_usage.specs.Accepted.{KeepsRules}
+use Rattle.occ_law_any.specs.occ_usage.Accepted.{KeepsRules}
 use Rattle.occ_engine.proofs.expansion.grant_all.Given as goal
 
 abbrev pub invariant-loop-wish : goal.invariant-loop-wish

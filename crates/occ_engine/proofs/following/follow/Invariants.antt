@@ -1,7 +1,7 @@
 use Rattle.std.proofs.Common.{◌≡◌, take, map}
 use Rattle.occ_engine.specs.Moved.{order_of}
 use Rattle.occ_engine.specs.Outcomes.{IsLed}
-use Rattle.occ_usage.specs.Accepted.{KeepsRules}
+use Rattle.occ_law_any.specs.occ_usage.Accepted.{KeepsRules}
 use Rattle.occ_engine.proofs.following.follow.Given as goal
 
 abbrev pub invariant-loop-order : goal.invariant-loop-order

@@ -3,8 +3,8 @@ use Rattle.std.proofs.lemmas.Result.{IfErr-weaker, IfOk-weaker}
 use Rattle.std.specs.Option.{option_map}
 use Rattle.occ_engine.proofs.Taking.{direct_fails, direct_taken, given_fails, given_taken, unresolved_fails}
 use Rattle.occ_engine.specs.Moved.{number_of, order_of}
-use Rattle.occ_engine_rules.specs.Orders.{nowhere, unnamed}
-use Rattle.occ_parse_part.specs.Shown.{part_of}
+use Rattle.occ_replay_rules.specs.Orders.{nowhere, unnamed}
+use Rattle.occ_script.specs.occ_parse_part.Shown.{part_of}
 use Rattle.occ_syntax.specs.View.{tree}
 use Rattle.occ_engine.proofs.following.take.Goals as goal
 

@@ -1,5 +1,5 @@
 use Rattle.std.proofs.Common.{get_or}
-use Rattle.occ_node.proofs.Behaviours.{leads_refl, leads_trans, node-leads}
+use Rattle.occ_choice.proofs.from_node.Behaviours.{leads_refl, leads_trans, node-leads}
 use Rattle.occ_follow.proofs.Uniting.{union_one, union_more, union_whole}
 use Rattle.occ_follow.proofs.nexts.united.Goals as goal
 

@@ -1,5 +1,5 @@
 use Rattle.std.proofs.Common.{◌∷◌, take}
-use Rattle.occ_node.specs.World.{Leads}
+use Rattle.occ_choice.specs.occ_node.World.{Leads}
 use Rattle.occ_choice.specs.Union.{AreUnions}
 use Rattle.occ_follow.specs.Nexts.{IsUnionOf}
 use Rattle.occ_follow.proofs.nexts.united.Given as goal

@@ -1,7 +1,7 @@
 use Rattle.std.proofs.Common.{◌≡◌, ◌↔◌, length}
 use Rattle.occ_syntax.specs.Tree.{Branches}
 use Rattle.occ_syntax.specs.View.{branches}
-use Rattle.occ_law_rules.specs.Lists.{all_branches}
+use Rattle.occ_law_shape.specs.occ_law.Lists.{all_branches}
 use Rattle.occ_law_par.specs.Expand.{each_beside}
 use Rattle.occ_law_par.proofs.expand.behind_beside.Given as goal
 

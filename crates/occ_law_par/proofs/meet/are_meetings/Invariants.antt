@@ -1,6 +1,6 @@
 use Rattle.std.proofs.Common.{◌≡◌, ◌↔◌, length}
 use Rattle.occ_syntax.specs.View.{branches}
-use Rattle.occ_law_rules.specs.Parallel.{meetings}
+use Rattle.occ_law_shape.specs.occ_law.Parallel.{meetings}
 use Rattle.occ_law_par.proofs.meet.are_meetings.Given as goal
 
 -- the meetings so far stand there

@@ -1,7 +1,7 @@
 use Rattle.std.proofs.Common.{◌≡◌, ◌↔◌, length}
 use Rattle.occ_syntax.specs.Tree.{Branches}
 use Rattle.occ_syntax.specs.View.{exp, waiting, tree, branches}
-use Rattle.occ_law_rules.specs.Parallel.{meetings_of}
+use Rattle.occ_law_shape.specs.occ_law.Parallel.{meetings_of}
 use Rattle.occ_law_par.proofs.meet.behind_meetings.Given as goal
 
 -- what stands behind the meetings that are left is what stands behind all of them

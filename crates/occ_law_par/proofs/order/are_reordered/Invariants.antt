@@ -1,6 +1,6 @@
 use Rattle.std.proofs.Common.{◌↔◌, length}
 use Rattle.occ_syntax.specs.View.{trees}
-use Rattle.occ_meaning.specs.Parallel.{Reordered}
+use Rattle.occ_law_shape.specs.occ_meaning.Parallel.{Reordered}
 use Rattle.occ_law_par.specs.Order.{referred}
 use Rattle.occ_law_par.proofs.order.are_reordered.Given as goal
 

@@ -1,7 +1,7 @@
 use Rattle.std.proofs.lemmas.Result.{IfOk-weaker}
 use Rattle.occ_law_par.proofs.Reordering.{order_law}
 use Rattle.occ_law_par.proofs.Sides.{at_sides, through}
-use Rattle.occ_law_rules.specs.Parallel.{ParOrder}
+use Rattle.occ_law_shape.specs.occ_law.Parallel.{ParOrder}
 use Rattle.occ_law_par.proofs.order.par_order.Goals as goal
 
 pub returns-in-Par-law_case-law_case : goal.returns-in-Par-law_case-law_case

@@ -1,4 +1,4 @@
-use Rattle.occ_law_rules.specs.Parallel.{ParFlat}
+use Rattle.occ_law_shape.specs.occ_law.Parallel.{ParFlat}
 use Rattle.occ_law_par.proofs.Going.{flat_law}
 use Rattle.occ_law_par.proofs.Sides.{at_sides, through}
 use Rattle.occ_law_par.proofs.parts.par_flat.Goals as goal

@@ -1,4 +1,4 @@
-use Rattle.occ_law_rules.specs.Parallel.{ParNone}
+use Rattle.occ_law_shape.specs.occ_law.Parallel.{ParNone}
 use Rattle.occ_law_shape.proofs.Fronts.{test_of}
 use Rattle.occ_law_par.proofs.Sides.{at_sides}
 use Rattle.occ_law_par.proofs.Simple.{none_law}

@@ -1,6 +1,6 @@
 use Rattle.std.proofs.Common.{refl}
 use Rattle.occ_syntax.specs.View.{tree, trees}
-use Rattle.occ_law_rules.specs.Parallel.{ParOne}
+use Rattle.occ_law_shape.specs.occ_law.Parallel.{ParOne}
 use Rattle.occ_law_par.proofs.Sides.{at_sides}
 use Rattle.occ_law_par.proofs.Simple.{one_law}
 use Rattle.occ_law_par.proofs.parts.par_one.Goals as goal

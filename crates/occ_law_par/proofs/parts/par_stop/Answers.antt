@@ -1,4 +1,4 @@
-use Rattle.occ_law_rules.specs.Parallel.{ParStop}
+use Rattle.occ_law_shape.specs.occ_law.Parallel.{ParStop}
 use Rattle.occ_law_par.proofs.Sides.{at_sides}
 use Rattle.occ_law_par.proofs.Simple.{stop_law}
 use Rattle.occ_law_par.proofs.parts.par_stop.Goals as goal

@@ -1,5 +1,5 @@
 use Rattle.std.proofs.Common.{◌≡◌, drop}
-use Rattle.occ_law_rules.specs.Lists.{conditions}
+use Rattle.occ_law_shape.specs.occ_law.Lists.{conditions}
 use Rattle.occ_syntax.specs.Names.{some_names}
 use Rattle.occ_syntax.specs.View.{cases}
 use Rattle.occ_law_scope.proofs.mentions.some_condition_names.Given as goal

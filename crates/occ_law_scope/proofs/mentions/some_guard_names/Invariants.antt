@@ -1,5 +1,5 @@
 use Rattle.std.proofs.Common.{◌≡◌, drop}
-use Rattle.occ_law_rules.specs.Scope.{some_guard_names}
+use Rattle.occ_law_shape.specs.occ_law.Scope.{some_guard_names}
 use Rattle.occ_syntax.specs.View.{branches}
 use Rattle.occ_law_scope.proofs.mentions.some_guard_names.Given as goal
 

@@ -1,5 +1,5 @@
 use Rattle.std.proofs.Common.{◌≡◌, ◌↔◌, drop}
-use Rattle.occ_law_rules.specs.Lists.{names_without}
+use Rattle.occ_law_shape.specs.occ_law.Lists.{names_without}
 use Rattle.occ_syntax.specs.View.{numbers}
 use Rattle.occ_law_scope.proofs.pairs.are_names_without.Given as goal
 

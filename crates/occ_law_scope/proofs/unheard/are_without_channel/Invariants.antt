@@ -1,5 +1,5 @@
 use Rattle.std.proofs.Common.{◌≡◌, ◌↔◌, drop}
-use Rattle.occ_law_rules.specs.Scope.{without_channel}
+use Rattle.occ_law_shape.specs.occ_law.Scope.{without_channel}
 use Rattle.occ_syntax.specs.View.{branches}
 use Rattle.occ_law_scope.proofs.unheard.are_without_channel.Given as goal
 

@@ -1,5 +1,5 @@
 use Rattle.std.proofs.Common.{◌≡◌, drop}
-use Rattle.occ_law_rules.specs.Sequence.{spare_inputs}
+use Rattle.occ_law_shape.specs.occ_law.Sequence.{spare_inputs}
 use Rattle.occ_syntax.specs.View.{branches, exps, numbers}
 use Rattle.occ_law_seq.proofs.assigned.spare_all.Given as goal
 

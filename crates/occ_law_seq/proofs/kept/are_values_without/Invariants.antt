@@ -1,5 +1,5 @@
 use Rattle.std.proofs.Common.{◌≡◌, ◌↔◌, length}
-use Rattle.occ_law_rules.specs.Lists.{values_without}
+use Rattle.occ_law_shape.specs.occ_law.Lists.{values_without}
 use Rattle.occ_syntax.specs.View.{exps, numbers}
 use Rattle.occ_law_seq.proofs.kept.are_values_without.Given as goal
 

@@ -1,7 +1,7 @@
 use Rattle.std.proofs.Common.{◌≡◌, ◌↔◌, length}
 use Rattle.occ_syntax.specs.Tree.{Trees}
 use Rattle.occ_syntax.specs.View.{trees}
-use Rattle.occ_meaning.specs.Parallel.{all_of}
+use Rattle.occ_law.specs.occ_meaning.Parallel.{all_of}
 use Rattle.occ_law_shape.proofs.lists.behind.Given as goal
 
 -- what stands behind the fronts that are left is what stands behind the first list

@@ -1,5 +1,5 @@
 use Rattle.std.proofs.Common.{◌<◌, subst, sym}
-use Rattle.occ_diagram.specs.Table.{nodes_of}
+use Rattle.occ_dd.specs.Table.{nodes_of}
 use Rattle.occ_mdd.specs.Chosen.{greatest_depth}
 use Rattle.occ_mdd.proofs.Choosing.{are_chosen-keeps, chosen_learnt, chosen_same, grown_table, high_asked, high_smaller, high_under, joined, low_asked, low_smaller, low_under}
 use Rattle.occ_mdd.proofs.choose.+choose.Goals as goal
@@ -25,8 +25,7 @@ choose-requires g t c κs within =
 
 pub choose-requires-in-Split : goal.choose-requires-in-Split
 choose-requires-in-Split g t c κs within =
-    let split = c.halve.ensures.split _ _ _ c.in-Split.is in
- (
+    let split = c.halve.ensures.split _ _ _ c.in-Split.is in (
       subst (λ n. greatest_depth (nodes_of c.choose.new.table) c.choose.new.store c.in-Split.high_call < n) c.decreases (high_smaller c.args.table.now.diagram c.requires.asked split c.choose.ensures.grown),
       (within, (high_asked c.args.table.now.diagram c.requires.asked split c.choose.ensures.grown, c.choose.ensures.right)),
     )

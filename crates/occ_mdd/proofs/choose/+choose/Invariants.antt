@@ -1,4 +1,4 @@
-use Rattle.occ_diagram.specs.Table.{nodes_of}
+use Rattle.occ_dd.specs.Table.{nodes_of}
 use Rattle.occ_mdd.specs.Chosen.{greatest_depth}
 use Rattle.occ_mdd.proofs.choose.+choose.Given as goal
 

@@ -1,6 +1,6 @@
 use Rattle.std.proofs.Common.{max}
-use Rattle.occ_diagram.specs.Diagram.{depth_of}
-use Rattle.occ_diagram.specs.Table.{nodes_of}
+use Rattle.occ_dd.specs.Diagram.{depth_of}
+use Rattle.occ_dd.specs.Table.{nodes_of}
 use Rattle.occ_dd.specs.Store.{depth}
 use Rattle.occ_mdd.proofs.collect.+collect.Given as goal
 

@@ -1,6 +1,6 @@
 use Rattle.std.proofs.Common.{◌<◌, arith, sym, subst}
-use Rattle.occ_diagram.specs.Table.{nodes_of}
-use Rattle.occ_diagram.proofs.Growth.{keeps_refl, keeps_trans}
+use Rattle.occ_dd.specs.Table.{nodes_of}
+use Rattle.occ_dd.proofs.Growth.{keeps_refl, keeps_trans}
 use Rattle.occ_mdd.specs.Combined.{deepest}
 use Rattle.occ_mdd.proofs.Combining.{are_later, combined_learnt, high_smaller, high_under, joined, low_smaller, low_under, pass_later, pass_part}
 use Rattle.occ_mdd.proofs.combine.+combine.Goals as goal

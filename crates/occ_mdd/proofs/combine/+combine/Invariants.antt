@@ -1,4 +1,4 @@
-use Rattle.occ_diagram.specs.Table.{nodes_of}
+use Rattle.occ_dd.specs.Table.{nodes_of}
 use Rattle.occ_mdd.specs.Combined.{deepest}
 use Rattle.occ_mdd.proofs.combine.+combine.Given as goal
 

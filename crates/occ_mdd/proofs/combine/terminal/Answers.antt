@@ -1,8 +1,8 @@
 use Rattle.std.proofs.Common.{◌≡◌, subst, IfSome}
 use Rattle.std.proofs.lemmas.Result.{IfOk-weaker}
 use Rattle.std.specs.Prelude.{slice_get, Some}
-use Rattle.occ_diagram.specs.Table.{nodes_of}
-use Rattle.occ_diagram.specs.declared.node.Node.TheVariants.{Leaf}
+use Rattle.occ_dd.specs.Table.{nodes_of}
+use Rattle.occ_dd.specs.declared.node.Node.TheVariants.{Leaf}
 use Rattle.occ_mdd.specs.Combined.{IsCombined}
 use Rattle.occ_mdd.proofs.Values.{value-label}
 use Rattle.occ_mdd.proofs.Combining.{combined_leaf}

@@ -1,6 +1,6 @@
 use Rattle.std.proofs.Common.{◌≤◌, ◌+◌, ◌∙◌, List, ℕ, ap, length, subst, sym}
-use Rattle.occ_nform_table.specs.Judging.{height_over}
-use Rattle.occ_nform_table.specs.declared.table.TableRow.{TableRow}
+use Rattle.occ_nform_rows.specs.occ_nform_table.Judging.{height_over}
+use Rattle.occ_nform_rows.specs.occ_nform_table.declared.table.TableRow.{TableRow}
 use Rattle.occ_nform.proofs.Counting.{AreHeights, heights_end, heights_step}
 use Rattle.occ_nform.proofs.figures.greatest_height.Goals as goal
 

@@ -1,5 +1,5 @@
 use Rattle.std.proofs.Common.{◌≡◌, ◌≤◌, ◌+◌, max, drop, length}
-use Rattle.occ_nform_table.specs.Judging.{height_over}
+use Rattle.occ_nform_rows.specs.occ_nform_table.Judging.{height_over}
 use Rattle.occ_nform.proofs.figures.height_over.Given as goal
 
 abbrev pub invariant-loop-row : goal.invariant-loop-row

@@ -1,6 +1,6 @@
 use Rattle.std.proofs.Common.{◌++◌, sym, ap, ◌∙◌, subst}
-use Rattle.occ_nform_table.specs.declared.table.TableRow.{TableRow}
-use Rattle.occ_nform_table.specs.Rows.{RowIsNamed}
+use Rattle.occ_nform_rows.specs.occ_nform_table.declared.table.TableRow.{TableRow}
+use Rattle.occ_nform_rows.specs.occ_nform_table.Rows.{RowIsNamed}
 use Rattle.occ_nform.specs.Lines.{row_lines}
 use Rattle.occ_nform.proofs.Texts.{rows_end, rows_step}
 use Rattle.occ_nform.proofs.lines.push_rows.Goals as goal

@@ -1,5 +1,5 @@
 use Rattle.std.proofs.Common.{◌≡◌, ◌++◌, drop}
-use Rattle.occ_nform_table.specs.Texts.{rows_text}
+use Rattle.occ_nform_rows.specs.occ_nform_table.Texts.{rows_text}
 use Rattle.occ_nform.proofs.lines.push_rows.Given as goal
 
 abbrev pub invariant-loop-number : goal.invariant-loop-number

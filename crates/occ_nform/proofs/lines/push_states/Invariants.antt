@@ -1,5 +1,5 @@
 use Rattle.std.proofs.Common.{◌≡◌, ◌++◌, drop}
-use Rattle.occ_nform_table.specs.Texts.{states_text}
+use Rattle.occ_nform_rows.specs.occ_nform_table.Texts.{states_text}
 use Rattle.occ_nform.proofs.lines.push_states.Given as goal
 
 abbrev pub invariant-loop-place : goal.invariant-loop-place

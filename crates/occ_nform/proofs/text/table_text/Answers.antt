@@ -1,7 +1,7 @@
 use Rattle.std.proofs.Common.{◌++◌, ap, ◌∙◌}
 use Rattle.std.specs.Prelude.{codes}
 use Rattle.std.specs.List.{flat_map}
-use Rattle.occ_nform_table.specs.Texts.{rows_text, states_text}
+use Rattle.occ_nform_rows.specs.occ_nform_table.Texts.{rows_text, states_text}
 use Rattle.occ_nform.specs.Lines.{param_line}
 use Rattle.occ_nform.proofs.Texts.{table_is}
 use Rattle.occ_nform.proofs.text.table_text.Goals as goal

@@ -1,5 +1,5 @@
 use Rattle.std.proofs.Common.{[]}
-use Rattle.occ_lex.specs.Rows.{rows}
+use Rattle.occ_nform_table.specs.occ_lex.Rows.{rows}
 use Rattle.occ_nform_table.specs.Reading.{params_in}
 use Rattle.occ_nform_read.proofs.Steps.{params_goes, params_stops, params_ends}
 use Rattle.occ_nform_read.proofs.sections.params_in.Goals as goal

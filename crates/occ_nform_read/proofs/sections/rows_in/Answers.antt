@@ -1,5 +1,5 @@
 use Rattle.std.proofs.Common.{sym, ap, ◌∙◌, length, arith}
-use Rattle.occ_lex.specs.Rows.{rows}
+use Rattle.occ_nform_table.specs.occ_lex.Rows.{rows}
 use Rattle.occ_nform_table.specs.Reading.{rows_in}
 use Rattle.occ_nform_read.proofs.Steps.{rows_goes, rows_fit, rows_stops, rows_ends, rows_smaller}
 use Rattle.occ_nform_read.proofs.sections.rows_in.Goals as goal

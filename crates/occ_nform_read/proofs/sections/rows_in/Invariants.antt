@@ -1,5 +1,5 @@
 use Rattle.std.proofs.Common.{◌≡◌, ◌≤◌, ◌+◌, ◌-◌, length}
-use Rattle.occ_lex.specs.Rows.{rows}
+use Rattle.occ_nform_table.specs.occ_lex.Rows.{rows}
 use Rattle.occ_nform_table.specs.Reading.{rows_in}
 use Rattle.occ_nform_read.proofs.Taking.{with_front}
 use Rattle.occ_nform_read.proofs.sections.rows_in.Given as goal

@@ -1,5 +1,5 @@
 use Rattle.std.proofs.Common.{sym, ap, ◌∙◌, length}
-use Rattle.occ_lex.specs.Rows.{rows}
+use Rattle.occ_nform_table.specs.occ_lex.Rows.{rows}
 use Rattle.occ_nform_table.specs.Reading.{states_in}
 use Rattle.occ_nform_read.proofs.Steps.{states_goes, states_stops, states_ends}
 use Rattle.occ_nform_read.proofs.sections.states_in.Goals as goal

@@ -1,6 +1,6 @@
 use Rattle.std.proofs.Common.{length, ap, arith}
-use Rattle.occ_lex.specs.Rows.{rows}
-use Rattle.occ_nform_read.proofs.Whole.{header_count, body_few, body_marks, body_forms, tail_left, tail_below}
+use Rattle.occ_nform_table.specs.occ_lex.Rows.{rows}
+use Rattle.occ_nform_read.proofs.WholeText.{header_count, body_few, body_marks, body_forms, tail_left, tail_below}
 use Rattle.occ_nform_read.proofs.text.behind_version.Goals as goal
 
 pub rows_in-requires-clause-short : goal.rows_in-requires-clause-short

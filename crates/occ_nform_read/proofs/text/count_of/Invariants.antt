@@ -1,5 +1,5 @@
 use Rattle.std.proofs.Common.{◌≡◌, ◌+◌, length}
-use Rattle.occ_lex.specs.Rows.{rows}
+use Rattle.occ_nform_table.specs.occ_lex.Rows.{rows}
 use Rattle.occ_nform_read.proofs.text.count_of.Given as goal
 
 abbrev pub invariant-loop-after : goal.invariant-loop-after

@@ -1,9 +1,9 @@
 use Rattle.std.proofs.Common.{◌≡◌, true, false, sym, ap, ◌∙◌, arith}
 use Rattle.std.proofs.lemmas.Bool.{not-true, not-false}
 use Rattle.std.specs.Str.{bytes_eq}
-use Rattle.occ_lex.specs.Rows.{rows}
+use Rattle.occ_nform_table.specs.occ_lex.Rows.{rows}
 use Rattle.occ_nform_read.proofs.Steps.{rows_count}
-use Rattle.occ_nform_read.proofs.Whole.{no_version, other_version, behind_is}
+use Rattle.occ_nform_read.proofs.WholeText.{no_version, other_version, behind_is}
 use Rattle.occ_nform_read.proofs.text.found_in.Goals as goal
 
 pub returns-in_default : goal.returns-in_default

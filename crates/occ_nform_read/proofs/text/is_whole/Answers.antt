@@ -1,10 +1,10 @@
 use Rattle.std.proofs.Common.{◌≡◌, ◌*◌, ◌^◌, ◌%◌, ◌&&◌, length, sym, ap, ◌∙◌}
 use Rattle.std.proofs.lemmas.Bool.{eq-eqb}
-use Rattle.occ_lex.specs.Rows.{rows}
+use Rattle.occ_nform_table.specs.occ_lex.Rows.{rows}
 use Rattle.occ_syntax.specs.Counts.{bits_of_scope}
 use Rattle.occ_nform_table.specs.Judging.{is_none}
 use Rattle.occ_nform_table.proofs.Powers.{power_fits}
-use Rattle.occ_nform_read.proofs.Whole.{nothing_left}
+use Rattle.occ_nform_read.proofs.WholeText.{nothing_left}
 use Rattle.occ_nform_read.proofs.text.is_whole.Goals as goal
 
 pub returns-then-states-interface_bits : goal.returns-then-states-interface_bits

@@ -1,5 +1,5 @@
 use Rattle.std.proofs.Common.{◌≡◌, ◌≤◌, take}
-use Rattle.occ_lex.specs.Spelling.{value_of}
+use Rattle.occ_nform_table.specs.occ_lex.Spelling.{value_of}
 use Rattle.occ_nform_read.proofs.words.value_of.Given as goal
 
 abbrev pub invariant-loop-byte : goal.invariant-loop-byte

@@ -1,7 +1,7 @@
 use Rattle.std.proofs.Common.{ℕ}
 use Rattle.std.proofs.lemmas.Option.{MatchOption-at_none, MatchOption-at_some}
-use Rattle.occ_dd.specs.Store.{IsConstant, Splits}
-use Rattle.occ_dd.specs.declared.set.SetId.{SetId}
+use Rattle.occ_compare.specs.occ_dd.Store.{IsConstant, Splits}
+use Rattle.occ_compare.specs.occ_dd.declared.set.SetId.{SetId}
 use Rattle.occ_nform_rows.proofs.Halving.{halves_none, halves_other, halves_there}
 use Rattle.occ_nform_rows.proofs.members.halves.Goals as goal
 

@@ -1,6 +1,6 @@
 use Rattle.std.proofs.Common.{◌∙◌, sym, eqb-true}
 use Rattle.std.proofs.lemmas.Bool.{OnTrue_from}
-use Rattle.occ_mdd.proofs.Collecting.{empty_from}
+use Rattle.occ_compare.proofs.from_mdd.Collecting.{empty_from}
 use Rattle.occ_nform_rows.proofs.members.is_empty.Goals as goal
 
 pub returns : goal.returns

@@ -1,6 +1,6 @@
 use Rattle.std.proofs.Common.{rules}
 use Rattle.std.proofs.lemmas.List.Sorted.{answers_always}
-use Rattle.occ_base.specs.declared.event.Event.{Event}
+use Rattle.occ_accept.specs.occ_base.declared.event.Event.{Event}
 use Rattle.occ_node.specs.declared.node.NodeId.{NodeId}
 use Rattle.occ_node.proofs.Places.{find_ok, find_err}
 use Rattle.occ_node.proofs.find.find.Goals as goal

@@ -1,6 +1,6 @@
 use Rattle.occ_syntax.specs.Tree.{seq, par, select, alt, assign, skip, stop, no_case, no_tree, and_tree}
 use Rattle.occ_syntax.specs.Types.{branches_kept, is_condition, types_kept, waiting_kept}
-use Rattle.occ_meaning.proofs.Facts.{and_four}
+use Rattle.occ_compare.proofs.from_meaning.Facts.{and_four}
 use Rattle.occ_norm_alt.specs.Alternation.{IsAlternation}
 use Rattle.occ_norm_alt.proofs.Alternatives.{alternation_grow, held-extends}
 use Rattle.occ_syntax.specs.Usage.{KeepsUsage}
@@ -8,22 +8,22 @@ use Rattle.occ_syntax.specs.View.{numbers, exp, exps, tree, trees, cases, branch
 use Rattle.occ_syntax.proofs.Views.{tree-Seq, tree-Par, tree-If, tree-Alt}
 use Rattle.occ_syntax.proofs.Weights.{weight, weight-seq, weight-par, weight-select, weight-alt, weight_in_all, weight_in_cases, weight_in_branches}
 use Rattle.occ_syntax.proofs.Counting.{weight-declaring}
-use Rattle.occ_dd.specs.Store.{IsKnown, has}
-use Rattle.occ_dd.proofs.Callers.{known-keeps}
-use Rattle.occ_mdd.specs.Maps.{value}
-use Rattle.occ_bits.specs.Layout.{environment_in, state_of}
+use Rattle.occ_compare.specs.occ_dd.Store.{IsKnown, has}
+use Rattle.occ_compare.proofs.from_dd.Callers.{known-keeps}
+use Rattle.occ_compare.specs.occ_mdd.Maps.{value}
+use Rattle.occ_compare.specs.occ_bits.Layout.{environment_in, state_of}
 use Rattle.occ_syntax.specs.Eval.{is_true}
-use Rattle.occ_norm_reached.specs.States.{AreStates, EndsIn, set_at}
-use Rattle.occ_norm_reached.proofs.Freeing.{both_states, condition_states, states-keeps}
-use Rattle.occ_norm_reached.proofs.Leaving.{left-keeps}
-use Rattle.occ_norm_reached.proofs.Reaching.{between-keeps, other_default, part_between}
+use Rattle.occ_norm_par.specs.States.{AreStates, EndsIn, set_at}
+use Rattle.occ_norm_par.proofs.Freeing.{both_states, condition_states, states-keeps}
+use Rattle.occ_norm_par.proofs.Leaving.{left-keeps}
+use Rattle.occ_norm_par.proofs.Reaching.{between-keeps, other_default, part_between}
 use Rattle.occ_norm.specs.From.{IsAfterFromIn, IsFront}
-use Rattle.occ_norm_frame.specs.Placed.{Fits, IsAround}
-use Rattle.occ_norm_frame.proofs.After.{after-extends, over-extends}
-use Rattle.occ_norm_frame.proofs.Placing.{branch_at, branch_condition, branch_wait, case_at, case_condition, fit_at, fits_alt, fits_assign, fits_can, fits_next, fits_par, fits_receive, fits_select, fits_send, fits_seq}
+use Rattle.occ_norm_alt.specs.occ_norm_frame.Placed.{Fits, IsAround}
+use Rattle.occ_norm_alt.proofs.from_norm_frame.After.{after-extends, over-extends}
+use Rattle.occ_norm_alt.proofs.from_norm_frame.Placing.{branch_at, branch_condition, branch_wait, case_at, case_condition, fit_at, fits_alt, fits_assign, fits_can, fits_next, fits_par, fits_receive, fits_select, fits_send, fits_seq}
 use Rattle.std.proofs.Common.{true, false, not, ◌-◌, ◌≡◌, ◌≤◌, ◌<◌, ◌+◌, [], ◌∷◌, cond, drop, take, length, get_or, sym, ap, ◌∙◌, subst, arith}
 use Rattle.std.proofs.lemmas.Bool.{and_from}
-use Rattle.occ_norm_maps.proofs.Worlds.{extends_trans, has_nodes-extends}
+use Rattle.occ_norm_alt.proofs.from_norm_frame.Worlds.{extends_trans, has_nodes-extends}
 use Rattle.occ_norm.proofs.Declaring.{bits_grow, opens_next}
 use Rattle.occ_norm.proofs.Opening.{after_from, freed_after}
 use Rattle.occ_norm.proofs.Freeing.{freed_over}
@@ -31,10 +31,10 @@ use Rattle.std.proofs.Common.{bit_or, ◌^◌, ℕ}
 use Rattle.std.proofs.lemmas.Option.{same_Some, slice_get-get_or}
 use Rattle.std.proofs.lemmas.List.{length-append, length-take-le}
 use Rattle.occ_syntax.specs.declared.proc.Proc.{Skip}
-use Rattle.occ_bits.specs.Layout.{laid_out}
+use Rattle.occ_compare.specs.occ_bits.Layout.{laid_out}
 use Rattle.occ_syntax.specs.Counts.{bits_of_scope}
-use Rattle.occ_norm_ending.specs.Alone.{IsPart, except}
-use Rattle.occ_norm_ending.proofs.Alone.{alone_from, ending_later, ending_over, part_over}
+use Rattle.occ_norm_alt.specs.occ_norm_frame.Alone.{IsPart, except}
+use Rattle.occ_norm_alt.proofs.from_norm_frame.Alone.{alone_from, ending_later, ending_over, part_over}
 use Rattle.occ_norm_par.specs.Sides.{AreWritten, bits_in, closed_in}
 use Rattle.occ_norm_par.proofs.Writing.{write_all, writes_within, written_in}
 use Rattle.occ_norm_par.specs.Joined.{HaveNodes}
@@ -42,9 +42,9 @@ use Rattle.occ_norm.proofs.Beside.{AreMade, made_more, nodes_more, parts_after}
 use Rattle.occ_norm_par.proofs.Closing.{closed_all}
 use Rattle.occ_norm.proofs.Between.{run_ends}
 use Rattle.occ_norm.proofs.Steps.{all_in, as_is, case_in, choice_over, empty_in, form_front, form_over, front_as, front_later, if_both, if_ok, keep_below, limited_in, no_case_in, none_in, one_in, over_in, run_from_in, seq_from_in, skip_in, some_in, stop_in, stop_over}
-use Rattle.occ_norm_transfer.proofs.Choosing.{truth_here}
-use Rattle.occ_norm_transfer.proofs.Runs.{cases_left, dropped_all, fit_before, fit_from, seq_fits, some_found, trees_between}
-use Rattle.occ_norm_transfer.specs.Transfer.{IsBehind}
+use Rattle.occ_norm_assign.proofs.Choosing.{truth_here}
+use Rattle.occ_norm_assign.proofs.Runs.{cases_left, dropped_all, fit_before, fit_from, seq_fits, some_found, trees_between}
+use Rattle.occ_norm_assign.specs.Transfer.{IsBehind}
 use Rattle.occ_norm.proofs.Using.{no_parts, branch_usage_at, branches_left, case_usage_at, one_tree, trees_left, types_at, usage_at, usage_inside}
 use Rattle.occ_norm.proofs.after.+after.Goals as goal
 

@@ -5,12 +5,12 @@ use Rattle.occ_syntax.specs.Types.{branches_kept}
 use Rattle.occ_syntax.specs.Usage.{KeepsUsage}
 use Rattle.occ_syntax.specs.View.{tree, trees, cases, branches}
 use Rattle.occ_syntax.proofs.Weights.{weight, weight_of_all, weight_of_cases, weight_of_branches}
-use Rattle.occ_dd.specs.Store.{has}
-use Rattle.occ_norm_reached.specs.States.{AreBetween, AreLeft, set_at}
+use Rattle.occ_compare.specs.occ_dd.Store.{has}
+use Rattle.occ_norm_par.specs.States.{AreBetween, AreLeft, set_at}
 use Rattle.occ_norm.specs.From.{IsAfterFromIn}
-use Rattle.occ_norm_maps.specs.Maps.{Extends}
-use Rattle.occ_norm_frame.specs.After.{IsOver}
-use Rattle.occ_norm_frame.specs.Placed.{Fits, IsAround}
+use Rattle.occ_norm_alt.specs.occ_norm_frame.Maps.{Extends}
+use Rattle.occ_norm_alt.specs.occ_norm_frame.After.{IsOver}
+use Rattle.occ_norm_alt.specs.occ_norm_frame.Placed.{Fits, IsAround}
 use Rattle.occ_norm_alt.specs.Alternation.{AreHeld, IsAlternation}
 use Rattle.occ_norm_par.specs.Joined.{HaveNodes}
 use Rattle.occ_norm.proofs.Beside.{AreMade}

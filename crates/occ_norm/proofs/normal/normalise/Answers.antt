@@ -1,7 +1,7 @@
 use Rattle.std.proofs.Common.{subst, sym}
 use Rattle.occ_syntax.specs.View.{tree}
-use Rattle.occ_mdd.specs.declared.map.MapId.{MapId}
-use Rattle.occ_node.specs.declared.world.World.{World}
+use Rattle.occ_compare.specs.occ_mdd.declared.map.MapId.{MapId}
+use Rattle.occ_compare.specs.occ_node.declared.world.World.{World}
 use Rattle.occ_norm.specs.Root.{IsRoot}
 use Rattle.occ_norm.proofs.Flattened.{found_is, root_as}
 use Rattle.occ_norm.proofs.normal.normalise.Goals.{in-Some+in_ok-states-in-Some, in-None+in_ok-states-in-None}

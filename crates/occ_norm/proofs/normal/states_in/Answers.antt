@@ -1,8 +1,8 @@
 use Rattle.std.proofs.Common.{◌≡◌}
 use Rattle.std.proofs.lemmas.Result.{IfOk-weaker}
-use Rattle.occ_node.specs.declared.world.World.{World}
-use Rattle.occ_norm_maps.specs.Maps.{Extends}
-use Rattle.occ_norm_maps.proofs.Worlds.{extends_at, extends_trans}
+use Rattle.occ_compare.specs.occ_node.declared.world.World.{World}
+use Rattle.occ_norm_alt.specs.occ_norm_frame.Maps.{Extends}
+use Rattle.occ_norm_alt.proofs.from_norm_frame.Worlds.{extends_at, extends_trans}
 use Rattle.occ_norm.proofs.Rooted.{root-extends}
 use Rattle.occ_norm.proofs.normal.states_in.Goals as goal
 

@@ -2,8 +2,8 @@ use Rattle.std.proofs.Common.{◌≡◌, ◌<◌, ◌^◌, ℕ, sym, ap, ◌∙�
 use Rattle.std.specs.Int.{bit_at}
 use Rattle.occ_syntax.specs.Counts.{bits_of_scope}
 use Rattle.occ_syntax.specs.View.{tree}
-use Rattle.occ_norm_maps.proofs.Worlds.{extends_trans, has_nodes-extends}
-use Rattle.occ_norm_ending.proofs.Alone.{ending_later, ending_over}
+use Rattle.occ_norm_alt.proofs.from_norm_frame.Worlds.{extends_trans, has_nodes-extends}
+use Rattle.occ_norm_alt.proofs.from_norm_frame.Alone.{ending_later, ending_over}
 use Rattle.occ_norm.proofs.Rooting.{root_of}
 use Rattle.occ_norm.proofs.Steps.{in-extends}
 use Rattle.occ_norm.proofs.normal.states_of.Goals as goal

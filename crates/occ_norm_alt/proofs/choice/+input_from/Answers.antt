@@ -1,8 +1,8 @@
 use Rattle.std.proofs.Common.{◌≡◌, ◌+◌, ◌^◌, ap, ◌∙◌, subst, arith}
 use Rattle.std.proofs.lemmas.Result.{IfOk-weaker}
-use Rattle.occ_norm_maps.proofs.Worlds.{has_nodes-extends}
-use Rattle.occ_norm_maps.specs.Lifted.{IsMerged, OnTwo}
-use Rattle.occ_norm_maps.specs.Maps.{Lifts}
+use Rattle.occ_norm_frame.proofs.Worlds.{has_nodes-extends}
+use Rattle.occ_norm_frame.specs.Lifted.{IsMerged, OnTwo}
+use Rattle.occ_norm_frame.specs.Maps.{Lifts}
 use Rattle.occ_norm_alt.specs.Inputs.{AreInputs}
 use Rattle.occ_norm_alt.proofs.Steps.{inputs_from}
 use Rattle.occ_norm_alt.proofs.choice.+input_from.Goals as goal

@@ -1,6 +1,6 @@
 use Rattle.std.proofs.Common.{refl, ◌∙◌}
 use Rattle.std.proofs.lemmas.Result.{IfOk-weaker}
-use Rattle.occ_norm_maps.proofs.Worlds.{extends_trans}
+use Rattle.occ_norm_frame.proofs.Worlds.{extends_trans}
 use Rattle.occ_norm_alt.proofs.Done.{input_closed, input_done, is_closed, not_closed, receive_done}
 use Rattle.occ_norm_alt.proofs.choice.input.Goals as goal
 

@@ -1,9 +1,9 @@
 use Rattle.std.proofs.Common.{◌*◌, ◌%◌, ◌^◌, ap}
 use Rattle.std.specs.Int.Bits.{bit_and}
 use Rattle.std.proofs.lemmas.Result.{IfOk-weaker}
-use Rattle.occ_norm_maps.proofs.Worlds.{has_nodes-extends}
-use Rattle.occ_norm_maps.specs.Lifted.{IsPrefixed, OnOne}
-use Rattle.occ_norm_maps.specs.Maps.{Lifts}
+use Rattle.occ_norm_frame.proofs.Worlds.{has_nodes-extends}
+use Rattle.occ_norm_frame.specs.Lifted.{IsPrefixed, OnOne}
+use Rattle.occ_norm_frame.specs.Maps.{Lifts}
 use Rattle.occ_norm_alt.specs.Inputs.{AreInputs, input_event}
 use Rattle.occ_norm_alt.proofs.Receiving.{one_inputs}
 use Rattle.occ_norm_alt.proofs.choice.input_of.Goals as goal

@@ -1,6 +1,6 @@
 use Rattle.std.proofs.Common.{length, ap, arith}
 use Rattle.std.proofs.lemmas.Result.{IfOk-weaker}
-use Rattle.occ_norm_maps.proofs.Worlds.{extends_trans, has_nodes-extends}
+use Rattle.occ_norm_frame.proofs.Worlds.{extends_trans, has_nodes-extends}
 use Rattle.occ_syntax.specs.View.{exp}
 use Rattle.occ_norm_alt.proofs.Done.{is_closed, not_closed, output_closed, output_done, send_done, whole_value}
 use Rattle.occ_norm_alt.proofs.choice.output.Goals as goal

@@ -1,5 +1,5 @@
 use Rattle.std.proofs.Common.{◌-◌, sym, ◌∙◌, arith}
-use Rattle.occ_norm_maps.proofs.Worlds.{extends_trans, has_nodes-extends}
+use Rattle.occ_norm_frame.proofs.Worlds.{extends_trans, has_nodes-extends}
 use Rattle.occ_norm_assign.specs.Written.{no_write}
 use Rattle.occ_norm_assign.proofs.Substituted.{extends_five, extends_four, keep_substituted-extends, keep_substituted_learnt, substituted_more}
 use Rattle.occ_norm_assign.proofs.writes.+substituted.Goals as goal

@@ -1,7 +1,7 @@
 use Rattle.std.proofs.Common.{◌≡◌, ◌++◌, take}
 use Rattle.std.specs.List.{All}
-use Rattle.occ_dd.specs.Store.{IsKnown}
-use Rattle.occ_dd.specs.declared.store.Store.{Store}
+use Rattle.occ_norm_frame.specs.occ_dd.Store.{IsKnown}
+use Rattle.occ_norm_frame.specs.occ_dd.declared.store.Store.{Store}
 use Rattle.occ_norm_assign.specs.Writes.{AreWrites}
 use Rattle.occ_norm_assign.specs.Written.{digit_writes}
 use Rattle.occ_norm_assign.proofs.writes.add_digits.Given as goal

@@ -1,6 +1,6 @@
 use Rattle.std.proofs.Common.{get_or, refl, sym, subst, take, add-one, arith}
 use Rattle.std.proofs.lemmas.Result.{IfOk-weaker}
-use Rattle.occ_norm_maps.proofs.Worlds.{extends_refl, extends_trans, has_nodes-extends}
+use Rattle.occ_norm_frame.proofs.Worlds.{extends_refl, extends_trans, has_nodes-extends}
 use Rattle.occ_norm_frame.specs.Changes.{IsChanged}
 use Rattle.occ_norm_assign.specs.Written.{change_by, no_write}
 use Rattle.occ_norm_assign.proofs.Assigning.{applied_from, changed_more, changed_start, exchanged_all}

@@ -1,7 +1,7 @@
 use Rattle.std.proofs.Common.{take}
-use Rattle.occ_follow.specs.Sequence.{HasNodes}
+use Rattle.occ_norm_frame.specs.occ_follow.Sequence.{HasNodes}
 use Rattle.occ_norm_frame.specs.Changes.{IsChanged}
-use Rattle.occ_norm_maps.specs.Maps.{Extends}
+use Rattle.occ_norm_frame.specs.Maps.{Extends}
 use Rattle.occ_norm_assign.specs.Writes.{AreWrites}
 use Rattle.occ_norm_assign.specs.Written.{change_by}
 use Rattle.occ_norm_assign.proofs.writes.applied.Given as goal

@@ -1,7 +1,7 @@
 use Rattle.std.proofs.Common.{◌≡◌, ◌<◌, ◌≤◌, get_or, take, ⊎_elim, subst, arith}
 use Rattle.std.proofs.lemmas.Bool.{cases_lt}
 use Rattle.std.proofs.lemmas.List.Elements.{All-take}
-use Rattle.occ_norm_maps.proofs.Worlds.{extends_refl, extends_trans}
+use Rattle.occ_norm_frame.proofs.Worlds.{extends_refl, extends_trans}
 use Rattle.occ_norm_assign.specs.Writes.{IsWrite}
 use Rattle.occ_norm_assign.specs.Written.{IsFree, no_write}
 use Rattle.occ_norm_assign.proofs.Exchanging.{free-kept}

@@ -1,4 +1,4 @@
-use Rattle.occ_norm_maps.specs.Maps.{Extends}
+use Rattle.occ_norm_frame.specs.Maps.{Extends}
 use Rattle.occ_norm_assign.specs.Written.{AreFree}
 use Rattle.occ_norm_assign.proofs.writes.are_apart.Given as goal
 

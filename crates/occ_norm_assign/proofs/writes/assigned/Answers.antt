@@ -1,8 +1,8 @@
 use Rattle.std.proofs.Common.{sym, subst}
 use Rattle.std.proofs.lemmas.Result.{IfOk-weaker}
-use Rattle.occ_norm_maps.proofs.Worlds.{has_nodes-extends}
+use Rattle.occ_norm_frame.proofs.Worlds.{has_nodes-extends}
 use Rattle.occ_norm_frame.proofs.Placing.{frame_layout, pairs_length}
-use Rattle.occ_bits.specs.Layout.{environment_in}
+use Rattle.occ_norm_frame.specs.occ_bits.Layout.{environment_in}
 use Rattle.occ_syntax.specs.View.{exps, numbers}
 use Rattle.occ_norm_assign.specs.Written.{AreDistinct, IsApplied}
 use Rattle.occ_norm_assign.proofs.Apart.{assigned_distinct}

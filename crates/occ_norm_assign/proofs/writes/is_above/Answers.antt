@@ -1,4 +1,4 @@
-use Rattle.occ_norm_maps.proofs.Worlds.{extends_refl, extends_trans}
+use Rattle.occ_norm_frame.proofs.Worlds.{extends_refl, extends_trans}
 use Rattle.occ_norm_frame.proofs.Keeping.{set-extends}
 use Rattle.occ_norm_assign.proofs.writes.is_above.Goals as goal
 

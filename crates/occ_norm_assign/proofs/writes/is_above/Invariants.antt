@@ -1,4 +1,4 @@
-use Rattle.occ_norm_maps.specs.Maps.{Extends}
+use Rattle.occ_norm_frame.specs.Maps.{Extends}
 use Rattle.occ_norm_assign.proofs.writes.is_above.Given as goal
 
 abbrev pub invariant-loop-below : goal.invariant-loop-below

@@ -1,6 +1,6 @@
 use Rattle.std.proofs.Common.{sym, ◌∙◌, subst, arith}
 use Rattle.std.proofs.lemmas.List.{take_all}
-use Rattle.occ_norm_maps.proofs.Worlds.{extends_trans}
+use Rattle.occ_norm_frame.proofs.Worlds.{extends_trans}
 use Rattle.occ_norm_assign.specs.Written.{IsFree, is_changed, no_write}
 use Rattle.occ_norm_assign.proofs.Exchanging.{free_next, set_still}
 use Rattle.occ_norm_assign.proofs.writes.is_apart.Goals as goal

@@ -1,6 +1,6 @@
 use Rattle.std.proofs.Common.{take}
-use Rattle.occ_dd.specs.Store.{IsSet}
-use Rattle.occ_norm_maps.specs.Maps.{Extends}
+use Rattle.occ_norm_frame.specs.occ_dd.Store.{IsSet}
+use Rattle.occ_norm_frame.specs.Maps.{Extends}
 use Rattle.occ_norm_assign.specs.Written.{IsFree, is_changed}
 use Rattle.occ_norm_assign.proofs.writes.is_apart.Given as goal
 

@@ -1,4 +1,4 @@
-use Rattle.occ_norm_maps.proofs.Worlds.{extends_trans, has_nodes-extends}
+use Rattle.occ_norm_frame.proofs.Worlds.{extends_trans, has_nodes-extends}
 use Rattle.occ_norm_frame.proofs.Keeping.{set-extends}
 use Rattle.occ_norm_assign.proofs.Exchanging.{parted_from}
 use Rattle.occ_norm_assign.proofs.writes.parted.Goals as goal

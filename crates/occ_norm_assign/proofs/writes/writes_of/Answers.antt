@@ -1,9 +1,9 @@
 use Rattle.std.proofs.Common.{◌≤◌, ◌+◌, get_or, length, refl, sym, ap, ◌∙◌, subst, arith}
 use Rattle.std.specs.List.{All}
-use Rattle.occ_bits.specs.Words.{IsValue}
-use Rattle.occ_dd.specs.Store.{IsKnown}
+use Rattle.occ_norm_frame.specs.occ_bits.Words.{IsValue}
+use Rattle.occ_norm_frame.specs.occ_dd.Store.{IsKnown}
 use Rattle.occ_syntax.specs.View.{exp}
-use Rattle.occ_norm_maps.proofs.Worlds.{extends_refl, extends_trans}
+use Rattle.occ_norm_frame.proofs.Worlds.{extends_refl, extends_trans}
 use Rattle.occ_norm_frame.proofs.Placing.{agreed_type, agreed_width, digits_within, frame_layout}
 use Rattle.occ_norm_assign.specs.Written.{digit_writes}
 use Rattle.occ_norm_assign.proofs.Keeping.{assigned_next, assigned_whole, no_writes, pair_here, writes-extend}

@@ -1,5 +1,5 @@
 use Rattle.std.proofs.Common.{take}
-use Rattle.occ_norm_maps.specs.Maps.{Extends}
+use Rattle.occ_norm_frame.specs.Maps.{Extends}
 use Rattle.occ_syntax.specs.View.{exps, numbers}
 use Rattle.occ_norm_assign.specs.Writes.{AreWrites}
 use Rattle.occ_norm_assign.specs.Written.{AreAssigned}

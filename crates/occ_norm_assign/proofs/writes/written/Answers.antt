@@ -1,7 +1,7 @@
 use Rattle.std.proofs.Common.{sym, ◌∙◌}
-use Rattle.occ_norm_maps.proofs.Worlds.{has_nodes-extends}
+use Rattle.occ_norm_frame.proofs.Worlds.{has_nodes-extends}
 use Rattle.std.proofs.Common.{cond, ◌^◌}
-use Rattle.occ_dd.specs.Store.{has}
+use Rattle.occ_norm_frame.specs.occ_dd.Store.{has}
 use Rattle.occ_norm_frame.specs.Changes.{IsChanged}
 use Rattle.occ_norm_assign.specs.Written.{step}
 use Rattle.std.proofs.lemmas.Result.{IfOk-weaker}

@@ -1,4 +1,4 @@
-use Rattle.occ_norm_maps.proofs.Worlds.{extends_refl, extends_trans, map-keeps}
+use Rattle.occ_norm_frame.proofs.Worlds.{extends_refl, extends_trans, map-keeps}
 use Rattle.occ_norm_frame.proofs.changes.depth.Goals as goal
 
 pub depends-requires-clause-map : goal.depends-requires-clause-map

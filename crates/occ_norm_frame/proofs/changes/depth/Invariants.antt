@@ -1,4 +1,4 @@
-use Rattle.occ_norm_maps.specs.Maps.{Extends}
+use Rattle.occ_norm_frame.specs.Maps.{Extends}
 use Rattle.occ_norm_frame.proofs.changes.depth.Given as goal
 
 abbrev pub invariant-loop-place : goal.invariant-loop-place

@@ -1,4 +1,4 @@
-use Rattle.occ_norm_maps.proofs.Worlds.{extends_refl, extends_trans, has_nodes-extends}
+use Rattle.occ_norm_frame.proofs.Worlds.{extends_refl, extends_trans, has_nodes-extends}
 use Rattle.std.proofs.Common.{◌≡◌, subst, arith}
 use Rattle.occ_norm_frame.specs.Changes.{IsFreed}
 use Rattle.occ_norm_frame.proofs.Changing.{freed_next, freed_none}

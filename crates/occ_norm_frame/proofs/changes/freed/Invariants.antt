@@ -1,5 +1,5 @@
 use Rattle.occ_follow.specs.Sequence.{HasNodes}
-use Rattle.occ_norm_maps.specs.Maps.{Extends}
+use Rattle.occ_norm_frame.specs.Maps.{Extends}
 use Rattle.occ_norm_frame.specs.Changes.{IsFreed}
 use Rattle.occ_norm_frame.proofs.changes.freed.Given as goal
 

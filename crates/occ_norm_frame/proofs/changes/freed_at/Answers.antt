@@ -1,9 +1,9 @@
-use Rattle.occ_norm_maps.proofs.Worlds.{extends_trans, has_nodes-extends, may_have}
+use Rattle.occ_norm_frame.proofs.Worlds.{extends_trans, has_nodes-extends, may_have}
 use Rattle.std.proofs.Common.{◌+◌}
 use Rattle.std.proofs.lemmas.Result.{IfOk-weaker}
-use Rattle.occ_diagram.specs.Assignment.{with_bit}
-use Rattle.occ_norm_maps.specs.Lifted.{IsEither}
-use Rattle.occ_norm_maps.specs.Maps.{Lifts}
+use Rattle.occ_bits.specs.occ_dd.Assignment.{with_bit}
+use Rattle.occ_norm_frame.specs.Lifted.{IsEither}
+use Rattle.occ_norm_frame.specs.Maps.{Lifts}
 use Rattle.occ_norm_frame.specs.Changes.{IsFreed}
 use Rattle.occ_norm_frame.proofs.Changing.{freed_both, freed_still, part_later, still_later}
 use Rattle.occ_norm_frame.proofs.changes.freed_at.Goals as goal

@@ -1,4 +1,4 @@
-use Rattle.occ_norm_maps.proofs.Worlds.{extends_refl, extends_trans, has_nodes-extends}
+use Rattle.occ_norm_frame.proofs.Worlds.{extends_refl, extends_trans, has_nodes-extends}
 use Rattle.std.proofs.Common.{◌≡◌, ◌-◌, ◌^◌, ap, ◌∙◌, arith}
 use Rattle.std.specs.Int.Bits.{bit_and}
 use Rattle.std.proofs.lemmas.Result.{IfOk-weaker}

@@ -1,7 +1,7 @@
 use Rattle.std.proofs.Common.{◌-◌, ◌^◌}
 use Rattle.std.specs.Int.Bits.{bit_and}
 use Rattle.occ_follow.specs.Sequence.{HasNodes}
-use Rattle.occ_norm_maps.specs.Maps.{Extends}
+use Rattle.occ_norm_frame.specs.Maps.{Extends}
 use Rattle.occ_norm_frame.specs.Changes.{IsChanged}
 use Rattle.occ_norm_frame.proofs.changes.rebased.Given as goal
 

@@ -1,9 +1,9 @@
-use Rattle.occ_norm_maps.proofs.Worlds.{has_nodes-extends}
+use Rattle.occ_norm_frame.proofs.Worlds.{has_nodes-extends}
 use Rattle.std.proofs.Common.{◌^◌, sym, ◌∙◌}
 use Rattle.std.specs.Int.Bits.{bit_and}
 use Rattle.std.specs.Prelude.{if◌then◌else◌}
 use Rattle.std.proofs.lemmas.Result.{IfOk-weaker}
-use Rattle.occ_dd.specs.Store.{has}
+use Rattle.occ_bits.specs.occ_dd.Store.{has}
 use Rattle.occ_norm_frame.specs.Changes.{IsChanged}
 use Rattle.occ_norm_frame.proofs.Changing.{changed_by, changed_none, no_change, one_change}
 use Rattle.occ_norm_frame.proofs.changes.rebased_at.Goals as goal

@@ -1,5 +1,5 @@
 use mir.Val.{bool_byte}
-use Rattle.occ_norm_maps.proofs.Worlds.{extends_refl, extends_trans, has_nodes-extends}
+use Rattle.occ_norm_frame.proofs.Worlds.{extends_refl, extends_trans, has_nodes-extends}
 use Rattle.std.proofs.Common.{◌≡◌, ◌+◌, ◌*◌, ◌%◌, ◌^◌, cond, refl, true, false, Bool, ◌∙◌, subst, sym, arith}
 use Rattle.std.specs.Int.Bits.{bit_or}
 use Rattle.occ_norm_frame.specs.Changes.{IsSupport}

@@ -1,10 +1,10 @@
-use Rattle.occ_norm_maps.proofs.Worlds.{has_nodes-extends}
+use Rattle.occ_norm_frame.proofs.Worlds.{has_nodes-extends}
 use Rattle.std.proofs.Common.{◌*◌, ◌%◌, ◌^◌}
 use Rattle.std.specs.Prelude.{if◌then◌else◌}
 use Rattle.std.proofs.lemmas.Nat.{one_shl}
 use Rattle.std.proofs.lemmas.Result.{IfOk-weaker}
-use Rattle.occ_dd.specs.Store.{has}
-use Rattle.occ_mdd.specs.Maps.{IsMap, value}
+use Rattle.occ_bits.specs.occ_dd.Store.{has}
+use Rattle.occ_weave.specs.occ_mdd.Maps.{IsMap, value}
 use Rattle.occ_norm_frame.specs.Changes.{IsChanged}
 use Rattle.occ_norm_frame.proofs.Changing.{changed_on}
 use Rattle.occ_norm_frame.proofs.changes.turned_on.Goals as goal

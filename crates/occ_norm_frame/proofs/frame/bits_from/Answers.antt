@@ -1,5 +1,5 @@
 use Rattle.std.proofs.Common.{arith}
-use Rattle.occ_norm_frame.proofs.Bits.{row_more}
+use Rattle.occ_norm_frame.proofs.FrameBits.{row_more}
 use Rattle.occ_norm_frame.proofs.frame.bits_from.Goals as goal
 
 pub loop-digit-preserved : goal.loop-digit-preserved

@@ -1,5 +1,5 @@
 use Rattle.std.proofs.Common.{◌+◌, arith}
-use Rattle.occ_norm_frame.proofs.Bits.{all_more, pow_more, set_below}
+use Rattle.occ_norm_frame.proofs.FrameBits.{all_more, pow_more, set_below}
 use Rattle.occ_norm_frame.proofs.frame.lowest.Goals as goal
 
 pub loop-bit-preserved : goal.loop-bit-preserved

@@ -1,8 +1,8 @@
 use Rattle.std.proofs.Common.{◌≡◌, ℕ, bit_or, sym, ◌∙◌, subst}
 use Rattle.std.proofs.lemmas.Bool.{eqb-true}
-use Rattle.occ_follow.specs.Sequence.{HasNodes}
-use Rattle.occ_mdd.specs.declared.map.MapId.{MapId}
-use Rattle.occ_norm_ending.specs.Alone.{IsEnding}
+use Rattle.occ_norm_frame.specs.occ_follow.Sequence.{HasNodes}
+use Rattle.occ_norm_frame.specs.occ_mdd.declared.map.MapId.{MapId}
+use Rattle.occ_norm_frame.specs.Alone.{IsEnding}
 use Rattle.occ_norm_par.proofs.joint.is_ended.Goals as goal
 
 -- maps with the same number

@@ -1,7 +1,7 @@
 use Rattle.std.proofs.Common.{refl, sym, ◌∙◌}
-use Rattle.occ_diagram.proofs.Bits.{one_is, zero_is}
-use Rattle.occ_norm_maps.specs.Maps.{digit}
-use Rattle.occ_norm_maps.proofs.Worlds.{has_nodes-extends}
+use Rattle.occ_norm_frame.proofs.from_dd.Bits.{one_is, zero_is}
+use Rattle.occ_norm_frame.specs.Maps.{digit}
+use Rattle.occ_norm_frame.proofs.Worlds.{has_nodes-extends}
 use Rattle.occ_norm_par.proofs.Steps.{ok_both, step_free, step_same, step_written}
 use Rattle.occ_norm_par.proofs.joint.next_at.Goals as goal
 

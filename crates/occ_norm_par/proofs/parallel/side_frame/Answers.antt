@@ -1,5 +1,5 @@
 use Rattle.std.proofs.Common.{◌<◌, ◌^◌, sym, subst}
-use Rattle.occ_norm_ending.proofs.Alone.{except_lt}
+use Rattle.occ_norm_frame.proofs.Alone.{except_lt}
 use Rattle.occ_norm_par.proofs.parallel.side_frame.Goals as goal
 
 pub with-requires : goal.with-requires

@@ -1,5 +1,5 @@
 use Rattle.std.proofs.Common.{◌≡◌, ◌+◌, ◌≤◌, min, drop}
-use Rattle.occ_parse_reading.specs.Drafts.{parameters}
+use Rattle.occ_parse.specs.Drafts.{parameters}
 use Rattle.occ_parse.proofs.drafting.parameter_count.Given as goal
 
 -- what is counted with the parameters that are left is what all count, up to the limit

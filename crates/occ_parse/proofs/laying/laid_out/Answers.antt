@@ -1,11 +1,11 @@
 use Rattle.std.proofs.Common.{ap, sym, subst, ◌∙◌}
 use Rattle.std.specs.List.{AllByRecursion}
-use Rattle.occ_lex.specs.Placed.{IsLineOf}
-use Rattle.occ_lex.proofs.Placing.{reading_placed}
-use Rattle.occ_lex_symbols.specs.Symbols.{rows_of}
+use Rattle.occ_parse_layout.specs.occ_lex.Placed.{IsLineOf}
+use Rattle.occ_parse_layout.proofs.from_lex.Placing.{reading_placed}
+use Rattle.occ_parse_layout.specs.occ_lex.Symbols.{rows_of}
 use Rattle.occ_parse_layout.specs.Layout.{laid_rows}
-use Rattle.occ_parse_reading.specs.Limits.{stopped}
-use Rattle.occ_parse_reading.specs.Reading.{AreForms}
+use Rattle.occ_parse.specs.Limits.{stopped}
+use Rattle.occ_parse.specs.Reading.{AreForms}
 use Rattle.occ_parse.proofs.Forests.{refused_from, if_err}
 use Rattle.occ_parse.proofs.laying.laid_out.Goals as goal
 

@@ -1,5 +1,5 @@
 use Rattle.std.proofs.Common.{◌≡◌, ◌+◌, ◌≤◌, false, drop}
-use Rattle.occ_parse_reading.specs.Limits.{counted_from}
+use Rattle.occ_parse.specs.Limits.{counted_from}
 use Rattle.occ_parse.proofs.limits.count_of.Given as goal
 
 -- what is counted, and what the symbols that are left count, is what all count

@@ -1,6 +1,6 @@
 use Rattle.std.proofs.Common.{ap}
 use Rattle.occ_parse_forms.specs.Shape.{said}
-use Rattle.occ_parse_unroll.proofs.Results.{on_ok}
+use Rattle.occ_parse.proofs.from_parse_unroll.Results.{on_ok}
 use Rattle.occ_parse_part.proofs.Listed.{noted_two}
 use Rattle.occ_parse_part.proofs.arrays.+add_phrase.Goals as goal
 

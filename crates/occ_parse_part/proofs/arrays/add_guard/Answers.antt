@@ -1,6 +1,6 @@
 use Rattle.occ_parse_forms.specs.Shape.{said, waiting}
 use Rattle.occ_parse_rules.specs.Names.{items_in, items_of_waiting}
-use Rattle.occ_parse_unroll.proofs.Results.{on_ok}
+use Rattle.occ_parse.proofs.from_parse_unroll.Results.{on_ok}
 use Rattle.occ_parse_part.specs.Arrays.{item_array}
 use Rattle.occ_parse_part.proofs.Listed.{noted_both}
 use Rattle.occ_parse_part.proofs.arrays.add_guard.Goals as goal

@@ -1,6 +1,6 @@
 use Rattle.std.proofs.Common.{◌≡◌, drop}
 use Rattle.std.specs.List.{flat_map}
-use Rattle.occ_names.specs.Once.{same_number, with_all}
+use Rattle.occ_parse.specs.occ_names.Once.{same_number, with_all}
 use Rattle.occ_parse_part.specs.Arrays.{item_array}
 use Rattle.occ_parse_part.proofs.arrays.add_items.Given as goal
 

@@ -1,6 +1,6 @@
 use Rattle.occ_parse_forms.specs.Shape.{all_said}
 use Rattle.occ_parse_rules.specs.Names.{items_in_all}
-use Rattle.occ_parse_unroll.proofs.Results.{on_ok}
+use Rattle.occ_parse.proofs.from_parse_unroll.Results.{on_ok}
 use Rattle.occ_parse_part.specs.Arrays.{item_array}
 use Rattle.occ_parse_part.proofs.Listed.{noted_both}
 use Rattle.occ_parse_part.proofs.arrays.add_sides.Goals as goal

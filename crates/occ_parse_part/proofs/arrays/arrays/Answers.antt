@@ -1,8 +1,8 @@
 use Rattle.std.proofs.Common.{[], ap, sym, ◌∙◌}
 use Rattle.std.specs.List.{flat_map}
-use Rattle.occ_names.specs.Once.{same_number, with_all}
+use Rattle.occ_parse.specs.occ_names.Once.{same_number, with_all}
 use Rattle.occ_parse_forms.specs.Shape.{shape}
-use Rattle.occ_parse_layout.specs.declared.placed.Placed.{Placed}
+use Rattle.occ_parse.specs.occ_parse_layout.declared.placed.Placed.{Placed}
 use Rattle.occ_parse_part.specs.Arrays.{line_arrays}
 use Rattle.occ_parse_part.proofs.Listed.{lines_flat, noted_done, noted_more}
 use Rattle.occ_parse_part.proofs.arrays.arrays.Goals as goal

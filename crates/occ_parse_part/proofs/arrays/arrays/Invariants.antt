@@ -1,9 +1,9 @@
 use Rattle.std.proofs.Common.{◌≡◌, drop}
 use Rattle.std.specs.List.{flat_map}
-use Rattle.occ_names.specs.Once.{same_number, with_all}
+use Rattle.occ_parse.specs.occ_names.Once.{same_number, with_all}
 use Rattle.occ_parse_forms.specs.Shape.{shape}
-use Rattle.occ_parse_layout.specs.declared.placed.Placed.{Placed}
-use Rattle.occ_parse_layout.specs.Layout.{laid_rows}
+use Rattle.occ_parse.specs.occ_parse_layout.declared.placed.Placed.{Placed}
+use Rattle.occ_parse.specs.occ_parse_layout.Layout.{laid_rows}
 use Rattle.occ_parse_part.specs.Arrays.{arrays_of, line_arrays}
 use Rattle.occ_parse_part.proofs.arrays.arrays.Given as goal
 

@@ -1,6 +1,6 @@
 use Rattle.std.proofs.Common.{inl, ap, ◌∙◌}
-use Rattle.occ_parse_layout.specs.declared.placed.Frame.TheVariants as frame
-use Rattle.occ_parse_layout.specs.Layout.{laid_rows, least_bad}
+use Rattle.occ_parse.specs.occ_parse_layout.declared.placed.Frame.TheVariants as frame
+use Rattle.occ_parse.specs.occ_parse_layout.Layout.{laid_rows, least_bad}
 use Rattle.occ_parse_part.proofs.Laid.{good_nests, bad_line, line_behind}
 use Rattle.occ_parse_part.proofs.forming.laid_out.Goals as goal
 

@@ -1,5 +1,5 @@
 use Rattle.std.proofs.Common.{◌≡◌, ◌++◌, drop}
-use Rattle.occ_lex.specs.Printed.{pieces_text}
+use Rattle.occ_parse_forms.specs.occ_lex.Printed.{pieces_text}
 use Rattle.occ_print.specs.Spelled.{pieces, pieces_behind}
 use Rattle.occ_print.proofs.line.push_symbols.Given as goal
 

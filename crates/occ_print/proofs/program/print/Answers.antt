@@ -1,9 +1,9 @@
 use Rattle.std.proofs.Common.{◌<◌, ◌++◌, List, ap, length, subst, sym, ◌∙◌}
 use Rattle.std.specs.List.{AllByRecursion}
-use Rattle.occ_base.specs.declared.names.Name.{Name}
+use Rattle.occ_parse_forms.specs.occ_base.declared.names.Name.{Name}
 use Rattle.occ_syntax.specs.declared.scope.Kind.{Kind}
-use Rattle.occ_lex_symbols.specs.declared.symbol.Symbol.{Symbol}
-use Rattle.occ_lex_symbols.specs.Symbols.{IsKnown}
+use Rattle.occ_parse_forms.specs.occ_lex.declared.symbol.Symbol.{Symbol}
+use Rattle.occ_parse_forms.specs.occ_lex.Symbols.{IsKnown}
 use Rattle.occ_print.specs.Symbols.{header_symbols}
 use Rattle.occ_print.proofs.Naming.{header_known, part_known}
 use Rattle.occ_print.proofs.program.print.Goals as goal

@@ -1,6 +1,6 @@
 use Rattle.std.proofs.Common.{length}
-use Rattle.occ_parse_rules.specs.Names.{name_fault}
-use Rattle.occ_parse_rules.specs.Types.{direction_fault, type_fault}
+use Rattle.occ_parse.specs.occ_parse_rules.Names.{name_fault}
+use Rattle.occ_parse.specs.occ_parse_rules.Types.{direction_fault, type_fault}
 use Rattle.occ_print_back.proofs.Ordering.{name_ok, type_ok, direction_ok, program_order}
 use Rattle.occ_print_back.proofs.laws.printed_lines_are_in_order.Goals as goal
 

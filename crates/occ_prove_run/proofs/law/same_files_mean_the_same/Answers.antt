@@ -1,4 +1,4 @@
-use Rattle.occ_parse_reading.specs.declared.bound.Bound.TheVariants as bound
+use Rattle.occ_prove_steps.specs.occ_parse.declared.bound.Bound.TheVariants as bound
 use Rattle.occ_prove_run.proofs.SamePrograms.{mean_the_same}
 use Rattle.occ_prove_run.proofs.law.same_files_mean_the_same.Goals as goal
 

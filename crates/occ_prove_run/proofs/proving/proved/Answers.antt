@@ -2,7 +2,7 @@ use Rattle.std.proofs.Common.{Err, ap, arith, refl, sym}
 use Rattle.occ_prove_run.proofs.Growing.{grown, program_grown, steps_grown}
 use Rattle.occ_prove_run.proofs.Scripts.{leads_to_normal, script_proved}
 use Rattle.occ_prove_run.specs.Proofs.{long}
-use Rattle.occ_usage.proofs.Law.{faultless_keeps}
+use Rattle.occ_tool_run.proofs.from_usage.Law.{faultless_keeps}
 use Rattle.occ_prove_run.proofs.proving.proved.Goals as goal
 
 pub normal-requires : goal.normal-requires

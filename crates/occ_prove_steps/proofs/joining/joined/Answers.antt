@@ -1,7 +1,7 @@
 use Rattle.std.proofs.Common.{◌≡◌, ◌++◌, List, reverse, subst}
 use Rattle.std.proofs.lemmas.Result.{IfOk-weaker}
-use Rattle.occ_engine.specs.Moved.{moves_of}
-use Rattle.occ_script_write.specs.declared.writing.Done.{Done}
+use Rattle.occ_derive_search.specs.occ_engine.Moved.{moves_of}
+use Rattle.occ_script_back.specs.occ_script_write.declared.writing.Done.{Done}
 use Rattle.occ_syntax.specs.declared.scope.Program.{Program}
 use Rattle.occ_syntax.specs.Scopes.{environment}
 use Rattle.occ_syntax.specs.Usage.{Keeps}

@@ -1,7 +1,7 @@
 use Rattle.std.proofs.Common.{◌≡◌, ◌∙◌, ◌+◌, ◌∷◌, [], ap, drop, refl, subst, sym}
 use Rattle.std.proofs.lemmas.List.{drop_all, drop_more, map-append}
-use Rattle.occ_engine.specs.Moved.{move_of, moves_of}
-use Rattle.occ_script_write.specs.declared.writing.Done.{Done}
+use Rattle.occ_derive_search.specs.occ_engine.Moved.{move_of, moves_of}
+use Rattle.occ_script_back.specs.occ_script_write.declared.writing.Done.{Done}
 use Rattle.occ_syntax.specs.View.{tree}
 use Rattle.occ_prove_steps.proofs.Steps.{IsReturning, arrives, goes_back}
 use Rattle.occ_prove_steps.proofs.returning.undone.Goals as goal
@@ -19,7 +19,7 @@ loop-step-preserved c =
     let put_in = c.in_ok-next.ensures.put in
     let b : Done = record { law = step.law; dir = c.opposite.result; path = c.in_ok-copy-2.field-0; part = c.in_ok-next.part } in
     goes_back from.params (tree from.body) end here (tree c.in_ok-next.next.body) (moves_of steps) (moves_of (drop (i + 1) steps)) back (moves_of c.push.new.self.items) (move_of step) (move_of b)
-    (put_in.body ∙ ap (Rattle.occ_meaning.specs.Context.put step.path here) c.in_ok-copy.ensures)
+    (put_in.body ∙ ap (Rattle.occ_script_back.specs.occ_meaning.Context.put step.path here) c.in_ok-copy.ensures)
     (ap moves_of c.in_ok-push.ensures.items ∙ map-append move_of c.loop-step.back.items (b ∷ []))
     (record { law = refl; dir = c.opposite.ensures; path = c.in_ok-copy-2.ensures; part = c.in_ok-next.ensures.taken })
     (subst (λ left. IsReturning from.params (tree from.body) end (moves_of steps) left here back) (ap moves_of split) c.loop-step.invariant)

@@ -1,5 +1,5 @@
 use Rattle.std.proofs.Common.{drop}
-use Rattle.occ_engine.specs.Moved.{moves_of}
+use Rattle.occ_derive_search.specs.occ_engine.Moved.{moves_of}
 use Rattle.occ_syntax.specs.View.{tree}
 use Rattle.occ_prove_steps.proofs.Steps.{IsReturning}
 use Rattle.occ_prove_steps.proofs.returning.undone.Given as goal

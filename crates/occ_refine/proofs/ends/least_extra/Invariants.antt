@@ -1,5 +1,5 @@
 use Rattle.std.proofs.Common.{◌≡◌, ◌≤◌, ◌<◌, ◌-◌, ℕ, false}
-use Rattle.occ_compare.specs.Places.{assignment_at}
+use Rattle.occ_norm.specs.occ_compare.Places.{assignment_at}
 use Rattle.occ_refine.specs.Rows.{is_extra}
 use Rattle.occ_refine.proofs.ends.least_extra.Given as goal
 

@@ -1,6 +1,6 @@
 use Rattle.std.proofs.Common.{◌≡◌, ◌+◌, false, true, MatchOption, take, sym, ◌∙◌, subst}
-use Rattle.occ_compare.specs.Orders.{IsListOf}
-use Rattle.occ_compare.proofs.Searching.{listed_again}
+use Rattle.occ_norm.specs.occ_compare.Orders.{IsListOf}
+use Rattle.occ_norm.proofs.from_compare.Searching.{listed_again}
 use Rattle.occ_refine.specs.Rows.{is_met, AllMet, IsLeastUnmet}
 use Rattle.occ_refine.proofs.Least.{best_kept, best_more}
 use Rattle.occ_refine.proofs.sets.least_unmet.Goals as goal

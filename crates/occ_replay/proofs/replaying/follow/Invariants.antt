@@ -1,6 +1,6 @@
 use Rattle.std.proofs.Common.{◌≡◌, take, map}
 use Rattle.occ_replay.specs.Scripts.{IsDerived, step_of}
-use Rattle.occ_usage.specs.Accepted.{KeepsRules}
+use Rattle.occ_law_any.specs.occ_usage.Accepted.{KeepsRules}
 use Rattle.occ_replay.proofs.replaying.follow.Given as goal
 
 abbrev pub invariant-loop-step : goal.invariant-loop-step

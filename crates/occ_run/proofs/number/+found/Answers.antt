@@ -1,6 +1,6 @@
 use Rattle.std.proofs.Common.{◌<◌, ◌∷◌, ◌++◌, length, map, refl, sym, ap, ◌∙◌, arith}
 use Rattle.std.proofs.lemmas.Bool.{and_parts}
-use Rattle.occ_base.specs.Event.{counterpart}
+use Rattle.occ_behaviour.specs.occ_base.Event.{counterpart}
 use Rattle.occ_syntax.specs.Scopes.{environment, values}
 use Rattle.occ_syntax.specs.View.{trees}
 use Rattle.occ_run_steps.specs.Kept.{all_types_held, types_held}
@@ -15,7 +15,7 @@ use Rattle.occ_run.proofs.Founds.{after_found, at_same, both_behind, both_here, 
 use Rattle.occ_run.proofs.Fronts.{front_is, none_is}
 use Rattle.occ_run.proofs.Joining.{event_here, first_more, not_past, pair_stands, part_is, part_there, same_more, same_step, second_more}
 use Rattle.occ_run.proofs.Pairing.{all_past, pair_is}
-use Rattle.occ_run_meetings.specs.Runs.{runs_of_each, spelled}
+use Rattle.occ_run.specs.MeetingRuns.{runs_of_each, spelled}
 use Rattle.occ_run.proofs.Unseen.{among_length, pairs_asked, pairs_missed}
 use Rattle.occ_run.proofs.Rows.{control-Both}
 use Rattle.occ_run.proofs.Sizes.{sizes}

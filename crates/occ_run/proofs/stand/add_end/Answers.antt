@@ -1,7 +1,7 @@
 use Rattle.std.proofs.Common.{Bool, sym, ◌∙◌}
 use Rattle.std.specs.List.{list_any}
-use Rattle.occ_base.specs.declared.event.Event.{Event}
-use Rattle.occ_run_meetings.specs.Runs.{has}
+use Rattle.occ_behaviour.specs.occ_base.declared.event.Event.{Event}
+use Rattle.occ_run.specs.MeetingRuns.{has}
 use Rattle.occ_run.proofs.Refusing.{kept_further, left_further}
 use Rattle.occ_run.proofs.stand.add_end.Goals as goal
 use Rattle.occ_run.proofs.stand.add_end.Goals.{then-not-has_event+in_ok-push, else-not-has_event}

@@ -1,6 +1,6 @@
 use Rattle.std.proofs.Common.{◌≡◌, length}
 use Rattle.std.specs.List.{list_any}
-use Rattle.occ_run_meetings.specs.Runs.{has}
+use Rattle.occ_run.specs.MeetingRuns.{has}
 use Rattle.occ_run.proofs.stand.has_event.Given as goal
 
 abbrev pub invariant-loop-rest : goal.invariant-loop-rest

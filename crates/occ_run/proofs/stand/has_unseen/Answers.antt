@@ -1,6 +1,6 @@
 use Rattle.std.proofs.Common.{◌<◌, ◌-◌, is_some, not, length, get_or, take, drop, sym, ap, ◌∙◌, arith}
-use Rattle.occ_run_meetings.proofs.Fronts.{front_read}
-use Rattle.occ_run_meetings.specs.declared.run.Run.TheVariants.{Unseen}
+use Rattle.occ_run.proofs.MeetingFronts.{front_read}
+use Rattle.occ_run.specs.declared.run.Run.TheVariants.{Unseen}
 use Rattle.occ_run.proofs.Listed.{seen_first}
 use Rattle.occ_run.proofs.stand.has_unseen.Goals as goal
 

@@ -1,7 +1,7 @@
 use Rattle.std.proofs.Common.{◌≡◌, length}
 use Rattle.std.specs.List.{list_any}
 use Rattle.occ_run_steps.specs.Step.{not_seen}
-use Rattle.occ_run_meetings.specs.Runs.{spelled}
+use Rattle.occ_run.specs.MeetingRuns.{spelled}
 use Rattle.occ_run.proofs.stand.has_unseen.Given as goal
 
 abbrev pub invariant-loop-rest : goal.invariant-loop-rest

@@ -1,7 +1,7 @@
 use Rattle.std.proofs.Common.{ap, ◌∙◌, rules}
 use Rattle.std.proofs.lemmas.Fn.{filter_same}
 use Rattle.std.specs.List.{filter}
-use Rattle.occ_base.specs.declared.event.Event.{Event}
+use Rattle.occ_node.specs.occ_base.declared.event.Event.{Event}
 use Rattle.occ_node.specs.declared.node.NodeId.{NodeId}
 use Rattle.occ_scope.specs.Change.{stays}
 use Rattle.occ_scope.proofs.change.open_offers.Goals as goal

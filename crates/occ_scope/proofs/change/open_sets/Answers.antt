@@ -1,8 +1,8 @@
 use Rattle.std.proofs.Common.{◌≡◌, ◌&&◌, Bool}
 use Rattle.std.specs.Prelude.{not}
 use Rattle.std.proofs.lemmas.Result.{IfOk-weaker}
-use Rattle.occ_accept.specs.Accept.{is_on, refuses}
-use Rattle.occ_base.specs.declared.event.Event.{Event}
+use Rattle.occ_node.specs.occ_accept.Accept.{is_on, refuses}
+use Rattle.occ_node.specs.occ_base.declared.event.Event.{Event}
 use Rattle.occ_scope.specs.Change.{stays}
 use Rattle.occ_scope.proofs.Altering.{sets_restricted}
 use Rattle.occ_scope.proofs.change.open_sets.Goals as goal

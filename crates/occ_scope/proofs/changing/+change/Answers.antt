@@ -1,6 +1,6 @@
 use Rattle.std.proofs.Common.{◌≡◌, ◌<◌, ◌≤◌, ◌+◌, ◌*◌, List, [], take, get_or, sym, ◌∙◌, subst, arith}
 use Rattle.std.specs.List.{filter}
-use Rattle.occ_base.specs.declared.event.Event.{Event}
+use Rattle.occ_node.specs.occ_base.declared.event.Event.{Event}
 use Rattle.occ_node.specs.World.{nodes_of, row_of}
 use Rattle.occ_node.specs.declared.node.NodeId.{NodeId}
 use Rattle.occ_node.proofs.Behaviours.{leads_refl, leads_trans}

@@ -1,6 +1,6 @@
 use Rattle.std.proofs.Common.{inl, refl}
 use Rattle.std.proofs.lemmas.Result.{err_from_is_err_and}
-use Rattle.occ_lex_symbols.proofs.Interned.{extends_trans}
+use Rattle.occ_script_lines.proofs.from_lex.Interned.{extends_trans}
 use Rattle.occ_script.proofs.Ordered.{bad_step, bad_target, end_is, line_is, none_left, one_more}
 use Rattle.occ_script.proofs.forming.end.Goals as goal
 use Rattle.occ_script_lines.specs.Left.{left}

@@ -1,6 +1,6 @@
 use Rattle.std.proofs.Common.{Option, inl, subst, sym, ◌∙◌}
 use Rattle.std.specs.Prelude.{MatchOption}
-use Rattle.occ_parse_reading.specs.declared.fault.ParseFault.{ParseFault}
+use Rattle.occ_parse_part.specs.occ_parse.declared.fault.ParseFault.{ParseFault}
 use Rattle.occ_script.specs.declared.fault.ScriptFault.{ScriptFault}
 use Rattle.occ_script.specs.Lines.{IsIll, IsWell}
 use Rattle.occ_script.specs.Refusals.{IsBadProgram, bad_lines, no_lines}

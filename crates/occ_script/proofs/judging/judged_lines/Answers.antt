@@ -1,9 +1,9 @@
 use Rattle.std.proofs.Common.{ℕ, List, Option, ap, refl, subst, sym, ◌∙◌}
 use Rattle.std.specs.List.{AllByRecursion}
-use Rattle.occ_lex.specs.declared.fault.LineFault.{LineFault}
-use Rattle.occ_lex.specs.declared.token.Line.{Line}
-use Rattle.occ_lex.specs.Placed.{IsLineOf}
-use Rattle.occ_lex_symbols.specs.Symbols.{rows_of, with_names_of_all}
+use Rattle.occ_script_lines.specs.occ_lex.declared.fault.LineFault.{LineFault}
+use Rattle.occ_script_lines.specs.occ_lex.declared.token.Line.{Line}
+use Rattle.occ_script_lines.specs.occ_lex.Placed.{IsLineOf}
+use Rattle.occ_script_lines.specs.occ_lex.Symbols.{rows_of, with_names_of_all}
 use Rattle.occ_script.proofs.Judged.{are_lines}
 use Rattle.occ_script.proofs.judging.judged_lines.Goals as goal
 use Rattle.occ_script_lines.proofs.Divided.{section_lines}

@@ -1,5 +1,5 @@
 use Rattle.std.proofs.Common.{◌+◌, drop, sym, ◌∙◌}
-use Rattle.occ_parse_layout.specs.Layout.{laid_rows}
+use Rattle.occ_parse_part.specs.occ_parse_layout.Layout.{laid_rows}
 use Rattle.occ_script.specs.Lines.{lacks_part}
 use Rattle.occ_script.proofs.Judged.{lacks_at, large_level, small_level}
 use Rattle.occ_script.proofs.judging.lacks_part.Goals as goal

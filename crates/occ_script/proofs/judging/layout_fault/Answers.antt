@@ -1,5 +1,5 @@
 use Rattle.std.proofs.Common.{sym, ◌∙◌}
-use Rattle.occ_parse_layout.specs.Layout.{laid_rows, least_bad}
+use Rattle.occ_parse_part.specs.occ_parse_layout.Layout.{laid_rows, least_bad}
 use Rattle.occ_script.specs.Contents.{frame_of}
 use Rattle.occ_script.specs.Lines.{badly}
 use Rattle.occ_script.proofs.Judged.{layout_end}

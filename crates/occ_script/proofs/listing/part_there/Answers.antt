@@ -1,11 +1,11 @@
 use Rattle.std.proofs.Common.{List, Option, inl, subst, sym}
 use Rattle.std.specs.List.{AllByRecursion}
 use Rattle.std.specs.Prelude.{MatchOption}
-use Rattle.occ_lex.specs.declared.token.Line.{Line}
-use Rattle.occ_lex.specs.Placed.{IsLineOf}
-use Rattle.occ_parse_layout.specs.declared.placed.Frame.TheVariants as frame
-use Rattle.occ_parse_layout.specs.Layout.{laid_rows}
-use Rattle.occ_parse_reading.specs.declared.fault.ParseFault.{ParseFault}
+use Rattle.occ_script_lines.specs.occ_lex.declared.token.Line.{Line}
+use Rattle.occ_script_lines.specs.occ_lex.Placed.{IsLineOf}
+use Rattle.occ_parse_part.specs.occ_parse_layout.declared.placed.Frame.TheVariants as frame
+use Rattle.occ_parse_part.specs.occ_parse_layout.Layout.{laid_rows}
+use Rattle.occ_parse_part.specs.occ_parse.declared.fault.ParseFault.{ParseFault}
 use Rattle.occ_script.specs.declared.content.Content.TheVariants as content
 use Rattle.occ_script.specs.Lines.{IsIllLaid, IsWellLaid}
 use Rattle.occ_script.proofs.Judged.{no_part_here, placed_here}

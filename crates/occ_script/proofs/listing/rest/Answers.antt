@@ -1,5 +1,5 @@
 use Rattle.std.proofs.lemmas.Result.{err_from_is_err_and}
-use Rattle.occ_lex_symbols.proofs.Interned.{extends_trans}
+use Rattle.occ_script_lines.proofs.from_lex.Interned.{extends_trans}
 use Rattle.occ_script.proofs.Listed.{all_orders, bad_order, next_order}
 use Rattle.occ_script.proofs.listing.rest.Goals as goal
 use Rattle.occ_script_lines.specs.Left.{left}

@@ -1,5 +1,5 @@
 use Rattle.std.proofs.Common.{length}
-use Rattle.occ_lex_symbols.specs.Symbols.{Extends}
+use Rattle.occ_script_lines.specs.occ_lex.Symbols.{Extends}
 use Rattle.occ_script.proofs.Listed.{AreSoFar}
 use Rattle.occ_script.proofs.listing.rest.Given as goal
 use Rattle.occ_script_lines.specs.Left.{left}

@@ -1,4 +1,4 @@
-use Rattle.occ_lex_symbols.proofs.Interned.{extends_same}
+use Rattle.occ_script_lines.proofs.from_lex.Interned.{extends_same}
 use Rattle.occ_script.proofs.part.raw.Goals as goal
 
 pub returns-in-Ok-clause-elements : goal.returns-in-Ok-clause-elements

@@ -1,4 +1,4 @@
-use Rattle.occ_behaviour.specs.declared.behaviour.Side.TheVariants.{Second}
+use Rattle.occ_run_schedule.specs.occ_behaviour.declared.behaviour.Side.TheVariants.{Second}
 use Rattle.occ_tool_run.specs.Judged.{IsRefusalAnswer}
 use Rattle.occ_tool_run.proofs.Judging.{refuse, take}
 use Rattle.occ_tool_run.proofs.Pairs.{not_memory}

@@ -1,4 +1,4 @@
-use Rattle.occ_parse_reading.specs.declared.bound.Bound.TheVariants as bound
+use Rattle.occ_tool_words.specs.occ_parse.declared.bound.Bound.TheVariants as bound
 use Rattle.occ_tool_run.proofs.OneAnswer.{one_answer}
 use Rattle.occ_tool_run.proofs.law.one_answer.Goals as goal
 

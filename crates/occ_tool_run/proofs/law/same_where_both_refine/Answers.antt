@@ -1,4 +1,4 @@
-use Rattle.occ_parse_reading.specs.declared.bound.Bound.TheVariants as bound
+use Rattle.occ_tool_words.specs.occ_parse.declared.bound.Bound.TheVariants as bound
 use Rattle.occ_tool_run.proofs.EitherOrder.{in_either_order}
 use Rattle.occ_tool_run.proofs.law.same_where_both_refine.Goals as goal
 

@@ -1,6 +1,6 @@
 use Rattle.std.proofs.Common.{[], sym, ◌∙◌}
-use Rattle.occ_gen.specs.Programs.{program_text}
-use Rattle.occ_parse_reading.specs.declared.bound.Bound.TheVariants as bound
+use Rattle.occ_tool_words.specs.occ_gen.Programs.{program_text}
+use Rattle.occ_tool_words.specs.occ_parse.declared.bound.Bound.TheVariants as bound
 use Rattle.occ_tool_run.proofs.Measured.{OneReading, refusal_absurd, stressed_from, text_other, unshared, usage_other}
 use Rattle.occ_tool_run.proofs.measure.stress.Goals as goal
 

@@ -1,4 +1,4 @@
-use Rattle.occ_behaviour.specs.declared.behaviour.Side.TheVariants.{First}
+use Rattle.occ_tool_run.specs.occ_behaviour.declared.behaviour.Side.TheVariants.{First}
 use Rattle.occ_witness_run.proofs.Telling.{refusal_sayable}
 use Rattle.occ_witness_run.proofs.searching.refuse.Goals as goal
 

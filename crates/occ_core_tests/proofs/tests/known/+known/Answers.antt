@@ -3,7 +3,7 @@ use Rattle.occ_syntax.specs.Tree.{seq, par, select, alt}
 use Rattle.occ_syntax.specs.View.{tree, trees, cases, branches}
 use Rattle.occ_syntax.proofs.Views.{tree-Seq, tree-Par, tree-If, tree-Alt}
 use Rattle.occ_syntax.proofs.Weights.{weight, weight-seq, weight-par, weight-select, weight-alt, weight_in_all, weight_in_cases, weight_in_branches}
-use Rattle.occ_print.specs.Known.{PartIsKnown}
+use Rattle.occ_gen.specs.occ_print.Known.{PartIsKnown}
 use Rattle.occ_core_tests.proofs.tests.known.+known.Goals as goal
 
 pub parts_below-part_below-requires : goal.parts_below-part_below-requires

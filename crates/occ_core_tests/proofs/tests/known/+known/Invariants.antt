@@ -1,7 +1,7 @@
 use Rattle.std.proofs.Common.{drop}
 use Rattle.occ_syntax.specs.View.{tree, trees, cases, branches}
 use Rattle.occ_syntax.proofs.Weights.{weight, weight_of_all, weight_of_cases, weight_of_branches}
-use Rattle.occ_print.specs.Known.{PartsAreKnown, CasesAreKnown, BranchesAreKnown}
+use Rattle.occ_gen.specs.occ_print.Known.{PartsAreKnown, CasesAreKnown, BranchesAreKnown}
 use Rattle.occ_core_tests.proofs.tests.known.+known.Given as goal
 
 abbrev pub decreases-part_below : goal.decreases-part_below

@@ -1,6 +1,6 @@
 use Rattle.std.proofs.Common.{◌<◌, drop}
 use Rattle.std.specs.List.{AllByRecursion}
-use Rattle.occ_base.specs.declared.names.Name.{Name}
+use Rattle.occ_desk.specs.occ_base.declared.names.Name.{Name}
 use Rattle.occ_syntax.specs.declared.scope.Kind.{Kind}
 use Rattle.occ_core_tests.proofs.tests.known.params_below.Given as goal
 

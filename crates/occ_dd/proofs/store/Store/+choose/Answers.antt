@@ -1,6 +1,6 @@
 use Rattle.std.proofs.Common.{◌<◌, sym, subst}
-use Rattle.occ_diagram.specs.Table.{nodes_of}
-use Rattle.occ_diagram.proofs.Growth.{known-keeps}
+use Rattle.occ_dd.specs.Table.{nodes_of}
+use Rattle.occ_dd.proofs.Growth.{known-keeps}
 use Rattle.occ_dd.specs.Choices.{greatest_depth}
 use Rattle.occ_dd.proofs.Choosing.{choice_learnt}
 use Rattle.occ_dd.proofs.Sets.{deep, grows_refl, grows_trans}

@@ -1,4 +1,4 @@
-use Rattle.occ_diagram.specs.Table.{nodes_of}
+use Rattle.occ_dd.specs.Table.{nodes_of}
 use Rattle.occ_dd.specs.Choices.{greatest_depth}
 use Rattle.occ_dd.proofs.store.Store.+choose.Given as goal
 

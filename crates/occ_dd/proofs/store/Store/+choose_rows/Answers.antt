@@ -1,9 +1,9 @@
 use Rattle.std.proofs.Common.{◌≡◌, ◌/◌, ◌^◌, ◌∙◌, length, arith, subst}
 use Rattle.std.proofs.lemmas.Result.{IfOk-weaker}
-use Rattle.occ_diagram.specs.Table.{nodes_of}
+use Rattle.occ_dd.specs.Table.{nodes_of}
 use Rattle.occ_dd.specs.Choices.{IsChoice}
 use Rattle.occ_dd.specs.Grows.{IsRows}
-use Rattle.occ_diagram.proofs.Growth.{known-keeps}
+use Rattle.occ_dd.proofs.Growth.{known-keeps}
 use Rattle.occ_dd.proofs.Sets.{known_size, grows_trans}
 use Rattle.occ_dd.proofs.Rows.{half_is, doubled, row_full, row_empty, front_known, last_known, known_grown, rows_joined}
 use Rattle.occ_dd.proofs.store.Store.+choose_rows.Goals as goal

@@ -1,7 +1,7 @@
 use Rattle.std.proofs.Common.{◌<◌, subst, arith}
-use Rattle.occ_diagram.specs.Diagram.{depth_of}
-use Rattle.occ_diagram.specs.Table.{nodes_of}
-use Rattle.occ_diagram.proofs.DiagramLemmas.{low-smaller, high-smaller}
+use Rattle.occ_dd.specs.Diagram.{depth_of}
+use Rattle.occ_dd.specs.Table.{nodes_of}
+use Rattle.occ_dd.proofs.DiagramLemmas.{low-smaller, high-smaller}
 use Rattle.occ_dd.proofs.Least.{least_leaf, least_low, least_high, sum_fits, high_filled}
 use Rattle.occ_dd.proofs.store.Store.+least.Goals as goal
 

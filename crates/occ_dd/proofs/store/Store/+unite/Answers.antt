@@ -1,9 +1,9 @@
 use Rattle.std.proofs.Common.{◌≡◌, ◌<◌, sym, subst, arith}
 use Rattle.std.proofs.lemmas.Result.{IfOk-weaker}
-use Rattle.occ_diagram.specs.Diagram.{depth_of}
-use Rattle.occ_diagram.specs.Table.{nodes_of}
-use Rattle.occ_diagram.proofs.DiagramLemmas.{depth-branch, depth-leaf, low-smaller, high-smaller}
-use Rattle.occ_diagram.proofs.Growth.{known-keeps, depth-keeps}
+use Rattle.occ_dd.specs.Diagram.{depth_of}
+use Rattle.occ_dd.specs.Table.{nodes_of}
+use Rattle.occ_dd.proofs.DiagramLemmas.{depth-branch, depth-leaf, low-smaller, high-smaller}
+use Rattle.occ_dd.proofs.Growth.{known-keeps, depth-keeps}
 use Rattle.occ_dd.specs.Choices.{IsChoice, IsUnion}
 use Rattle.occ_dd.proofs.Choosing.{union_learnt, union_free}
 use Rattle.occ_dd.proofs.Sets.{grows_refl, grows_trans}

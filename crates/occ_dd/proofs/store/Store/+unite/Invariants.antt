@@ -1,5 +1,5 @@
-use Rattle.occ_diagram.specs.Diagram.{depth_of}
-use Rattle.occ_diagram.specs.Table.{nodes_of}
+use Rattle.occ_dd.specs.Diagram.{depth_of}
+use Rattle.occ_dd.specs.Table.{nodes_of}
 use Rattle.occ_dd.proofs.store.Store.+unite.Given as goal
 
 abbrev pub decreases-unite : goal.decreases-unite

@@ -1,6 +1,6 @@
 use Rattle.std.proofs.Common.{◌∙◌, refl, ap, unwrap_or, true, false}
-use Rattle.occ_diagram.specs.Table.{nodes_of}
-use Rattle.occ_diagram.proofs.Growth.{known-keeps, label-keeps}
+use Rattle.occ_dd.specs.Table.{nodes_of}
+use Rattle.occ_dd.proofs.Growth.{known-keeps, label-keeps}
 use Rattle.occ_dd.proofs.Choosing.{are_choices-keeps, are_unions-keeps}
 use Rattle.occ_dd.proofs.Sets.{known_size, keeps_grown, turned_set}
 use Rattle.occ_dd.proofs.store.Store.flip.Goals as goal

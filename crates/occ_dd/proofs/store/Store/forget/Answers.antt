@@ -1,6 +1,6 @@
 use Rattle.std.proofs.Common.{refl}
-use Rattle.occ_diagram.specs.Table.{nodes_of}
-use Rattle.occ_diagram.proofs.Growth.{keeps_refl}
+use Rattle.occ_dd.specs.Table.{nodes_of}
+use Rattle.occ_dd.proofs.Growth.{keeps_refl}
 use Rattle.occ_dd.proofs.Made.{no_choices, no_unions}
 use Rattle.occ_dd.proofs.Sets.{keeps_grown}
 use Rattle.occ_dd.proofs.store.Store.forget.Goals as goal

@@ -1,4 +1,4 @@
-use Rattle.occ_diagram.specs.Table.{nodes_of}
+use Rattle.occ_dd.specs.Table.{nodes_of}
 use Rattle.occ_dd.specs.Store.{sets_of}
 use Rattle.occ_dd.proofs.Made.{empty_made, full_made, empty_label, full_label, two, no_choices, no_unions}
 use Rattle.occ_dd.proofs.store.Store.new.Goals as goal

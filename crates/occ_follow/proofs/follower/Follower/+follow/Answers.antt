@@ -1,8 +1,8 @@
 use Rattle.std.proofs.Common.{◌≡◌, ◌<◌, ◌≤◌, ◌+◌, ◌*◌, List, [], take, get_or, sym, ap, ◌∙◌, subst, arith}
-use Rattle.occ_base.specs.declared.event.Event.{Event}
-use Rattle.occ_node.specs.World.{nodes_of, row_of}
-use Rattle.occ_node.specs.declared.node.NodeId.{NodeId}
-use Rattle.occ_node.proofs.Behaviours.{leads_refl, leads_trans}
+use Rattle.occ_choice.specs.occ_base.declared.event.Event.{Event}
+use Rattle.occ_choice.specs.occ_node.World.{nodes_of, row_of}
+use Rattle.occ_choice.specs.occ_node.declared.node.NodeId.{NodeId}
+use Rattle.occ_choice.proofs.from_node.Behaviours.{leads_refl, leads_trans}
 use Rattle.occ_scope.specs.Paired.{Paired}
 use Rattle.occ_scope.proofs.Pairing.{no_offer, paired_step, paired_whole}
 use Rattle.occ_follow.specs.Sequences.{IsSequence}

@@ -1,5 +1,5 @@
 use Rattle.std.proofs.Common.{◌+◌, ◌*◌, take}
-use Rattle.occ_node.specs.World.{Leads}
+use Rattle.occ_choice.specs.occ_node.World.{Leads}
 use Rattle.occ_scope.specs.Paired.{Paired}
 use Rattle.occ_follow.specs.Sequences.{IsRight, IsSequence}
 use Rattle.occ_follow.proofs.follower.Follower.+follow.Given as goal

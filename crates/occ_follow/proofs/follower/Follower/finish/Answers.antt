@@ -1,7 +1,7 @@
 use Rattle.std.proofs.Common.{◌∷◌, ◌-◌, take, drop, length, get_or, ap, ◌∙◌}
 use Rattle.std.proofs.lemmas.Result.{IfOk-weaker}
-use Rattle.occ_node.proofs.Behaviours.{leads_refl}
-use Rattle.occ_node.specs.World.{IsMade}
+use Rattle.occ_choice.proofs.from_node.Behaviours.{leads_refl}
+use Rattle.occ_choice.specs.occ_node.World.{IsMade}
 use Rattle.occ_choice.specs.Union.{IsAdded}
 use Rattle.occ_follow.specs.Sequences.{IsSequence}
 use Rattle.occ_follow.proofs.Uniting.{none_left, nexts_split, first_known, others_known}

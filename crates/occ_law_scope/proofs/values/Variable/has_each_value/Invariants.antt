@@ -1,5 +1,5 @@
 use Rattle.std.proofs.Common.{◌≡◌, ◌↔◌, ◌-◌}
-use Rattle.occ_law_rules.specs.Scope.{each_value}
+use Rattle.occ_law_shape.specs.occ_law.Scope.{each_value}
 use Rattle.occ_law_scope.specs.Values.{values_from}
 use Rattle.occ_syntax.specs.View.{branches, tree}
 use Rattle.occ_law_scope.proofs.values.Variable.has_each_value.Given as goal

@@ -1,5 +1,5 @@
 use Rattle.std.proofs.Common.{◌≡◌, ◌↔◌, length, map}
-use Rattle.occ_meaning.specs.Substitution.{substituted}
+use Rattle.occ_law_shape.specs.occ_meaning.Substitution.{substituted}
 use Rattle.occ_syntax.specs.View.{exps, numbers}
 use Rattle.occ_law_seq.proofs.pairs.Pairs.give_all.Given as goal
 

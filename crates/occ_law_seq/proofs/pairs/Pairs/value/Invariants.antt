@@ -1,5 +1,5 @@
 use Rattle.std.proofs.Common.{◌≡◌, length}
-use Rattle.occ_meaning.specs.Substitution.{value_for}
+use Rattle.occ_law_shape.specs.occ_meaning.Substitution.{value_for}
 use Rattle.occ_syntax.specs.View.{exps, numbers}
 use Rattle.occ_law_seq.proofs.pairs.Pairs.value.Given as goal
 

@@ -1,4 +1,4 @@
-use Rattle.occ_diagram.specs.Table.{nodes_of}
+use Rattle.occ_dd.specs.Table.{nodes_of}
 use Rattle.occ_mdd.proofs.Values.{keeps_maps, known_size, pass_at, related_map}
 use Rattle.occ_mdd.proofs.Combining.{no_combined}
 use Rattle.occ_mdd.proofs.maps.Maps.apply2.Goals as goal

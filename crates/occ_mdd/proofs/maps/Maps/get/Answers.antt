@@ -1,5 +1,5 @@
 use Rattle.std.proofs.Common.{sym, ◌∙◌}
-use Rattle.occ_diagram.specs.Table.{nodes_of}
+use Rattle.occ_dd.specs.Table.{nodes_of}
 use Rattle.occ_mdd.proofs.Values.{known_size, value_is, value-label}
 use Rattle.occ_mdd.proofs.maps.Maps.get.Goals as goal
 

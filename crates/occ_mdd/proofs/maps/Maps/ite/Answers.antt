@@ -1,4 +1,4 @@
-use Rattle.occ_diagram.specs.Table.{nodes_of}
+use Rattle.occ_dd.specs.Table.{nodes_of}
 use Rattle.occ_mdd.proofs.Values.{keeps_maps, known_size, chosen_map}
 use Rattle.occ_mdd.proofs.Choosing.{no_chosen}
 use Rattle.occ_mdd.proofs.maps.Maps.ite.Goals as goal

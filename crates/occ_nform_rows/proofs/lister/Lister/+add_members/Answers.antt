@@ -1,7 +1,7 @@
 use Rattle.std.proofs.Common.{◌≡◌, ◌+◌, ◌-◌, ◌++◌, ℕ, suc, List, ◌∙◌, refl, arith}
 use Rattle.std.proofs.lemmas.Bool.{OnTrue_at}
 use Rattle.std.proofs.lemmas.Result.{on_ok_weaker}
-use Rattle.occ_dd.specs.Store.{has}
+use Rattle.occ_compare.specs.occ_dd.Store.{has}
 use Rattle.occ_nform_rows.specs.Ends.{places_of}
 use Rattle.occ_nform_rows.proofs.Halving.{none_added, one_looked_up, places_joined}
 use Rattle.occ_nform_rows.proofs.lister.Lister.+add_members.Goals as goal

@@ -1,6 +1,6 @@
 use Rattle.std.proofs.Common.{◌≡◌, ◌++◌, map, ap, ◌∙◌}
 use Rattle.std.proofs.lemmas.Result.{IfOk-weaker}
-use Rattle.occ_dd.specs.Store.{has}
+use Rattle.occ_compare.specs.occ_dd.Store.{has}
 use Rattle.occ_nform_rows.specs.Ends.{byte_state_at, places_of}
 use Rattle.occ_nform_rows.specs.Lists.{AreEnds}
 use Rattle.occ_nform_rows.proofs.Rows.{ends_listed}

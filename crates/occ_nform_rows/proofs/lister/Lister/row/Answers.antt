@@ -1,5 +1,5 @@
 use Rattle.std.proofs.Common.{◌≤◌, [], ap, ◌∙◌, subst, sym}
-use Rattle.occ_dd.specs.Store.{depth}
+use Rattle.occ_compare.specs.occ_dd.Store.{depth}
 use Rattle.occ_syntax.specs.Counts.{bits_of_scope}
 use Rattle.occ_nform_rows.specs.Lists.{AreEnds, AreOffers, AreSets}
 use Rattle.occ_nform_rows.proofs.Rows.{deep, listed}

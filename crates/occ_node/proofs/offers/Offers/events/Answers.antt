@@ -1,6 +1,6 @@
 use Rattle.std.proofs.Common.{◌≡◌, map, ap, ◌∙◌, arith}
 use Rattle.std.proofs.lemmas.Grind.{common_steps}
-use Rattle.occ_base.specs.declared.event.Event.{Event}
+use Rattle.occ_accept.specs.occ_base.declared.event.Event.{Event}
 use Rattle.occ_accept.specs.Accept.{in_set}
 use Rattle.occ_node.specs.declared.node.NodeId.{NodeId}
 use Rattle.occ_node.proofs.Places.{events_offered}

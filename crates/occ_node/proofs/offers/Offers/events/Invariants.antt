@@ -1,5 +1,5 @@
 use Rattle.std.proofs.Common.{◌≡◌, map, take}
-use Rattle.occ_base.specs.declared.event.Event.{Event}
+use Rattle.occ_accept.specs.occ_base.declared.event.Event.{Event}
 use Rattle.occ_node.specs.declared.node.NodeId.{NodeId}
 use Rattle.occ_node.proofs.offers.Offers.events.Given as goal
 

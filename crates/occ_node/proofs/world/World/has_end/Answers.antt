@@ -1,5 +1,5 @@
 use Rattle.std.proofs.Common.{ap, sym, ◌∙◌}
-use Rattle.occ_dd.specs.Store.{has}
+use Rattle.occ_mdd.specs.occ_dd.Store.{has}
 use Rattle.occ_node.proofs.Behaviours.{ends_nil}
 use Rattle.occ_node.proofs.world.World.has_end.Goals as goal
 

@@ -1,6 +1,6 @@
 use Rattle.std.proofs.Common.{refl}
 use Rattle.std.proofs.lemmas.Option.{slice_get_within}
-use Rattle.occ_dd.proofs.Callers.{keeps_refl}
+use Rattle.occ_mdd.proofs.from_dd.Callers.{keeps_refl}
 use Rattle.occ_node.proofs.Table.{holds_interned, rows_interned}
 use Rattle.occ_node.proofs.Worlds.{leads_from, fit_row, made_from}
 use Rattle.occ_node.proofs.world.World.make.Goals as goal

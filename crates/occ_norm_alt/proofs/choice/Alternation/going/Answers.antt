@@ -1,5 +1,5 @@
 use Rattle.std.proofs.Common.{refl}
-use Rattle.occ_norm_maps.proofs.Worlds.{extends_trans, has_nodes-extends, may_have}
+use Rattle.occ_norm_frame.proofs.Worlds.{extends_trans, has_nodes-extends, may_have}
 use Rattle.occ_norm_frame.proofs.Keeping.{none_may}
 use Rattle.occ_norm_alt.proofs.Steps.{united_from}
 use Rattle.occ_norm_alt.proofs.choice.Alternation.going.Goals as goal

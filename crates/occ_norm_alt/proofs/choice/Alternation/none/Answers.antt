@@ -1,4 +1,4 @@
-use Rattle.occ_norm_maps.proofs.Worlds.{has_nodes-extends}
+use Rattle.occ_norm_frame.proofs.Worlds.{has_nodes-extends}
 use Rattle.occ_norm_frame.proofs.Keeping.{none_may}
 use Rattle.occ_norm_alt.proofs.Joining.{alternation_none}
 use Rattle.occ_norm_alt.proofs.Steps.{stop_nothing_later}

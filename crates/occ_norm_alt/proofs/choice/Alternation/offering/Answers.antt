@@ -1,5 +1,5 @@
 use Rattle.std.proofs.Common.{refl}
-use Rattle.occ_norm_maps.proofs.Worlds.{extends_trans, has_nodes-extends, may_have-extends}
+use Rattle.occ_norm_frame.proofs.Worlds.{extends_trans, has_nodes-extends, may_have-extends}
 use Rattle.occ_norm_alt.proofs.Steps.{offered_from}
 use Rattle.occ_norm_alt.proofs.choice.Alternation.offering.Goals as goal
 

@@ -1,8 +1,8 @@
 use Rattle.std.proofs.Common.{◌≡◌, ◌+◌, ◌^◌, get_or, take, sym, ap, ◌∙◌, subst, arith}
 use Rattle.std.proofs.lemmas.Result.{IfOk-weaker}
-use Rattle.occ_bits.specs.Words.{number_at}
-use Rattle.occ_dd.specs.Store.{IsKnown, has}
-use Rattle.occ_norm_maps.proofs.Worlds.{extends_trans, has_nodes-extends}
+use Rattle.occ_norm_frame.specs.occ_bits.Words.{number_at}
+use Rattle.occ_norm_frame.specs.occ_dd.Store.{IsKnown, has}
+use Rattle.occ_norm_frame.proofs.Worlds.{extends_trans, has_nodes-extends}
 use Rattle.occ_norm_frame.proofs.Keeping.{set-extends, sets-extend}
 use Rattle.occ_norm_alt.specs.Inputs.{AreOutputs}
 use Rattle.occ_norm_alt.proofs.Steps.{empty_set, no_outputs, none_taken, outputs_more, outputs_same, outside_later, within_later}

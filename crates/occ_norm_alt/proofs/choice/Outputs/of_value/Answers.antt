@@ -1,7 +1,7 @@
 use Rattle.std.proofs.Common.{refl}
 use Rattle.std.proofs.lemmas.Result.{IfOk-weaker}
-use Rattle.occ_dd.specs.Store.{has}
-use Rattle.occ_norm_maps.proofs.Worlds.{has_nodes-extends}
+use Rattle.occ_norm_frame.specs.occ_dd.Store.{has}
+use Rattle.occ_norm_frame.proofs.Worlds.{has_nodes-extends}
 use Rattle.occ_norm_alt.proofs.Steps.{last_outputs, outputs_chosen}
 use Rattle.occ_norm_alt.proofs.choice.Outputs.of_value.Goals as goal
 

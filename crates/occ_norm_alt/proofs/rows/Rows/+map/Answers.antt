@@ -1,6 +1,6 @@
 use Rattle.std.proofs.Common.{◌-◌, arith}
 use Rattle.std.proofs.lemmas.Result.{IfOk-weaker}
-use Rattle.occ_norm_maps.proofs.Worlds.{has_nodes-extends}
+use Rattle.occ_norm_frame.proofs.Worlds.{has_nodes-extends}
 use Rattle.occ_norm_alt.proofs.ByStates.{rows_both, rows_inside, rows_one}
 use Rattle.occ_norm_alt.proofs.rows.Rows.+map.Goals as goal
 

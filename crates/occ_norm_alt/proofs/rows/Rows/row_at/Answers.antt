@@ -1,10 +1,10 @@
 use Rattle.std.proofs.Common.{ap, get_or, sym, subst}
 use Rattle.std.proofs.lemmas.Result.{IfOk-weaker}
-use Rattle.occ_choice.proofs.Choosing.{inputs_known}
-use Rattle.occ_choice.specs.Branches.{inputs_from}
-use Rattle.occ_node.specs.declared.world.World.{World}
-use Rattle.occ_follow.specs.Sequence.{HasNodes}
-use Rattle.occ_norm_maps.proofs.Worlds.{alt_with, extends_at, extends_leads, leads_with, node_rows, right_lead}
+use Rattle.occ_norm_frame.proofs.from_choice.Choosing.{inputs_known}
+use Rattle.occ_norm_frame.specs.occ_choice.Branches.{inputs_from}
+use Rattle.occ_norm_frame.specs.occ_node.declared.world.World.{World}
+use Rattle.occ_norm_frame.specs.occ_follow.Sequence.{HasNodes}
+use Rattle.occ_norm_frame.proofs.Worlds.{alt_with, extends_at, extends_leads, leads_with, node_rows, right_lead}
 use Rattle.occ_norm_alt.specs.Inputs.{AreNexts}
 use Rattle.occ_norm_alt.proofs.AtOnce.{nexts_known, row_inputs}
 use Rattle.occ_norm_alt.proofs.rows.Rows.row_at.Goals as goal

@@ -2,7 +2,7 @@ use Rattle.std.proofs.Common.{◌-◌, get_or, ap, arith}
 use Rattle.std.specs.Int.Bits.{bit_and, bit_xor}
 use Rattle.std.proofs.lemmas.Nat.{one_shl}
 use Rattle.std.proofs.lemmas.Result.{IfOk-weaker}
-use Rattle.occ_norm_maps.proofs.Worlds.{extends_trans, has_nodes-extends}
+use Rattle.occ_norm_frame.proofs.Worlds.{extends_trans, has_nodes-extends}
 use Rattle.occ_norm_frame.proofs.Keeping.{set-extends}
 use Rattle.occ_norm_frame.proofs.Turning.{changed_all}
 use Rattle.occ_norm_assign.specs.Written.{no_write}

@@ -1,9 +1,9 @@
-use Rattle.occ_base.specs.declared.names.Name.{Name}
+use Rattle.occ_bits.specs.occ_base.declared.names.Name.{Name}
 use Rattle.occ_syntax.specs.declared.scope.Kind.{Kind}
 use Rattle.occ_syntax.specs.declared.scope.Kind.TheVariants.{Var}
 use Rattle.occ_syntax.specs.Counts.{bits_of_scope}
 use Rattle.occ_syntax.specs.Types.{scope_kept}
-use Rattle.occ_norm_frame.proofs.Bits.{pow_more}
+use Rattle.occ_norm_frame.proofs.FrameBits.{pow_more}
 use Rattle.occ_norm_frame.proofs.Placing.{few_more, frame-now, frame-push}
 use Rattle.std.proofs.Common.{true, ◌≡◌, ◌≤◌, ◌++◌, [], ◌∷◌, List, sym, ap, ◌∙◌, subst, arith}
 use Rattle.occ_norm_frame.proofs.frame.Frame.add_variable.Goals as goal

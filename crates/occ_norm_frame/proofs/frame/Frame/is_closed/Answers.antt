@@ -1,7 +1,7 @@
 use Rattle.std.proofs.Common.{◌==◌, not, ap, ◌∙◌}
 use Rattle.std.specs.List.{list_all}
-use Rattle.occ_base.specs.declared.names.Name.{Name}
-use Rattle.occ_norm_frame.proofs.Bits.{among_all}
+use Rattle.occ_bits.specs.occ_base.declared.names.Name.{Name}
+use Rattle.occ_norm_frame.proofs.FrameBits.{among_all}
 use Rattle.occ_norm_frame.proofs.frame.Frame.is_closed.Goals as goal
 
 pub returns : goal.returns

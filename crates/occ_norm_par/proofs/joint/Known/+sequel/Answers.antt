@@ -1,7 +1,7 @@
 use Rattle.std.proofs.Common.{◌≡◌, ◌+◌, ◌-◌, ℕ, sym, ◌∙◌, subst, arith}
 use Rattle.std.proofs.lemmas.Result.{IfOk-weaker}
-use Rattle.occ_norm_maps.specs.Maps.{digit}
-use Rattle.occ_norm_maps.proofs.Worlds.{extends_trans, has_nodes-extends}
+use Rattle.occ_norm_frame.specs.Maps.{digit}
+use Rattle.occ_norm_frame.proofs.Worlds.{extends_trans, has_nodes-extends}
 use Rattle.occ_norm_frame.specs.After.{IsOver}
 use Rattle.occ_norm_frame.proofs.After.{over-extends}
 use Rattle.occ_norm_par.specs.Joints.{IsJoint}

@@ -1,9 +1,9 @@
 use Rattle.std.proofs.Common.{◌≡◌, ◌+◌, ◌-◌, ◌/◌, ◌<◌, ◌≤◌, List, length, take, drop, sym, ap, ◌∙◌, subst, arith}
 use Rattle.std.proofs.lemmas.List.{length-drop}
 use Rattle.std.proofs.lemmas.Result.{IfOk-weaker}
-use Rattle.occ_mdd.specs.declared.map.MapId.{MapId}
+use Rattle.occ_norm_frame.specs.occ_mdd.declared.map.MapId.{MapId}
 use Rattle.occ_norm_par.specs.Joined.{HaveNodes, IsJoined}
-use Rattle.occ_norm_maps.proofs.Worlds.{has_nodes-extends}
+use Rattle.occ_norm_frame.proofs.Worlds.{has_nodes-extends}
 use Rattle.occ_norm_par.proofs.Together.{halves_joined, joined_one, nodes_dropped, nodes_later, rest_taken}
 use Rattle.occ_norm_par.proofs.parallel.Sides.+halves.Goals as goal
 

@@ -1,5 +1,5 @@
 use Rattle.std.proofs.Common.{◌-◌, ◌<◌, length, arith, drop}
-use Rattle.occ_norm_maps.proofs.Worlds.{extends_trans, has_nodes-extends}
+use Rattle.occ_norm_frame.proofs.Worlds.{extends_trans, has_nodes-extends}
 use Rattle.occ_norm_par.proofs.Together.{all_joined, nodes_dropped, nodes_later, nodes_taken, row_joined}
 use Rattle.occ_norm_par.proofs.parallel.Sides.joined.Goals as goal
 

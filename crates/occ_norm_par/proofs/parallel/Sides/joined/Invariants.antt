@@ -1,6 +1,6 @@
 use Rattle.std.proofs.Common.{◌<◌, length, drop}
-use Rattle.occ_follow.specs.Sequence.{HasNodes}
-use Rattle.occ_norm_maps.specs.Maps.{Extends}
+use Rattle.occ_norm_frame.specs.occ_follow.Sequence.{HasNodes}
+use Rattle.occ_norm_frame.specs.Maps.{Extends}
 use Rattle.occ_norm_par.specs.Joined.{IsJoined}
 use Rattle.occ_norm_par.proofs.parallel.Sides.joined.Given as goal
 

@@ -1,11 +1,11 @@
 use Rattle.std.proofs.Common.{◌≡◌, ◌≤◌, ℕ, List, arith}
 use Rattle.std.proofs.lemmas.Result.{IfOk-weaker}
-use Rattle.occ_base.specs.declared.names.Name.{Name}
-use Rattle.occ_base.specs.declared.width.Width.{Width}
+use Rattle.occ_norm_frame.specs.occ_base.declared.names.Name.{Name}
+use Rattle.occ_norm_frame.specs.occ_base.declared.width.Width.{Width}
 use Rattle.occ_syntax.specs.Counts.{bits_of_scope}
 use Rattle.occ_syntax.specs.declared.scope.Kind.{Kind}
 use Rattle.occ_norm_frame.specs.Placed.{IsFrame}
-use Rattle.occ_norm_maps.proofs.Worlds.{extends_trans, has_nodes-extends}
+use Rattle.occ_norm_frame.proofs.Worlds.{extends_trans, has_nodes-extends}
 use Rattle.occ_norm_frame.proofs.After.{over-extends}
 use Rattle.occ_norm_frame.proofs.Placing.{few_more}
 use Rattle.occ_norm_par.proofs.Steps.{joints_none}

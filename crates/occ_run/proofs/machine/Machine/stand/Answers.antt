@@ -3,7 +3,7 @@ use Rattle.std.specs.List.{list_any}
 use Rattle.occ_run.specs.Configurations.{move_of}
 use Rattle.occ_run.specs.Machines.{configuration}
 use Rattle.occ_run.specs.Runs.{unheard}
-use Rattle.occ_run_meetings.specs.Runs.{spelled}
+use Rattle.occ_run.specs.MeetingRuns.{spelled}
 use Rattle.occ_run.specs.Stands.{interface}
 use Rattle.occ_run_steps.specs.Step.{not_seen}
 use Rattle.occ_run.proofs.Listed.{is_moving, is_stable, is_stuck}

@@ -1,0 +1,8 @@
+use Rattle.std.proofs.Common.{sym, subst}
+use Rattle.std.specs.List.{AllByRecursion}
+use Rattle.occ_parse_part.specs.occ_lex.Placed.{IsLineOf}
+use Rattle.occ_parse_part.proofs.from_lex.Placed.{lines_placed}
+use Rattle.occ_bench.proofs.measure.read.Goals as goal
+
+pub form-requires : goal.form-requires
+form-requires c = subst (AllByRecursion (IsLineOf c.args.text.now)) (sym c.deref.ensures.value) (lines_placed _ _ c.in-Ok.ensures)

@@ -1,0 +1,5 @@
+use Rattle.occ_bits.specs.occ_dd.Store.{IsKnown}
+use Rattle.occ_bench.proofs.tasks.memo_hits.Given as goal
+
+abbrev pub invariant-loop-k : goal.invariant-loop-k
+invariant-loop-k l = IsKnown l.store l.low × IsKnown l.store l.high

@@ -1,9 +1,0 @@
-use Rattle.occ_node.specs.World.{IsNode, Leads}
-use Rattle.occ_bench_chains.proofs.chain.buffer.Given as goal
-
--- the buffer for the messages so far is a node
-abbrev pub invariant-loop-message : goal.invariant-loop-message
-invariant-loop-message l = record {
-  leads : Leads l.fn.world l.world;
-  node : IsNode l.world l.node;
-}

@@ -1,6 +1,0 @@
-use Rattle.occ_node.specs.World.{IsNode}
-use Rattle.occ_bench_chains.proofs.chain.measure_apart.Given as goal
-
--- the chain so far is a node
-abbrev pub invariant-loop-place : goal.invariant-loop-place
-invariant-loop-place l = IsNode l.world l.chain

@@ -1,5 +1,0 @@
-use Rattle.occ_dd.specs.Store.{IsKnown}
-use Rattle.occ_bench_diagrams.proofs.tasks.memo_hits.Given as goal
-
-abbrev pub invariant-loop-k : goal.invariant-loop-k
-invariant-loop-k l = IsKnown l.store l.low × IsKnown l.store l.high

@@ -1,0 +1,17 @@
+pub mod Beginning
+pub mod Cleared
+pub mod Headers
+pub mod Kept
+pub mod Leaving
+pub mod Nowhere
+pub mod Parting
+pub mod Renewed
+pub mod Shaping
+pub mod States
+pub mod Tabled
+pub mod Unfilled
+pub mod Whole
+pub mod Apart
+pub mod Few
+pub mod ExistsHeaders
+pub mod ExistsWhole

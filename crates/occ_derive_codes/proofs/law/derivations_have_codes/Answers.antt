@@ -1,5 +1,0 @@
-use Rattle.occ_derive_codes.proofs.Deriving.{derivation_coded}
-use Rattle.occ_derive_codes.proofs.law.derivations_have_codes.Goals as goal
-
-pub returns : goal.returns
-returns c = λ S p q moves scope keeps steps. derivation_coded S p q moves steps

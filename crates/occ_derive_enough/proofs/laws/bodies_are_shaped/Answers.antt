@@ -1,5 +1,0 @@
-use Rattle.occ_derive_enough.proofs.Whole.{bodies_are_shaped}
-use Rattle.occ_derive_enough.proofs.laws.bodies_are_shaped.Goals as goal
-
-pub returns : goal.returns
-returns c = bodies_are_shaped

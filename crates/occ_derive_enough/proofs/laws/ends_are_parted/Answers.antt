@@ -1,5 +1,0 @@
-use Rattle.occ_derive_enough.proofs.Cleared.{ending_clears}
-use Rattle.occ_derive_enough.proofs.laws.ends_are_parted.Goals as goal
-
-pub returns : goal.returns
-returns c = λ h state kept is. ending_clears h kept state is

@@ -1,6 +1,0 @@
-use Rattle.occ_derive_enough.proofs.Renewed.{renewed_shaped}
-use Rattle.occ_derive_leads.specs.Configured.{Follows}
-use Rattle.occ_derive_enough.proofs.laws.nodes_that_are_followed_are_shaped.Goals as goal
-
-pub returns : goal.returns
-returns c = λ h limit f n u next. renewed_shaped h f (Follows h limit) n u next

@@ -1,5 +1,0 @@
-use Rattle.occ_derive_enough.proofs.Shaping.{superpositions_are_shaped}
-use Rattle.occ_derive_enough.proofs.laws.superpositions_are_shaped.Goals as goal
-
-pub returns : goal.returns
-returns c = superpositions_are_shaped

@@ -1,5 +1,0 @@
-use Rattle.occ_derive_enough.proofs.Headers.{tables_have_headers}
-use Rattle.occ_derive_enough.proofs.laws.tables_have_headers.Goals as goal
-
-pub returns : goal.returns
-returns c = tables_have_headers

@@ -1,5 +1,0 @@
-pub mod Begun
-pub mod Clearing
-pub mod Followed
-pub mod Tables
-pub mod Ways

@@ -1,4 +1,0 @@
-pub mod Apart
-pub mod Few
-pub mod Headers
-pub mod Whole

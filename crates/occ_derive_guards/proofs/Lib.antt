@@ -1,3 +1,0 @@
-pub mod Evaluating
-pub mod Opening
-pub mod Turning

@@ -1,5 +1,0 @@
-use Rattle.occ_derive_law_alt.proofs.Rows.{branches_append}
-use Rattle.occ_derive_law_alt.proofs.lists.branches_stand_one_behind_the_other.Goals as goal
-
-pub returns : goal.returns
-returns c = branches_append

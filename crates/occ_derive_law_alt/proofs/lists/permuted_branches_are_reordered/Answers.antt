@@ -1,5 +1,0 @@
-use Rattle.occ_derive_law_alt.proofs.Reordering.{permuted}
-use Rattle.occ_derive_law_alt.proofs.lists.permuted_branches_are_reordered.Goals as goal
-
-pub returns : goal.returns
-returns c = permuted

@@ -1,4 +1,0 @@
-pub mod Beside
-pub mod Expanding
-pub mod Heaviest
-pub mod Meeting

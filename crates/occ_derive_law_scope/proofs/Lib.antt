@@ -1,9 +1,0 @@
-pub mod Connected
-pub mod Declared
-pub mod Elsewhere
-pub mod Inputs
-pub mod Opened
-pub mod Renamed
-pub mod Stepping
-pub mod Using
-pub mod Values

@@ -1,5 +1,0 @@
-use Rattle.occ_derive_law_scope.proofs.Inputs.{may_pass}
-use Rattle.occ_derive_law_scope.proofs.variables.new_variables_may_be_passed.Goals as goal
-
-pub returns : goal.returns
-returns c = may_pass

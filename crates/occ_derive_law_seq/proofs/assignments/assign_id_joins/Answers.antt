@@ -1,5 +1,0 @@
-use Rattle.occ_derive_law_seq.proofs.Pairs.{id_law_back}
-use Rattle.occ_derive_law_seq.proofs.assignments.assign_id_joins.Goals as goal
-
-pub returns : goal.returns
-returns c = id_law_back

@@ -1,5 +1,0 @@
-use Rattle.occ_derive_law_seq.proofs.Into.{if_behind_law}
-use Rattle.occ_derive_law_seq.proofs.assignments.assign_if_joins.Goals as goal
-
-pub returns : goal.returns
-returns c = if_behind_law

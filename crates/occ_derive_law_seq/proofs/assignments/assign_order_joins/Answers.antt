@@ -1,9 +1,0 @@
-use Rattle.occ_derive_law_seq.proofs.Orders.{reordered_by}
-use Rattle.occ_derive_law_seq.proofs.Pairs.{order_law}
-use Rattle.occ_derive_law_seq.proofs.assignments.assign_order_joins.Goals as goal
-
-pub returns-clause-law : goal.returns-clause-law
-returns-clause-law c = order_law
-
-pub returns-clause-orders : goal.returns-clause-orders
-returns-clause-orders c = reordered_by

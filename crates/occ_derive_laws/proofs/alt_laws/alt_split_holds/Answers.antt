@@ -1,0 +1,8 @@
+use Rattle.occ_derive_laws.proofs.Holding.{law_split, split_law}
+use Rattle.occ_derive_laws.proofs.alt_laws.alt_split_holds.Goals as goal
+
+pub returns-clause-forward : goal.returns-clause-forward
+returns-clause-forward c = split_law
+
+pub returns-clause-backward : goal.returns-clause-backward
+returns-clause-backward c = law_split

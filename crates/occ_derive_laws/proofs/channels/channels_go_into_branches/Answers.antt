@@ -1,0 +1,8 @@
+use Rattle.occ_derive_laws.proofs.Connected.{channel_into_branches, channel_into_branches_spares}
+use Rattle.occ_derive_laws.proofs.channels.channels_go_into_branches.Goals as goal
+
+pub returns-clause-law : goal.returns-clause-law
+returns-clause-law c = channel_into_branches
+
+pub returns-clause-sparing : goal.returns-clause-sparing
+returns-clause-sparing c = channel_into_branches_spares

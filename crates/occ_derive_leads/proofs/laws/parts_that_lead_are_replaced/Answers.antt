@@ -1,5 +1,0 @@
-use Rattle.occ_derive_leads.proofs.Leading.{leads_inside}
-use Rattle.occ_derive_leads.proofs.laws.parts_that_lead_are_replaced.Goals as goal
-
-pub returns : goal.returns
-returns c = λ S p a b i. leads_inside S p i

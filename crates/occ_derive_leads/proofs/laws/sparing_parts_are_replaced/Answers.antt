@@ -1,5 +1,0 @@
-use Rattle.occ_derive_leads.proofs.Leading.{spares_inside}
-use Rattle.occ_derive_leads.proofs.laws.sparing_parts_are_replaced.Goals as goal
-
-pub returns : goal.returns
-returns c = λ S p a b i. spares_inside S p i

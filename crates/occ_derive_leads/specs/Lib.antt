@@ -1,9 +1,0 @@
-pub mod Configured
-pub mod Few
-pub mod Headers
-pub mod Heads
-pub mod Leads
-pub mod Nodes
-pub mod Rows
-pub mod States
-pub mod Ways

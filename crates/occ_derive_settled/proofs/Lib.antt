@@ -1,5 +1,0 @@
-pub mod Beginning
-pub mod Lefts
-pub mod Limits
-pub mod Opening
-pub mod Settling

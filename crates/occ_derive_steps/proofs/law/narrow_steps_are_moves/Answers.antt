@@ -1,5 +1,0 @@
-use Rattle.occ_derive_steps.proofs.Steps.{steps_moves}
-use Rattle.occ_derive_steps.proofs.law.narrow_steps_are_moves.Goals as goal
-
-pub returns : goal.returns
-returns c = steps_moves

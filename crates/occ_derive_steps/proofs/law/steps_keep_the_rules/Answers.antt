@@ -1,5 +1,0 @@
-use Rattle.occ_derive_steps.proofs.Steps.{steps_keep}
-use Rattle.occ_derive_steps.proofs.law.steps_keep_the_rules.Goals as goal
-
-pub returns : goal.returns
-returns c = steps_keep

@@ -1,5 +1,0 @@
-pub mod Beginning
-pub mod Ending
-pub mod Facts
-pub mod Taking
-pub mod Telling

@@ -1,4 +1,0 @@
-pub mod Bits
-pub mod DiagramLemmas
-pub mod Growth
-pub mod MemoLemmas

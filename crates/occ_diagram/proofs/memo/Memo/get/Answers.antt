@@ -1,7 +1,0 @@
-use Rattle.std.proofs.Common.{rules}
-use Rattle.occ_diagram.specs.Memo.{recalled}
-use Rattle.occ_diagram.proofs.memo.Memo.get.Goals as goal
-
-pub returns : goal.returns
-unfolding recalled
-returns c = search rules

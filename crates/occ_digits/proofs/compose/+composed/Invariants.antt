@@ -1,4 +1,0 @@
-use Rattle.occ_digits.proofs.compose.+composed.Given as goal
-
-abbrev pub decreases-composed : goal.decreases-composed
-decreases-composed l = l.left

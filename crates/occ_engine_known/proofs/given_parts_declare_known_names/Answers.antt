@@ -1,5 +1,0 @@
-use Rattle.occ_engine_known.proofs.Given.{orders_give}
-use Rattle.occ_engine_known.proofs.given_parts_declare_known_names.Goals as goal
-
-pub returns : goal.returns
-returns c = orders_give

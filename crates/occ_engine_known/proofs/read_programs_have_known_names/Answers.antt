@@ -1,5 +1,0 @@
-use Rattle.occ_engine_known.proofs.Given.{name_low}
-use Rattle.occ_engine_known.proofs.read_programs_have_known_names.Goals as goal
-
-pub returns : goal.returns
-returns c = name_low

@@ -1,4 +1,0 @@
-mod Applying
-mod Chains
-mod Expanding
-mod Following

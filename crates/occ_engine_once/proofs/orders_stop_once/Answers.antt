@@ -1,5 +1,0 @@
-use Rattle.occ_engine_once.proofs.Following.{one_stop}
-use Rattle.occ_engine_once.proofs.orders_stop_once.Goals as goal
-
-pub returns : goal.returns
-returns c = one_stop

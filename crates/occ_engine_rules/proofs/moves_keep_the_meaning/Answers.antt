@@ -1,5 +1,0 @@
-use Rattle.occ_engine_rules.proofs.Moving.{moved_same}
-use Rattle.occ_engine_rules.proofs.moves_keep_the_meaning.Goals as goal
-
-pub returns : goal.returns
-returns c = λ S p q moves h k m. moved_same c.laws_are_sound.ensures S p q moves h k.types m

@@ -1,5 +1,0 @@
-use Rattle.occ_engine_rules.proofs.Moving.{follows_moves}
-use Rattle.occ_engine_rules.proofs.orders_make_moves.Goals as goal
-
-pub returns : goal.returns
-returns c = λ S p q orders moves f. follows_moves S p q orders moves f

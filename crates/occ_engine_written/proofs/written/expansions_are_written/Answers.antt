@@ -1,0 +1,8 @@
+use Rattle.occ_engine_written.proofs.Made.{expanded_written}
+use Rattle.occ_engine_written.proofs.written.expansions_are_written.Goals as goal
+
+pub returns : goal.returns
+returns c =
+    expanded_written c.no_names_are_places.ensures c.programs_leave_places.ensures c.read_programs_print_within_levels.ensures
+    c.read_programs_have_known_names.ensures c.kept_parts_have_known_names.ensures c.expansions_have_known_names.ensures
+    c.expansions_make_moves.ensures

@@ -1,0 +1,7 @@
+use Rattle.occ_engine_written.proofs.Grown.{known_written}
+use Rattle.occ_engine_written.proofs.written.known_moves_are_written.Goals as goal
+
+pub returns : goal.returns
+returns c =
+    known_written c.no_names_are_places.ensures c.programs_leave_places.ensures c.read_programs_print_within_levels.ensures
+    c.read_programs_have_known_names.ensures c.kept_parts_have_known_names.ensures c.names_stay_below.ensures

@@ -1,4 +1,0 @@
-pub mod Growing
-pub mod Spelled
-pub mod Numerals
-pub mod Placed

@@ -1,0 +1,9 @@
+use Rattle.std.proofs.Common.{sym, true≢false, ◌∙◌}
+use Rattle.occ_syntax.specs.Tree.{alt}
+use Rattle.occ_law_shape.proofs.Fronts.{test_of}
+use Rattle.occ_law_alt.proofs.Begun.{no_pair}
+use Rattle.occ_law_alt.proofs.least.alt_pair.Goals as goal
+
+pub returns-else-is_empty : goal.returns-else-is_empty
+returns-else-is_empty c = λ hs ks.
+    no_pair _ _ c.in-Some-alt_first.more.now _ _ c.in-Some.ensures c.in-Some-alt_first.ensures (λ e. true≢false (sym ((test_of _ _ c.is_empty.ensures).1 e) ∙ c.if-is_empty.false)) (alt hs) (alt ks)

@@ -1,0 +1,14 @@
+use Rattle.std.proofs.Common.{ap, ◌∙◌}
+use Rattle.occ_syntax.specs.Tree.{alt}
+use Rattle.occ_syntax.specs.View.{branches, in_alternatives}
+use Rattle.occ_law_shape.specs.occ_law.Lists.{all_branches}
+use Rattle.occ_law_alt.specs.Fronts.{in_front}
+use Rattle.occ_law_alt.proofs.Making.{put_between}
+use Rattle.occ_law_alt.proofs.Parting.{all_branches-all}
+use Rattle.occ_law_alt.proofs.made.exchanged.Goals as goal
+
+pub returns : goal.returns
+returns c = c.alt_of.ensures ∙ ap alt (c.in_ok-add_copies-2.ensures
+    ∙ ap (λ z. all_branches z (branches c.args.rest.now)) (put_between (branches c.args.front.now) (branches c.args.middle.now) (in_alternatives c.in_ok-made.made) (in_alternatives c.push.new.self)
+    (in_alternatives c.add_copies.new.made) c.args.branch c.in_ok-made.ensures c.in_ok-push.ensures.ok c.in_ok-add_copies.ensures)
+    ∙ all_branches-all (branches c.args.front.now) (in_front c.args.branch (branches c.args.middle.now)) (branches c.args.rest.now))

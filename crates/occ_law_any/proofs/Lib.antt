@@ -1,0 +1,5 @@
+pub mod Counting
+pub mod Directing
+pub mod Placing
+pub use Rattle.occ_law_alt.proofs.from_law_shape as from_law_shape
+pub use Rattle.occ_usage.proofs as from_usage

@@ -1,8 +1,0 @@
-use Rattle.occ_syntax.specs.View.{branches, tree}
-use Rattle.occ_law_choice_alt.proofs.Begun.{through}
-use Rattle.occ_law_choice_alt.proofs.Stands.{split_law}
-use Rattle.occ_law_choice_alt.proofs.placed.alt_split.Goals as goal
-
-pub returns-in-Alt-law_case-law_case : goal.returns-in-Alt-law_case-law_case
-returns-in-Alt-law_case-law_case c = through c.somewhere.ensures
-    (split_law (branches c.in-Alt-law_case.alternatives.now) (branches c.in-Alt-law_case-law_case.others.now) (tree c.args.left.now) (tree c.args.right.now) c.in-Alt-law_case.ensures c.in-Alt-law_case-law_case.ensures)

@@ -1,3 +1,0 @@
-pub mod Alternatives
-pub mod Choices
-pub mod Sound

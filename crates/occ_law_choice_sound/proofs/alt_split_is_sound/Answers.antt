@@ -1,5 +1,0 @@
-use Rattle.occ_law_choice_sound.proofs.alt_split_is_sound.Goals as goal
-use Rattle.occ_law_choice_sound.proofs.Alternatives.{split_sound}
-
-pub returns : goal.returns
-returns c = split_sound

@@ -1,5 +1,0 @@
-use Rattle.occ_law_choice_sound.proofs.if_else_stop_is_sound.Goals as goal
-use Rattle.occ_law_choice_sound.proofs.Choices.{else_stop_sound}
-
-pub returns : goal.returns
-returns c = else_stop_sound

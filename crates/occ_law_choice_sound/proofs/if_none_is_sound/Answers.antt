@@ -1,5 +1,0 @@
-use Rattle.occ_law_choice_sound.proofs.if_none_is_sound.Goals as goal
-use Rattle.occ_law_choice_sound.proofs.Choices.{none_sound}
-
-pub returns : goal.returns
-returns c = none_sound

@@ -1,5 +1,0 @@
-use Rattle.occ_law_choice_sound.proofs.if_swap_is_sound.Goals as goal
-use Rattle.occ_law_choice_sound.proofs.Choices.{swap_sound}
-
-pub returns : goal.returns
-returns c = swap_sound

@@ -1,0 +1,10 @@
+pub mod Fronts
+pub mod Joins
+pub mod Parted
+pub mod Processes
+pub mod Sides
+pub mod Tabled
+pub mod Taken
+pub mod Parting
+pub mod Putting
+pub mod Rights

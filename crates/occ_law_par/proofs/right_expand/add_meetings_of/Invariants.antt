@@ -1,0 +1,15 @@
+use Rattle.std.proofs.Common.{◌≡◌, length}
+use Rattle.occ_syntax.specs.Tree.{Branches}
+use Rattle.occ_syntax.specs.View.{branches, exp, in_alternatives, tree, waiting}
+use Rattle.occ_law_shape.specs.occ_law.Lists.{all_branches}
+use Rattle.occ_law_shape.specs.occ_law.Parallel.{meetings_of}
+use Rattle.occ_law_par.proofs.right_expand.add_meetings_of.Given as goal
+
+-- what is put there so far and what is left are all of it
+abbrev pub invariant-loop-rest : goal.invariant-loop-rest
+invariant-loop-rest l = (r : Branches)
+    → all_branches (branches (in_alternatives l.made)) (meetings_of (exp l.first.0.condition) (waiting l.first.0.wait) (tree l.first.1) (branches l.rest) r)
+    ≡ all_branches (branches (in_alternatives l.initial.made)) (meetings_of (exp l.first.0.condition) (waiting l.first.0.wait) (tree l.first.1) (branches l.seconds) r)
+
+abbrev pub decreases-loop-rest : goal.decreases-loop-rest
+decreases-loop-rest l = length l.rest

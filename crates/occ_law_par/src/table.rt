@@ -1,0 +1,45 @@
+ghost use Rattle.std.specs.Prelude.{◌≡◌, ◌≤◌, IfOk, true};
+ghost use Rattle.occ_syntax.specs.Scopes.{environment};
+ghost use Rattle.occ_syntax.specs.Types.{scope_kept};
+ghost use Rattle.occ_syntax.specs.Usage.{Keeps};
+ghost use Rattle.occ_syntax.specs.View.{tree};
+ghost use Rattle.occ_law_shape.specs.occ_law.Instances.{IsInstance};
+
+use crate::placed::{par_flat, par_skip};
+use crate::right_expand::par_expand;
+use crate::whole::{par_assign, par_if, par_none, par_one, par_stop};
+use occ_law_shape::{LawId, LawPlace as Place, Memory, Store};
+use occ_syntax::{Proc, Scope};
+use std::alloc::Global;
+
+/// What a law of PAR, from par-none to par-expand, makes of a part at a place, where it holds there: the right side whose left
+/// side is the part. None exactly where the law holds at no such place. The part keeps names, types, directions and usage in
+/// the scope. The place of par-flat and par-skip is behind so many parts, and that of the others the whole part; par-order has
+/// no result of its own. The store holds the diagrams of the question that par-if asks about the states of the scope; it may
+/// serve any number of calls. Over 24 bits par-if's answer is None.
+pub fn right(
+    alloc: Global,
+    store: &mut Store,
+    law: LawId,
+    scope: &Scope,
+    left: &Proc,
+    place: Place,
+) -> Result<Option<Proc>, Memory>
+    requires first { 37 ≤ law.0 }
+    requires last { law.0 ≤ 45 }
+    requires scope { scope_kept scope.now ≡ true }
+    requires left { Keeps (environment scope.now) (tree left.now) }
+    ensures { IfOk result (IsInstance law.0 scope.now (tree left.now) place) }
+{
+    match law.0 {
+        37 => Ok(par_none(left, place)),
+        38 => par_one(alloc, left, place),
+        39 => par_flat(alloc, left, place),
+        40 => Ok(None),
+        41 => par_skip(alloc, left, place),
+        42 => par_stop(alloc, left, place),
+        43 => par_assign(alloc, left, place),
+        44 => par_if(alloc, store, scope, left, place),
+        _ => par_expand(alloc, left, place),
+    }
+}

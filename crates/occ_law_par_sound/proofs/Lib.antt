@@ -1,4 +1,0 @@
-pub mod Expanding
-pub mod Meetings
-pub mod Parts
-pub mod Sound

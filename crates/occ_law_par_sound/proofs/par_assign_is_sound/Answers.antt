@@ -1,5 +1,0 @@
-use Rattle.occ_law_par_sound.proofs.par_assign_is_sound.Goals as goal
-use Rattle.occ_law_par_sound.proofs.Parts.{assign_sound}
-
-pub returns : goal.returns
-returns c = assign_sound

@@ -1,5 +1,0 @@
-use Rattle.occ_law_par_sound.proofs.par_skip_is_sound.Goals as goal
-use Rattle.occ_law_par_sound.proofs.Parts.{skip_sound}
-
-pub returns : goal.returns
-returns c = skip_sound

@@ -1,5 +1,0 @@
-use Rattle.occ_law_par_sound.proofs.par_stop_is_sound.Goals as goal
-use Rattle.occ_law_par_sound.proofs.Parts.{stop_sound}
-
-pub returns : goal.returns
-returns c = stop_sound

@@ -1,5 +1,0 @@
-pub mod Making
-pub mod Onlys
-pub mod Parting
-pub mod Pieces
-pub mod Tabled

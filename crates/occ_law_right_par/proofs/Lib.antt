@@ -1,4 +1,0 @@
-pub mod Parting
-pub mod Putting
-pub mod Rights
-pub mod Tabled

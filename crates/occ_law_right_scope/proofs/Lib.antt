@@ -1,5 +1,0 @@
-pub mod Only
-pub mod Sides
-pub mod Written
-pub mod Places
-pub mod Assigned

@@ -1,5 +1,0 @@
-use Rattle.occ_law_right_scope.proofs.Sides.{var_par_only}
-use Rattle.occ_law_right_scope.proofs.moves.var_par.Goals as goal
-
-pub returns-in-Var : goal.returns-in-Var
-returns-in-Var c = var_par_only _ _ _ _ _ c.in-Var.ensures c.into_first.ensures

@@ -1,9 +1,0 @@
-pub mod ChannelBranches
-pub mod Declared
-pub mod DroppedPairs
-pub mod EachValue
-pub mod IntoBranches
-pub mod IntoChoices
-pub mod Opened
-pub mod OtherInput
-pub mod Sound

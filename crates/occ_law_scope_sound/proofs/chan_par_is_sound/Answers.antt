@@ -1,5 +1,0 @@
-use Rattle.occ_law_scope_sound.proofs.chan_par_is_sound.Goals as goal
-use Rattle.occ_law_scope_sound.proofs.Declared.{chan_par_sound}
-
-pub returns : goal.returns
-returns c = chan_par_sound

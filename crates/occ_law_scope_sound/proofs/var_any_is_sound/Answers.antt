@@ -1,5 +1,0 @@
-use Rattle.occ_law_scope_sound.proofs.var_any_is_sound.Goals as goal
-use Rattle.occ_law_scope_sound.proofs.EachValue.{var_any_sound}
-
-pub returns : goal.returns
-returns c = var_any_sound

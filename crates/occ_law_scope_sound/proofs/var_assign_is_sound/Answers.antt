@@ -1,5 +1,0 @@
-use Rattle.occ_law_scope_sound.proofs.var_assign_is_sound.Goals as goal
-use Rattle.occ_law_scope_sound.proofs.DroppedPairs.{var_assign_sound}
-
-pub returns : goal.returns
-returns c = var_assign_sound

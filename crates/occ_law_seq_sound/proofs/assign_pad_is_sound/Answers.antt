@@ -1,5 +1,0 @@
-use Rattle.occ_law_seq_sound.proofs.assign_pad_is_sound.Goals as goal
-use Rattle.occ_law_seq_sound.proofs.Assigning.{pad_sound}
-
-pub returns : goal.returns
-returns c = pad_sound

@@ -1,5 +1,0 @@
-use Rattle.occ_law_seq_sound.proofs.expr_is_sound.Goals as goal
-use Rattle.occ_law_seq_sound.proofs.EqualPlaces.{expr_sound}
-
-pub returns : goal.returns
-returns c = expr_sound

@@ -1,5 +1,0 @@
-use Rattle.occ_law_seq_sound.proofs.seq_alt_is_sound.Goals as goal
-use Rattle.occ_law_seq_sound.proofs.GoingOn.{alt_sound}
-
-pub returns : goal.returns
-returns c = alt_sound

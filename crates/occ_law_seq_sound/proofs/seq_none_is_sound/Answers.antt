@@ -1,5 +1,0 @@
-use Rattle.occ_law_seq_sound.proofs.seq_none_is_sound.Goals as goal
-use Rattle.occ_law_seq_sound.proofs.InTurn.{none_sound}
-
-pub returns : goal.returns
-returns c = none_sound

@@ -1,5 +1,0 @@
-use Rattle.occ_law_seq_sound.proofs.seq_stop_is_sound.Goals as goal
-use Rattle.occ_law_seq_sound.proofs.InTurn.{stop_sound}
-
-pub returns : goal.returns
-returns c = stop_sound

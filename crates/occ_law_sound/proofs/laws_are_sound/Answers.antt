@@ -1,5 +1,0 @@
-use Rattle.occ_law_sound.proofs.AllLaws.{all_sound}
-use Rattle.occ_law_sound.proofs.laws_are_sound.Goals as goal
-
-pub returns : goal.returns
-returns c = all_sound

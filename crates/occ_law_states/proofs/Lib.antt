@@ -1,3 +1,0 @@
-pub mod Equalities
-pub mod Questions
-pub mod Typed

@@ -1,3 +1,0 @@
-pub mod Interned
-pub mod Placed
-pub mod Tables

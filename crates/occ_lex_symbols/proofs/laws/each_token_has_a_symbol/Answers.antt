@@ -1,8 +1,0 @@
-use Rattle.occ_lex_symbols.proofs.Tables.{word_known, sign_known}
-use Rattle.occ_lex_symbols.proofs.laws.each_token_has_a_symbol.Goals as goal
-
-pub returns-clause-words : goal.returns-clause-words
-returns-clause-words c = word_known
-
-pub returns-clause-signs : goal.returns-clause-signs
-returns-clause-signs c = sign_known

@@ -1,3 +1,0 @@
-pub mod AtGuards
-pub mod AtState
-pub mod Covering

@@ -1,5 +1,0 @@
-mod Faults
-mod Ranks
-mod Names
-mod Rows
-mod Marking

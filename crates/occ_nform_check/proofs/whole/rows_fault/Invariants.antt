@@ -1,7 +1,0 @@
-use Rattle.std.proofs.Common.{drop}
-use Rattle.occ_nform_check.specs.Marks.{seen}
-use Rattle.occ_nform_check.specs.Walk.{Walked}
-use Rattle.occ_nform_check.proofs.whole.rows_fault.Given as goal
-
-abbrev pub invariant-loop-row : goal.invariant-loop-row
-invariant-loop-row l = Walked l.names l.params l.rows l.row-index l.line l.heights.items (seen l.before) (drop l.row-index l.rows)

@@ -1,3 +1,0 @@
-pub mod Numbering
-pub mod Tabulated
-pub mod Interface

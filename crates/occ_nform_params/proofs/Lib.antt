@@ -1,4 +1,0 @@
-mod Header
-mod Named
-mod Params
-pub mod Whole

@@ -1,9 +1,0 @@
-pub mod Exchanges
-pub mod Bounds
-pub mod Tables
-pub mod Standing
-pub mod Texts
-pub mod Meaning
-pub mod Headers
-pub mod Numbers
-pub mod Again

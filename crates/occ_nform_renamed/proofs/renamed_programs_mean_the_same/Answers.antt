@@ -1,5 +1,0 @@
-use Rattle.occ_nform_renamed.proofs.Meaning.{same_so}
-use Rattle.occ_nform_renamed.proofs.renamed_programs_mean_the_same.Goals as goal
-
-pub returns : goal.returns
-returns c = λ f params p q one. same_so f one params p q

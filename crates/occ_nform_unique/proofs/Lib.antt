@@ -1,9 +1,0 @@
-pub mod Lists
-pub mod Orders
-pub mod Events
-pub mod States
-pub mod Sets
-pub mod Facts
-pub mod Rows
-pub mod Tables
-pub mod Unique

@@ -1,5 +1,0 @@
-use Rattle.occ_nform_unique.proofs.Unique.{one_normal_table}
-use Rattle.occ_nform_unique.proofs.law.one_normal_table.Goals as goal
-
-pub returns : goal.returns
-returns c = one_normal_table

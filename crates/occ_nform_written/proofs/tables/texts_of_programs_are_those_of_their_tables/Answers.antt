@@ -1,5 +1,0 @@
-use Rattle.occ_nform_written.proofs.Standing.{texts_of_programs}
-use Rattle.occ_nform_written.proofs.tables.texts_of_programs_are_those_of_their_tables.Goals as goal
-
-pub returns : goal.returns
-returns c = texts_of_programs

@@ -1,3 +1,0 @@
-pub mod Stops
-pub mod Behaviours
-pub mod Tables

@@ -1,0 +1,6 @@
+use Rattle.occ_norm_arrange.proofs.Congruent.{one_more}
+use Rattle.occ_norm_arrange.specs.FlatArranged.{IsChoice}
+use Rattle.occ_norm_arrange.proofs.lists.more_choices.Goals as goal
+
+pub returns : goal.returns
+returns c = one_more IsChoice _ _ _ _ _ c.in_ok-list.ensures c.in_ok-choice_as.ensures c.in_ok-push.ensures.ok

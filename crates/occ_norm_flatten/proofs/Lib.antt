@@ -1,9 +1,0 @@
-pub mod LastPart
-pub mod Elsewhere
-pub mod Congruent
-pub mod Reshaped
-pub mod Spreading
-pub mod Noting
-pub mod Alike
-pub mod Orders
-pub mod OwnNames

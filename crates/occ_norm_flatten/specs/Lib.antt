@@ -1,4 +1,0 @@
-pub mod Flat
-pub mod Arranged
-pub mod Declares
-pub mod Spread

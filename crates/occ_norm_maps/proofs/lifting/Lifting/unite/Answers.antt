@@ -1,8 +1,0 @@
-use Rattle.occ_norm_maps.proofs.Worlds.{goes_world}
-use Rattle.occ_norm_maps.proofs.lifting.Lifting.unite.Goals as goal
-
-pub returns-in_err-both-in-Some-Some-clause-goes : goal.returns-in_err-both-in-Some-Some-clause-goes
-returns-in_err-both-in-Some-Some-clause-goes c = goes_world c.args.self.now _ _ c.union_with.ensures.leads (λ h. c.union_with.ensures.unions)
-
-pub returns-in_ok-both-in-Some-Some-clause-goes : goal.returns-in_ok-both-in-Some-Some-clause-goes
-returns-in_ok-both-in-Some-Some-clause-goes c = goes_world c.args.self.now _ _ c.union_with.ensures.leads (λ h. c.union_with.ensures.unions)

@@ -1,7 +1,0 @@
-use Rattle.std.proofs.Common.{◌≡◌, take}
-use Rattle.occ_norm_maps.specs.Lifted.{branches_of}
-use Rattle.occ_norm_maps.proofs.nodes.branches_of.Given as goal
-
--- the offers so far
-abbrev pub invariant-loop-offer : goal.invariant-loop-offer
-invariant-loop-offer l = l.branches.items ≡ branches_of (take l.offer-index l.offer-items)

@@ -1,6 +1,0 @@
-use Rattle.std.proofs.Common.{true, subst}
-use Rattle.occ_dd.specs.Store.{IsSet}
-use Rattle.occ_norm_maps.proofs.normaliser.Normaliser.full.Goals as goal
-
-pub returns : goal.returns
-returns c = subst (λ v. IsSet v.store c.full.result (λ x. true)) c.self.view_is c.full.ensures

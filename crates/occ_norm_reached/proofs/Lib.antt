@@ -1,6 +1,0 @@
-pub mod Freeing
-pub mod Valued
-pub mod Reaching
-pub mod Branching
-pub mod Limiting
-pub mod Leaving

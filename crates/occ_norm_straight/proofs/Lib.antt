@@ -1,9 +1,0 @@
-pub mod Listed
-pub mod Itself
-pub mod Noting
-pub mod Ending
-pub mod Leading
-pub mod Splitting
-pub mod Flat
-pub mod Straights
-pub mod InTurn

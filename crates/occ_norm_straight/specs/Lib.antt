@@ -1,4 +1,0 @@
-pub mod Arranged
-pub mod Straight
-pub mod Notes
-pub mod Split

@@ -1,4 +1,0 @@
-use Rattle.occ_norm_transfer.proofs.laid.+spread.Given as goal
-
-abbrev pub decreases-spread : goal.decreases-spread
-decreases-spread l = l.left

@@ -1,5 +1,0 @@
-use Rattle.occ_norm_transfer.proofs.Picking.{ArePickedTo}
-use Rattle.occ_norm_transfer.proofs.lists.pick.Given as goal
-
-abbrev pub invariant-loop-place : goal.invariant-loop-place
-invariant-loop-place l = ArePickedTo l.world.store l.set l.before l.there l.initial.after.items l.place l.after.items

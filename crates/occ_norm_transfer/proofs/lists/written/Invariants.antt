@@ -1,6 +1,0 @@
-use Rattle.std.proofs.Common.{◌≡◌, take}
-use Rattle.occ_norm_assign.specs.Written.{onto}
-use Rattle.occ_norm_transfer.proofs.lists.written.Given as goal
-
-abbrev pub invariant-loop-write : goal.invariant-loop-write
-invariant-loop-write l = l.made ≡ onto l.world.store (take l.write-index l.writes) l.state l.state

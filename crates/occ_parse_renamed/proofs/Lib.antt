@@ -1,6 +1,0 @@
-pub mod Scopes
-pub mod Here
-pub mod Elements
-pub mod Lines
-pub mod Forms
-pub mod Faults

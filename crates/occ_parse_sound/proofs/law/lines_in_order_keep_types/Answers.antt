@@ -1,5 +1,0 @@
-use Rattle.occ_parse_sound.proofs.Params.{program_kept}
-use Rattle.occ_parse_sound.proofs.law.lines_in_order_keep_types.Goals as goal
-
-pub returns : goal.returns
-returns c = λ D N u params below i. program_kept D N u params below i

@@ -1,6 +1,0 @@
-pub mod Sound
-pub mod Agreement
-pub mod Scoped
-pub mod InOrder
-pub mod Programs
-pub mod Passing

@@ -1,8 +1,0 @@
-use Rattle.std.proofs.Common.{sym, subst}
-use Rattle.std.specs.List.{AllByRecursion}
-use Rattle.occ_lex.specs.Placed.{IsLineOf}
-use Rattle.occ_lex_symbols.proofs.Placed.{lines_placed}
-use Rattle.occ_parse_tests.proofs.lexing.symbols.Goals as goal
-
-pub rows-requires : goal.rows-requires
-rows-requires c = subst (AllByRecursion (IsLineOf c.args.text.now)) (sym c.deref.ensures.value) (lines_placed _ _ c.in_ok-lines.ensures)

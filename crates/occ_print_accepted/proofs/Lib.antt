@@ -1,4 +1,0 @@
-mod Left
-mod Programs
-mod Parts
-mod Steps

@@ -1,3 +1,0 @@
-mod Served
-mod Levels
-pub mod Read

@@ -1,5 +1,0 @@
-use Rattle.occ_print_levels.proofs.Read.{read_within}
-use Rattle.occ_print_levels.proofs.read_programs_print_within_levels.Goals as goal
-
-pub returns : goal.returns
-returns c = read_within

@@ -1,5 +1,0 @@
-pub mod Blank
-pub mod Framed
-pub mod Small
-pub mod Within
-pub mod Behind

@@ -1,0 +1,21 @@
+pub mod Renamed
+pub mod Standing
+pub mod Scopes
+pub mod Moves
+pub mod Lines
+pub use Rattle.occ_replay_rules.specs.occ_base as occ_base
+pub use Rattle.occ_replay_rules.specs.occ_bits as occ_bits
+pub use Rattle.occ_replay_rules.specs.occ_law as occ_law
+pub use Rattle.occ_replay_rules.specs.occ_lex as occ_lex
+pub use Rattle.occ_replay_rules.specs.occ_meaning as occ_meaning
+pub use Rattle.occ_replay_rules.specs.occ_parse as occ_parse
+pub use Rattle.occ_replay_rules.specs.occ_parse_forms as occ_parse_forms
+pub use Rattle.occ_replay_rules.specs.occ_parse_layout as occ_parse_layout
+pub use Rattle.occ_replay_rules.specs.occ_parse_part as occ_parse_part
+pub use Rattle.occ_replay_rules.specs.occ_parse_rules as occ_parse_rules
+pub use Rattle.occ_replay_rules.specs.occ_parse_unroll as occ_parse_unroll
+pub use Rattle.occ_replay_rules.specs.occ_print as occ_print
+pub use Rattle.occ_replay_rules.specs as occ_replay_rules
+pub use Rattle.occ_replay_rules.specs.occ_script_lines as occ_script_lines
+pub use Rattle.occ_replay_rules.specs.occ_syntax as occ_syntax
+pub use Rattle.occ_replay_rules.specs.occ_usage as occ_usage

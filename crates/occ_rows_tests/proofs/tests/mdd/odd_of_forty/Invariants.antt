@@ -1,5 +1,0 @@
-use Rattle.occ_dd.specs.Store.{IsKnown}
-use Rattle.occ_rows_tests.proofs.tests.mdd.odd_of_forty.Given as goal
-
-abbrev pub invariant-loop-k : goal.invariant-loop-k
-invariant-loop-k l = IsKnown l.store l.odd

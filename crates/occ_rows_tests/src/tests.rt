@@ -1,9 +1,0 @@
-mod accept;
-mod dd;
-mod diagram;
-mod events;
-mod follow;
-mod mdd;
-mod node;
-mod norm_flatten;
-mod norm_straight;

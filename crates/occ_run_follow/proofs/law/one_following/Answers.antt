@@ -1,5 +1,0 @@
-use Rattle.occ_run_follow.proofs.One.{one_following}
-use Rattle.occ_run_follow.proofs.law.one_following.Goals as goal
-
-pub returns : goal.returns
-returns c = λ p q schedule f g params body one other. one_following p q schedule f g params body one other

@@ -1,5 +1,0 @@
-use Rattle.occ_run_laws.proofs.Complete.{program_trace}
-use Rattle.occ_run_laws.proofs.schedules_have_traces_of_the_program.Goals as goal
-
-pub returns : goal.returns
-returns c = program_trace

@@ -1,2 +1,0 @@
-pub mod Controlled
-pub mod Reached

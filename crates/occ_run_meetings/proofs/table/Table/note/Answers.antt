@@ -1,9 +1,0 @@
-use Rattle.indexmap.specs.IndexMap.{get}
-use Rattle.occ_run_meetings.specs.Tables.{same_name}
-use Rattle.occ_run_meetings.proofs.Tables.{noted}
-use Rattle.occ_run_meetings.proofs.table.Table.note.Goals as goal
-
-pub returns : goal.returns
-returns c =
-    noted (get same_name c.args.self.now.rows) (get same_name c.take_row-row.new.self.rows) (get same_name c.insert.new.self) c.take_row-row.result c.push.new.self c.args.run c.args.chan
-    c.take_row-row.ensures.row c.in_ok-push.ensures.items c.take_row-row.ensures.others c.in_ok-insert.ensures.updates.0

@@ -1,0 +1,16 @@
+mod Stepping
+mod Named
+mod Showing
+mod One
+pub mod Places
+pub mod Arriving
+pub mod Noting
+pub mod Scanning
+pub mod Deciding
+pub mod Tracing
+pub mod Written
+pub mod WitnessShowing
+pub mod Telling
+pub mod Inside
+pub use Rattle.occ_behaviour_read.proofs.from_nform_table as from_nform_table
+pub use Rattle.occ_run.proofs as from_run

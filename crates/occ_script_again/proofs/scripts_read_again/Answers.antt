@@ -1,8 +1,0 @@
-use Rattle.occ_script_again.proofs.Scripts.{script_again, script_refused}
-use Rattle.occ_script_again.proofs.scripts_read_again.Goals as goal
-
-pub returns : goal.returns
-returns c = record {
-  read = script_again;
-  refused = script_refused;
-}

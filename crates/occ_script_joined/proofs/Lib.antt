@@ -1,4 +1,0 @@
-pub mod Known
-mod Narrow
-mod Joining
-mod Written

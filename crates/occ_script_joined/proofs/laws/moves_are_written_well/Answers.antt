@@ -1,5 +1,0 @@
-use Rattle.occ_script_joined.proofs.Written.{written_well}
-use Rattle.occ_script_joined.proofs.laws.moves_are_written_well.Goals as goal
-
-pub returns : goal.returns
-returns c = written_well

@@ -1,5 +1,0 @@
-use Rattle.occ_script_numbered.proofs.Behind.{behind}
-use Rattle.occ_script_numbered.proofs.written_moves_behind.Goals as goal
-
-pub returns : goal.returns
-returns c = λ names P Q from to steps front w table. behind c.moves_are_written_well.ensures names P from to steps front Q w table

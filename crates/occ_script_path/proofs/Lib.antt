@@ -1,5 +1,0 @@
-pub mod Numerals
-pub mod Pieces
-pub mod Children
-pub mod Scoping
-pub mod Exchanges

@@ -1,4 +1,0 @@
-pub mod Texts
-pub mod Places
-pub mod Laws
-pub mod Putting

@@ -1,5 +1,0 @@
-use Rattle.occ_script_renamed.proofs.Texts.{program_text_under}
-use Rattle.occ_script_renamed.proofs.programs_keep_their_text.Goals as goal
-
-pub returns : goal.returns
-returns c = λ f names other name params body h. program_text_under f names other h name params body

@@ -1,5 +1,0 @@
-use Rattle.occ_script_table.proofs.Named.{no_names}
-use Rattle.occ_script_table.proofs.no_names_are_places.Goals as goal
-
-pub returns : goal.returns
-returns c = no_names

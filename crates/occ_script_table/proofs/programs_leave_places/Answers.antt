@@ -1,5 +1,0 @@
-use Rattle.occ_script_table.proofs.Programs.{program_left}
-use Rattle.occ_script_table.proofs.programs_leave_places.Goals as goal
-
-pub returns : goal.returns
-returns c = program_left

@@ -1,5 +1,0 @@
-use Rattle.occ_script_write_back.proofs.Scripts.{script_cut}
-use Rattle.occ_script_write_back.proofs.laws.written_scripts_have_their_sections.Goals as goal
-
-pub returns : goal.returns
-returns c = script_cut

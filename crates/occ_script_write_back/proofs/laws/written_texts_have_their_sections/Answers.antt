@@ -1,5 +1,0 @@
-use Rattle.occ_script_write_back.proofs.Cutting.{chunks_cut}
-use Rattle.occ_script_write_back.proofs.laws.written_texts_have_their_sections.Goals as goal
-
-pub returns : goal.returns
-returns c = chunks_cut

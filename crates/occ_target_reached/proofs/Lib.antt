@@ -1,4 +1,0 @@
-mod Acting
-mod Ends
-mod Whole
-pub mod Reached

@@ -1,5 +1,0 @@
-use Rattle.occ_target_reached.proofs.Reached.{shaped_programs_are_targets}
-use Rattle.occ_target_reached.proofs.law.shaped_programs_are_targets.Goals as goal
-
-pub returns : goal.returns
-returns c = shaped_programs_are_targets

@@ -1,5 +1,0 @@
-use Rattle.occ_target_unique.proofs.Bodies.{normal_bodies_are_one}
-use Rattle.occ_target_unique.proofs.law.normal_bodies_are_one.Goals as goal
-
-pub returns : goal.returns
-returns c = normal_bodies_are_one

@@ -1,3 +1,0 @@
-mod Asked
-pub mod Replayed
-mod Printed

@@ -1,0 +1,10 @@
+pub mod Usage
+pub mod Texts
+pub mod Files
+pub mod Rows
+pub mod Normal
+mod Asked
+pub mod Replayed
+mod Printed
+mod Told
+mod ProvePrinted

@@ -1,5 +1,0 @@
-pub mod Usage
-pub mod Texts
-pub mod Files
-pub mod Rows
-pub mod Normal

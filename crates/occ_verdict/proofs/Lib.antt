@@ -1,5 +1,0 @@
-pub mod Outside
-pub mod Walked
-pub mod Both
-pub mod Unique
-pub mod Link

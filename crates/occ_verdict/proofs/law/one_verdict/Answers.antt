@@ -1,5 +1,0 @@
-use Rattle.occ_verdict.proofs.Unique.{one_verdict}
-use Rattle.occ_verdict.proofs.law.one_verdict.Goals as goal
-
-pub returns : goal.returns
-returns c = one_verdict

@@ -1,5 +1,0 @@
-pub mod Orders
-pub mod Alike
-pub mod One
-pub mod Differences
-pub mod Named

@@ -1,5 +1,0 @@
-use Rattle.occ_views.proofs.One.{deadlock_one}
-use Rattle.occ_views.proofs.law.one_deadlock.Goals as goal
-
-pub returns : goal.returns
-returns c = deadlock_one

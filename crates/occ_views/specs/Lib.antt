@@ -1,5 +1,0 @@
-pub mod Views
-pub mod Excess
-pub mod Difference
-pub mod Stuck
-pub mod Programs
