@@ -5,12 +5,14 @@ mod event;
 mod list;
 mod memory;
 mod names;
+mod number;
 mod width;
 
 pub use event::{Dir, Event};
 pub use list::List;
 pub use memory::Memory;
 pub use names::{Name, Names};
+pub use number::push_number;
 pub use width::Width;
 
 /// A state: each variable in scope with its value, in the order of the scope.

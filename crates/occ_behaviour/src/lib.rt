@@ -7,6 +7,5 @@ mod places;
 mod text;
 
 pub use behaviour::{Behaviour, Last, Side, Verdict};
-pub use occ_syntax::{Dir, Event, Events, List, Memory, Name, Names, State, Width};
 pub use places::{interface_bits, place_in};
 pub use text::{behaviour_text, push_event, push_set, push_state, verdict_text};

@@ -4,8 +4,7 @@ ghost use Rattle.occ_behaviour.specs.Texts.{state_text, event_text, set_text, la
 ghost use Rattle.occ_behaviour.specs.Members.{AreNamed, LastIsNamed, IsNamed, VerdictIsNamed};
 
 use crate::{Behaviour, Last, Side, Verdict};
-use itoa::Buffer;
-use occ_syntax::{Dir, Event, Memory, Name, Names};
+use occ_syntax::{Dir, Event, Memory, Name, Names, push_number};
 use std::alloc::Global;
 
 /// The lines of a verdict: `SAME`, or `DIFFER` with a behaviour and the program that it belongs to.
@@ -88,7 +87,7 @@ fn push_values(text: &mut Vec<u8>, state: &[(Name, u8)]) -> Result<(), Memory>
     match state {
         [] => Ok(()),
         [(_, first), rest @ ..] => {
-            push_number(text, *first)?;
+            push_number(text, u64::from(*first))?;
             push_spaced_values(text, rest)
         }
     }
@@ -99,7 +98,7 @@ fn push_spaced_values(text: &mut Vec<u8>, state: &[(Name, u8)]) -> Result<(), Me
 {
     for (_, value) in state {
         text.push(b' ')?;
-        push_number(text, *value)?;
+        push_number(text, u64::from(*value))?;
     }
     Ok(())
 }
@@ -149,13 +148,5 @@ pub fn push_event(text: &mut Vec<u8>, names: &Names, event: Event) -> Result<(),
         Dir::Input => text.extend_from_slice(b"?")?,
         Dir::Output => text.extend_from_slice(b"!")?,
     }
-    push_number(text, event.value)
-}
-
-fn push_number(text: &mut Vec<u8>, number: u8) -> Result<(), Memory>
-    ensures { OnOk result (text.new.items ≡ text.old.items ++ decimal number) }
-{
-    let mut buffer = Buffer::new();
-    text.extend_from_slice(buffer.format(number).as_bytes())?;
-    Ok(())
+    push_number(text, u64::from(event.value))
 }

@@ -7,9 +7,9 @@ use Rattle.std.proofs.lemmas.Bool.{and_parts, both_ways, cases_lt, cond-true, no
 use Rattle.std.proofs.lemmas.List.{map-append}
 use Rattle.std.proofs.lemmas.Option.{cond_some, same_Some}
 use Rattle.std.proofs.lemmas.Slice.Eq.{bytes_eq-Decides}
-use Rattle.occ_nform_read.specs.occ_base.Names.{IsDistinct, IsNaming, place_of, with_text}
-use Rattle.occ_nform_read.specs.occ_base.declared.names.Name.{Name}
-use Rattle.occ_nform_read.proofs.from_base.Naming.{at_place, naming, place-le, with_new}
+use Rattle.occ_syntax.specs.occ_base.Names.{IsDistinct, IsNaming, place_of, with_text}
+use Rattle.occ_syntax.specs.occ_base.declared.names.Name.{Name}
+use Rattle.occ_syntax.proofs.from_base.Naming.{at_place, naming, place-le, with_new}
 use Rattle.occ_syntax.specs.Counts.{bits_of_kind, bits_of_scope}
 use Rattle.occ_syntax.specs.declared.scope.Kind.{Kind}
 use Rattle.occ_nform_read.specs.occ_nform_table.Lines.{AreNamed, HaveWidths, can_follow, is_param_name, next_param, param_of, text_of}

@@ -1,9 +1,9 @@
 -- What is read of a normal text up to a line that isn't read, is read whatever stands behind that line.
 use Rattle.std.proofs.Common.{◌≡◌, ◌∙◌, ℕ, zero, suc, ◌+◌, ◌≤◌, true, false, List, [], ◌∷◌, ◌++◌, length, Option, None, Some, Err, eqb, ◌^◌, refl, sym, ap, arith, append_assoc, length-append, le_refl, ⊎_elim}
 use Rattle.std.proofs.lemmas.Bool.{cases_Bool, cond-true, cond-false}
-use Rattle.occ_nform_read.specs.occ_base.Names.{place_of, with_text}
-use Rattle.occ_nform_read.specs.occ_base.declared.event.Event.{Event}
-use Rattle.occ_nform_read.specs.occ_base.declared.names.Name.{Name}
+use Rattle.occ_syntax.specs.occ_base.Names.{place_of, with_text}
+use Rattle.occ_syntax.specs.occ_base.declared.event.Event.{Event}
+use Rattle.occ_syntax.specs.occ_base.declared.names.Name.{Name}
 use Rattle.occ_syntax.specs.Counts.{bits_of_scope}
 use Rattle.occ_syntax.specs.declared.scope.Kind.{Kind}
 use Rattle.occ_nform_read.specs.occ_nform_table.Lines.{accept_of, end_of, is_row, next_param, offer_of, row_of_state}

@@ -6,8 +6,8 @@ use Rattle.std.specs.Str.{bytes_eq}
 use Rattle.std.proofs.lemmas.Bool.{and_from, and_parts, both_ways, cases_Bool, le-leb, leb-true, lt-ltb, not_from_false, or_cases}
 use Rattle.std.proofs.lemmas.List.{map-append}
 use Rattle.std.proofs.lemmas.Slice.Eq.{bytes_eq-Decides}
-use Rattle.occ_nform_read.specs.occ_base.Names.{IsDistinct}
-use Rattle.occ_nform_read.specs.occ_base.declared.names.Name.{Name}
+use Rattle.occ_syntax.specs.occ_base.Names.{IsDistinct}
+use Rattle.occ_syntax.specs.occ_base.declared.names.Name.{Name}
 use Rattle.occ_nform_read.proofs.from_lex.Classes.{letter_name_byte}
 use Rattle.occ_nform_read.proofs.from_lex.Printing.{spelled}
 use Rattle.occ_nform_read.specs.occ_lex.Spelling.{is_letter, is_name, is_name_byte, kind_of}

@@ -1,7 +1,7 @@
 -- States that lines say are states of the interface.
 use Rattle.std.proofs.Common.{◌≡◌, ℕ, true, refl, sym, subst, List, Option, None, Some, codes}
-use Rattle.occ_nform_read.specs.occ_base.declared.event.Event.{Event}
-use Rattle.occ_nform_read.specs.occ_base.declared.names.Name.{Name}
+use Rattle.occ_syntax.specs.occ_base.declared.event.Event.{Event}
+use Rattle.occ_syntax.specs.occ_base.declared.names.Name.{Name}
 use Rattle.occ_syntax.specs.declared.scope.Kind.{Kind}
 use Rattle.occ_compare.specs.occ_behaviour.States.{is_state}
 use Rattle.occ_compare.specs.occ_behaviour.declared.behaviour.Last.{Last}

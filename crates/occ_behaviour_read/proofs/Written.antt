@@ -3,9 +3,9 @@ use Rattle.std.proofs.Common.{◌≡◌, ◌∙◌, ℕ, ◌<◌, true, false, c
 use Rattle.std.specs.Prelude.{codes}
 use Rattle.std.specs.List.{list_all, flat_map, AllByRecursion}
 use Rattle.std.proofs.lemmas.Bool.{and_parts, and_from, cond-true}
-use Rattle.occ_nform_read.specs.occ_base.Names.{IsDistinct}
-use Rattle.occ_nform_read.specs.occ_base.declared.event.Event.{Event}
-use Rattle.occ_nform_read.specs.occ_base.declared.names.Name.{Name}
+use Rattle.occ_syntax.specs.occ_base.Names.{IsDistinct}
+use Rattle.occ_syntax.specs.occ_base.declared.event.Event.{Event}
+use Rattle.occ_syntax.specs.occ_base.declared.names.Name.{Name}
 use Rattle.occ_nform_read.specs.occ_lex.Spelling.{is_digit}
 use Rattle.occ_syntax.specs.Scopes.{environment, in_interface}
 use Rattle.occ_syntax.specs.declared.scope.Kind.{Kind}

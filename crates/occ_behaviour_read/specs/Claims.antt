@@ -1,8 +1,8 @@
 -- What a behaviour text is read as: a behaviour of a program with these parameters, or the number of its least faulty line.
 use Rattle.std.specs.Prelude.{ℕ, ◌+◌, ◌≡◌, ◌==◌, Bool, true, false, ◌||◌, if◌then◌else◌, List, [], ◌∷◌, length, map, max, slice_get, unwrap_or, Option, None, Some, Result, Ok, Err, codes}
 use Rattle.std.specs.Str.{bytes_eq}
-use Rattle.occ_nform_read.specs.occ_base.declared.event.Event.{Event}
-use Rattle.occ_nform_read.specs.occ_base.declared.names.Name.{Name}
+use Rattle.occ_syntax.specs.occ_base.declared.event.Event.{Event}
+use Rattle.occ_syntax.specs.occ_base.declared.names.Name.{Name}
 use Rattle.occ_nform_read.specs.occ_lex.Rows.{rows}
 use Rattle.occ_syntax.specs.declared.scope.Kind.{Kind}
 use Rattle.occ_compare.specs.occ_behaviour.States.{is_state}

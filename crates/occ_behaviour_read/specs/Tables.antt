@@ -1,9 +1,9 @@
 -- Normal texts, by how tables are written.
 use Rattle.std.specs.Prelude.{ℕ, ◌<◌, ◌≤◌, ◌≡◌, ◌^◌, ◌++◌, List, length, map, None, Some, codes, decimal}
 use Rattle.std.specs.List.{AllByRecursion}
-use Rattle.occ_nform_read.specs.occ_base.Names.{IsDistinct}
-use Rattle.occ_nform_read.specs.occ_base.declared.names.Name.{Name}
-use Rattle.occ_nform_read.specs.occ_base.Width.{IsWidth}
+use Rattle.occ_syntax.specs.occ_base.Names.{IsDistinct}
+use Rattle.occ_syntax.specs.occ_base.declared.names.Name.{Name}
+use Rattle.occ_syntax.specs.occ_base.Width.{IsWidth}
 use Rattle.occ_nform_read.specs.occ_lex.Rows.{rows}
 use Rattle.occ_nform_read.specs.occ_lex.Spelling.{kind_of}
 use Rattle.occ_nform_read.specs.occ_lex.declared.token.TokenKind.TheVariants as token

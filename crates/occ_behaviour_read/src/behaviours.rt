@@ -1,5 +1,5 @@
-ghost use Rattle.occ_nform_read.specs.occ_base.Names.{IsDistinct};
-ghost use Rattle.occ_nform_read.specs.occ_base.declared.names.Name.{Name};
+ghost use Rattle.occ_syntax.specs.occ_base.Names.{IsDistinct};
+ghost use Rattle.occ_syntax.specs.occ_base.declared.names.Name.{Name};
 ghost use Rattle.occ_compare.specs.occ_behaviour.declared.behaviour.Behaviour.{Behaviour};
 ghost use Rattle.occ_behaviour_read.specs.Claims.{bare_lines, claim_read};
 ghost use Rattle.occ_nform_read.specs.occ_nform_table.Tables.{IsInterface, are_params};

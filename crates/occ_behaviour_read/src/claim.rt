@@ -7,8 +7,7 @@ ghost use Rattle.occ_behaviour_read.specs.Claims.{Gives, IsOf, LastIsOf, bare_li
 
 use crate::lines::{is_differ, last_line, last_number, line, only_line, state_line, trace_line};
 use occ_compare::{Behaviour, Last};
-use occ_nform_read::{BaseNames as Names, Events, Memory, Name, State};
-use occ_syntax::Kind;
+use occ_syntax::{Events, Kind, Memory, Name, Names, State};
 use std::alloc::Global;
 use thiserror::Error;
 

@@ -12,7 +12,7 @@ pub use claim::{ClaimFault, read};
 pub use lines::{bare, last_number, line, state_line};
 pub use occ_compare::{
     Behaviour, Last, Refined, SetId, Side, Store, Table as DdTable, Verdict, behaviour_text,
-    one_deadlock, one_refinement, verdict_text,
+    equal_under, named_bits, one_deadlock, one_refinement, verdict_text,
 };
 pub use occ_nform_read::{
     States, Table, TableFault, TableRow, a_normal_text_is_its_tables, behind, first_line,

@@ -5,11 +5,8 @@ ghost use Rattle.occ_nform_read.specs.occ_nform_table.Words.{Finds, between, eac
 ghost use Rattle.occ_behaviour_read.specs.Claims.{bare, bare_lines, is_differ, last_line, only_line, spaced_words, state_line, trace_line};
 
 use occ_compare::Last;
-use occ_nform_read::{
-    BaseNames as Names, Events, Memory, Name, State, before, behind, between, events_of,
-    first_line, set_of, state_of,
-};
-use occ_syntax::Kind;
+use occ_nform_read::{before, behind, between, events_of, first_line, set_of, state_of};
+use occ_syntax::{Events, Kind, Memory, Name, Names, State};
 use std::alloc::Global;
 
 /// A row without its line end.

@@ -1,5 +1,5 @@
-ghost use Rattle.occ_nform_read.specs.occ_base.Names.{IsDistinct};
-ghost use Rattle.occ_nform_read.specs.occ_base.declared.names.Name.{Name};
+ghost use Rattle.occ_syntax.specs.occ_base.Names.{IsDistinct};
+ghost use Rattle.occ_syntax.specs.occ_base.declared.names.Name.{Name};
 ghost use Rattle.occ_nform_read.specs.occ_lex.Rows.{rows};
 ghost use Rattle.occ_nform_read.specs.occ_nform_table.Behaviours.{Stands};
 ghost use Rattle.occ_nform_read.specs.occ_nform_table.Normal.{Parts, table_fault, text_read};

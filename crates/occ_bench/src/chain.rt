@@ -2,7 +2,8 @@ ghost use Rattle.std.specs.Prelude.{◌≡◌, ◌+◌, ◌^◌, ◌<◌, ◌≤
 ghost use Rattle.occ_weave.specs.occ_node.World.{IsNode, Leads};
 
 use crate::reach::reached;
-use occ_bits::{Dir, Event, Memo, Memory, Name};
+use occ_bits::Memo;
+use occ_syntax::{Dir, Event, Memory, Name};
 use occ_weave::{Manner, NodeId, Weaver, World, alt, prefix_in, prefix_out, weave};
 use std::alloc::Global;
 use std::mem;

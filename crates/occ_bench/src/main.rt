@@ -17,7 +17,7 @@ mod tasks;
 mod texts;
 
 use chain::Figures;
-use occ_bits::Memory;
+use occ_syntax::Memory;
 use std::alloc::Global;
 use std::time::Instant;
 use std::{env, io};

@@ -1,8 +1,7 @@
 //! The figures of a part.
 
-use occ_bits::{Memory, Names, Width};
 use occ_parse_part::{LexFault, ParseFault, Raw, form, lines, resolve};
-use occ_syntax::{Kind, Scope, controls};
+use occ_syntax::{Kind, Memory, Names, Scope, Width, controls};
 use std::alloc::Global;
 use thiserror::Error;
 

@@ -3,8 +3,8 @@ ghost use Rattle.occ_syntax.specs.Tree.{operation, variable};
 ghost use Rattle.occ_syntax.specs.View.{exp};
 ghost use Rattle.occ_syntax.specs.declared.expr.Op.TheVariants as op;
 
-use occ_bits::{Memory, Name, Store, Width, equal_under};
-use occ_syntax::{Expr, Kind, Op, Scope};
+use occ_bits::{Store, equal_under};
+use occ_syntax::{Expr, Kind, Memory, Name, Op, Scope, Width};
 use std::alloc::Global;
 
 const X: Name = Name(0);

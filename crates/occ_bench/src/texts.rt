@@ -1,7 +1,7 @@
 //! The texts of large parts.
 
 use itoa::Buffer;
-use occ_bits::Memory;
+use occ_syntax::Memory;
 use std::alloc::Global;
 
 // How many lines or levels make about a megabyte.

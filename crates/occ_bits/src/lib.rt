@@ -1,6 +1,5 @@
-//! Expressions as sets of states: the bits of variables, and circuits over sets.
-//! Functions on assignments as lists of sets: for each bit the set of the assignments from which it becomes 1. They are composed
-//! with sets, and joined under a condition. The definitions are in `specs/`.
+//! Expressions as sets of states: which bits stand for which variable, conditions as sets, words as binary digits; and functions on states
+//! as lists of sets.
 #![tactic(auto)]
 
 mod circuits;
@@ -19,4 +18,4 @@ pub use expr::{condition, word};
 pub use law::assignments_are_states;
 pub use layout::Layout;
 pub use named::named_bits;
-pub use occ_dd::{Call, Dir, Event, List, Memo, Memory, Name, Names, SetId, Store, Table, Width};
+pub use occ_dd::{Call, Memo, SetId, Store, Table};

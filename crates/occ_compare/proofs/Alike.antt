@@ -1,8 +1,8 @@
 -- Processes that do the same have one first excess, and are stuck after the same traces.
 use Rattle.std.proofs.Common.{◌≡◌, ◌⊎◌, ◌↔◌, true, false, not, List, [], ◌∷◌, refl, sym, ap, ◌∙◌, inl, inr, ⊎_elim}
 use Rattle.std.specs.Ordering.{is_lt}
-use Rattle.occ_behaviour.specs.occ_base.declared.event.Event.{Event}
-use Rattle.occ_behaviour.specs.occ_base.declared.names.Name.{Name}
+use Rattle.occ_syntax.specs.occ_base.declared.event.Event.{Event}
+use Rattle.occ_syntax.specs.occ_base.declared.names.Name.{Name}
 use Rattle.occ_syntax.specs.declared.scope.Kind.{Kind}
 use Rattle.occ_syntax.specs.Scopes.{Trace, among}
 use Rattle.occ_behaviour.specs.declared.behaviour.Last.{Last}

@@ -11,11 +11,11 @@ use Rattle.std.specs.Cmp.Lexicographic.{slice_cmp, lists_total}
 use Rattle.std.specs.Ordering.{is_lt, is_eq, eq_by_cmp, nat_cmp, ordering_then, ordering_reverse}
 use Rattle.std.specs.declared.cmp.Ordering.{Ordering}
 use Rattle.std.specs.declared.cmp.Ordering.TheVariants.{Less, Equal, Greater}
-use Rattle.occ_behaviour.specs.occ_base.declared.event.Dir.{Dir}
-use Rattle.occ_behaviour.specs.occ_base.declared.event.Dir.TheVariants.{Input, Output}
-use Rattle.occ_behaviour.specs.occ_base.declared.event.Event.{Event}
-use Rattle.occ_behaviour.specs.occ_base.declared.names.Name.{Name}
-use Rattle.occ_behaviour.specs.occ_base.contracts.event.EventPartialEq.TheImpl.{ghosts as event_eq}
+use Rattle.occ_syntax.specs.occ_base.declared.event.Dir.{Dir}
+use Rattle.occ_syntax.specs.occ_base.declared.event.Dir.TheVariants.{Input, Output}
+use Rattle.occ_syntax.specs.occ_base.declared.event.Event.{Event}
+use Rattle.occ_syntax.specs.occ_base.declared.names.Name.{Name}
+use Rattle.occ_syntax.specs.occ_base.contracts.event.EventPartialEq.TheImpl.{ghosts as event_eq}
 use Rattle.occ_syntax.specs.declared.scope.Kind.{Kind}
 use Rattle.occ_node.specs.occ_accept.Order.{event_cmp, dir_number, strict, is_in}
 use Rattle.occ_node.specs.occ_accept.Accept.{in_set}

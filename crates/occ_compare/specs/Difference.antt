@@ -1,8 +1,8 @@
 -- The first difference of two processes: the first behaviour that a has and b hasn't, where before it they are alike, by four fixed rules.
 use Rattle.std.specs.Prelude.{◌≡◌, ◌⊎◌, ◌↔◌, Bool, true, List, [], ◌∷◌}
 use Rattle.std.specs.Ordering.{is_lt}
-use Rattle.occ_behaviour.specs.occ_base.declared.event.Event.{Event}
-use Rattle.occ_behaviour.specs.occ_base.declared.names.Name.{Name}
+use Rattle.occ_syntax.specs.occ_base.declared.event.Event.{Event}
+use Rattle.occ_syntax.specs.occ_base.declared.names.Name.{Name}
 use Rattle.occ_syntax.specs.declared.scope.Kind.{Kind}
 use Rattle.occ_syntax.specs.Scopes.{Trace}
 use Rattle.occ_behaviour.specs.declared.behaviour.Last.{Last}

@@ -10,7 +10,6 @@ pub mod Difference
 pub mod Stuck
 pub mod Programs
 pub use Rattle.occ_node.specs.occ_accept as occ_accept
-pub use Rattle.occ_behaviour.specs.occ_base as occ_base
 pub use Rattle.occ_behaviour.specs as occ_behaviour
 pub use Rattle.occ_bits.specs as occ_bits
 pub use Rattle.occ_bits.specs.occ_dd as occ_dd

@@ -6,10 +6,10 @@ ghost use Rattle.occ_compare.specs.Steps.{Tells, IsSide, IsLeastStart, SameStart
 ghost use Rattle.occ_compare.specs.Walk.{SameEnds};
 
 use crate::places::{assignment, last_number};
-use occ_behaviour::{Name, Side};
+use occ_behaviour::Side;
 use occ_bits::{SetId, Store};
 use occ_node::{MapId, NodeId, World};
-use occ_syntax::Kind;
+use occ_syntax::{Kind, Name};
 
 // An assignment that only one of two sets has, and whose it is.
 #[derive(Clone, Copy)]

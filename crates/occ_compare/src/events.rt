@@ -2,8 +2,8 @@ ghost use Rattle.std.specs.Prelude.{◌≡◌, IfOk};
 ghost use Rattle.std.specs.Ordering.{is_lt};
 ghost use Rattle.occ_compare.specs.Orders.{print_cmp, list_cmp, set_cmp, IsListOf};
 
-use occ_behaviour::{Event, Events, Memory, Name, place_in};
-use occ_syntax::Kind;
+use occ_behaviour::place_in;
+use occ_syntax::{Event, Events, Kind, Memory, Name};
 use std::alloc::Global;
 use std::cmp::Ordering;
 

@@ -1,5 +1,5 @@
 ghost use Rattle.std.specs.Prelude.{◌≡◌, List, Option};
-ghost use Rattle.occ_behaviour.specs.occ_base.declared.names.Name.{Name};
+ghost use Rattle.occ_syntax.specs.occ_base.declared.names.Name.{Name};
 ghost use Rattle.occ_syntax.specs.declared.scope.Kind.{Kind};
 ghost use Rattle.occ_syntax.specs.Tree.{Tree};
 ghost use Rattle.occ_behaviour.specs.declared.behaviour.Behaviour.{Behaviour};

@@ -15,10 +15,8 @@ mod walk;
 
 pub use events::{in_order, is_less, list_order, listed};
 pub use law::{one_deadlock, one_refinement};
-pub use occ_behaviour::{
-    Behaviour, Dir, Event, Events, Last, Memory, Name, Side, Verdict, behaviour_text, verdict_text,
-};
-pub use occ_bits::{SetId, Store, Table};
+pub use occ_behaviour::{Behaviour, Last, Side, Verdict, behaviour_text, verdict_text};
+pub use occ_bits::{SetId, Store, Table, equal_under, named_bits};
 pub use occ_node::{AcceptSet, MapId, NodeId, Offers, Root, Row, World};
 pub use offers::refusal;
 pub use places::{assignment, last_number, written};

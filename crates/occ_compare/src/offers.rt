@@ -1,7 +1,7 @@
 ghost use Rattle.std.specs.Prelude.{◌≡◌, ◌||◌, ◌&&◌, true, not, OnOk, IfOk, MatchOption};
 ghost use Rattle.occ_node.specs.occ_accept.Order.{strict};
 ghost use Rattle.occ_node.specs.occ_accept.Accept.{in_set};
-ghost use Rattle.occ_behaviour.specs.occ_base.declared.event.Event.{Event};
+ghost use Rattle.occ_syntax.specs.occ_base.declared.event.Event.{Event};
 ghost use Rattle.occ_node.specs.Offers.{is_offered, offer_cmp};
 ghost use Rattle.occ_compare.specs.declared.offers.Level.TheVariants.{Nodes};
 ghost use Rattle.occ_compare.specs.Walk.{IsRefusal};
@@ -9,9 +9,8 @@ ghost use Rattle.occ_compare.specs.Steps.{differ, DifferNowhere, IsLeastDifferin
 
 use crate::ends::same_node;
 use crate::events::{in_order, listed};
-use occ_behaviour::{Event, Events, Memory, Name};
 use occ_node::{AcceptSet, Offers};
-use occ_syntax::Kind;
+use occ_syntax::{Event, Events, Kind, Memory, Name};
 use std::alloc::Global;
 
 // By what two rows are compared at an event: by whether they offer it, or by the nodes behind it.

@@ -2,8 +2,8 @@ ghost use Rattle.std.specs.Prelude.{◌≡◌, ◌<◌, ◌≤◌, ◌+◌, ◌*
 ghost use Rattle.occ_syntax.specs.Counts.{bits_of_scope};
 ghost use Rattle.occ_compare.specs.Places.{assignment_at, byte_state};
 
-use occ_behaviour::{Memory, Name, State, interface_bits};
-use occ_syntax::Kind;
+use occ_behaviour::interface_bits;
+use occ_syntax::{Kind, Memory, Name, State};
 use std::alloc::Global;
 
 // The lowest bits of a number, so many, and the number of the bits above them.

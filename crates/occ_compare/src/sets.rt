@@ -7,9 +7,9 @@ ghost use Rattle.occ_compare.specs.Walk.{SameSets};
 ghost use Rattle.occ_compare.specs.Steps.{AllIn, Chooses, IsLeastOnly, IsLesserSide};
 
 use crate::events::{in_order, is_less};
-use occ_behaviour::{Event, Memory, Name, Side};
+use occ_behaviour::Side;
 use occ_node::AcceptSet;
-use occ_syntax::Kind;
+use occ_syntax::{Event, Kind, Memory, Name};
 use std::alloc::Global;
 use std::cmp::Ordering;
 

@@ -1,18 +1,18 @@
 -- Names that aren't in scope, and that a part doesn't declare, stand nowhere in it.
 use Rattle.std.proofs.Common.{◌≡◌, ℕ, Bool, true, false, ◌||◌, ◌==◌, List, [], ◌∷◌, None, refl, ap}
 use Rattle.std.specs.List.{AllByRecursion}
-use Rattle.occ_complete_events.specs.occ_base.declared.names.Name.{Name}
-use Rattle.occ_complete_events.specs.occ_derive_moves.Apart.{has_declared}
-use Rattle.occ_complete_events.proofs.from_derive_laws.Elsewhere.{stands_not}
-use Rattle.occ_complete_events.proofs.from_meaning.Facts.{at_itself}
-use Rattle.occ_complete_events.proofs.from_meaning.InScope.{free_in_scope}
-use Rattle.occ_complete_events.specs.occ_meaning.Rename.{stands}
-use Rattle.occ_complete_events.specs.occ_syntax.declared.scope.Kind.{Kind}
-use Rattle.occ_complete_events.specs.occ_syntax.Names.{is_in}
-use Rattle.occ_complete_events.specs.occ_syntax.Scopes.{environment}
-use Rattle.occ_complete_events.specs.occ_syntax.Tree.{Tree}
-use Rattle.occ_complete_events.specs.occ_syntax.Usage.{Keeps}
-use Rattle.occ_complete_events.specs.occ_target_laws.Bodies.{IsVariable}
+use Rattle.occ_engine.specs.occ_base.declared.names.Name.{Name}
+use Rattle.occ_complete_states.specs.occ_derive_moves.Apart.{has_declared}
+use Rattle.occ_complete_states.proofs.from_derive_laws.Elsewhere.{stands_not}
+use Rattle.occ_engine.proofs.from_meaning.Facts.{at_itself}
+use Rattle.occ_engine.proofs.from_meaning.InScope.{free_in_scope}
+use Rattle.occ_engine.specs.occ_meaning.Rename.{stands}
+use Rattle.occ_engine.specs.occ_syntax.declared.scope.Kind.{Kind}
+use Rattle.occ_engine.specs.occ_syntax.Names.{is_in}
+use Rattle.occ_engine.specs.occ_syntax.Scopes.{environment}
+use Rattle.occ_engine.specs.occ_syntax.Tree.{Tree}
+use Rattle.occ_engine.specs.occ_syntax.Usage.{Keeps}
+use Rattle.occ_complete_states.specs.occ_target_laws.Bodies.{IsVariable}
 
 abbrev pub numbers_of : List (Name × Kind) → List ℕ
 numbers_of [] = []

@@ -1,250 +1,178 @@
--- A body comes to a choice for each initial state, within the declarations of the variables for inputs.
-use Rattle.std.proofs.Common.{◌≡◌, ◌∙◌, ◌++◌, ◌==◌, ◌+◌, ◌<◌, ◌≤◌, ◌^◌, ℕ, zero, suc, Bool, false, true, List, [], ◌∷◌, length, None, Some, if◌then◌else◌, refl, sym, ap, subst, inl, inr, arith}
-use Rattle.std.proofs.lemmas.Bool.{eqb-true, or_cases}
-use Rattle.std.proofs.lemmas.Nat.{pow_pos}
-use Rattle.std.proofs.lemmas.List.{append-nil, append_assoc}
+-- A declared variable begins with each of its values: each makes a configuration with one variable more.
+use Rattle.std.proofs.Common.{arith, ◌≡◌, ◌∙◌, ℕ, ◌+◌, ◌≤◌, ◌<◌, ◌^◌, Bool, true, false, ◌||◌, not, ◌&&◌, ◌⊎◌, inl, inr, cond, eqb, List, [], ◌∷◌, ◌++◌, Option, Some, None, is_none, refl, sym, ap, subst}
+use Rattle.std.proofs.lemmas.Bool.{eqb-true}
+use Rattle.std.proofs.lemmas.List.{append_assoc}
 use Rattle.std.specs.List.{AllByRecursion}
-use Rattle.occ_complete_events.specs.occ_base.declared.names.Name.{Name}
-use Rattle.occ_complete_events.specs.occ_base.Width.{bits_of}
-use Rattle.occ_complete.proofs.Parting.{behind_skip}
-use Rattle.occ_complete.proofs.Tabled.{becomes_table, start, start_state, tolds, zeros_there}
-use Rattle.occ_complete.proofs.Whole.{only_variables, within_keeps}
-use Rattle.occ_complete.specs.Begun.{HasBegun, IsAway}
-use Rattle.occ_complete_events.specs.occ_derive_moves.Apart.{has_declared}
-use Rattle.occ_complete_events.specs.occ_derive_moves.Unified.{cleared}
-use Rattle.occ_complete_events.specs.occ_derive_moves.Weight.{weight}
-use Rattle.occ_complete_events.proofs.from_derive_laws.Declared.{round_last}
-use Rattle.occ_complete_events.proofs.from_derive_laws.Values.{pair_comes}
-use Rattle.occ_complete_events.proofs.from_derive_laws.Behind.{if_law}
-use Rattle.occ_complete_events.proofs.from_derive_laws.Pairs.{assign_pairs, id_law_back}
-use Rattle.occ_complete_events.proofs.from_derive_laws.Turns.{first_keeps, rest_keeps}
-use Rattle.occ_complete_events.specs.occ_derive_laws.Alike.{AreVariables}
-use Rattle.occ_complete_events.proofs.from_complete_states.Facts.{constant_type}
-use Rattle.occ_complete_events.proofs.from_complete_states.Leading.{declared_leads, declaring_leads, first_leads, law_leads, law_leads_back, leads_itself, leads_keep, leads_on}
-use Rattle.occ_complete_events.proofs.from_complete_states.Scopes.{declared_keeps, last_new, scope_front}
-use Rattle.occ_complete_events.specs.occ_complete_states.Configured.{IsConfigured, IsLeft}
-use Rattle.occ_complete_events.specs.occ_complete_states.Few.{IsFew}
-use Rattle.occ_complete_events.specs.occ_complete_states.Headers.{IsHeader}
-use Rattle.occ_complete_events.specs.occ_complete_states.Leads.{Leads}
-use Rattle.occ_complete_events.specs.occ_complete_states.States.{in_state, scope_of, told}
-use Rattle.occ_complete_events.proofs.from_complete_states.Ending.{variables_append}
-use Rattle.occ_complete_events.proofs.from_complete_states.Facts.{IsHeld, all_held, all_listed, not_variable, scope_variables, told_keeps}
-use Rattle.occ_complete_events.specs.occ_law.Lists.{assignment, variables as own_values}
-use Rattle.occ_complete_events.specs.occ_law.Sequence.{each_case_before}
-use Rattle.occ_complete_events.proofs.from_meaning.Facts.{false_not_true, none_not_some, some_is}
-use Rattle.occ_complete_events.specs.occ_meaning.Parallel.{one, two}
-use Rattle.occ_complete_events.specs.occ_syntax.declared.scope.Kind.{Kind}
-use Rattle.occ_complete_events.specs.occ_syntax.declared.scope.Kind.TheVariants.{Chan, Var}
-use Rattle.occ_complete_events.specs.occ_syntax.Counts.{bits_of_scope}
-use Rattle.occ_complete_events.specs.occ_syntax.Declarations.{declaring_all}
-use Rattle.occ_complete_events.specs.occ_syntax.Names.{is_in}
-use Rattle.occ_complete_events.specs.occ_syntax.Scopes.{IsState, Values, environment, variable_kind}
-use Rattle.occ_complete_events.specs.occ_syntax.Tree.{Exp, Tree, and_case, assign, no_tree, select, seq}
-use Rattle.occ_complete_events.specs.occ_syntax.Types.{is_pair, pairs_kept, scope_kept}
-use Rattle.occ_complete_events.specs.occ_syntax.Usage.{Keeps}
-use Rattle.occ_complete_events.specs.occ_target.States.{constant, variables}
-use Rattle.occ_complete_events.specs.occ_target_laws.Bodies.{IsVariable, in_state as initial}
-use Rattle.occ_complete_events.specs.occ_target_laws.Shapes.{Header, numbered}
+use Rattle.occ_engine.specs.occ_base.declared.names.Name.{Name}
+use Rattle.occ_engine.specs.occ_base.declared.width.Width.{Width}
+use Rattle.occ_engine.specs.occ_base.Width.{bits_of}
+use Rattle.occ_complete_states.specs.occ_derive_moves.Unified.{is_target}
+use Rattle.occ_complete_states.specs.occ_derive_moves.Weight.{weight}
+use Rattle.occ_complete_states.proofs.from_derive_laws.Opened.{opened}
+use Rattle.occ_complete_states.proofs.Leading.{leads_keep, leads_on}
+use Rattle.occ_complete_states.proofs.Rows.{declarations_go_in}
+use Rattle.occ_complete_states.proofs.Scopes.{declared_keeps, declaring_keeps}
+use Rattle.occ_complete_states.specs.Configured.{IsClear, IsLeft, IsOpenBranch, at_once}
+use Rattle.occ_complete_states.specs.Few.{IsFew}
+use Rattle.occ_complete_states.specs.Headers.{IsHeader}
+use Rattle.occ_complete_states.specs.Rows.{each_declaring, guard_names}
+use Rattle.occ_complete_states.specs.States.{in_state, scope_of, told}
+use Rattle.occ_complete.proofs.Lefts.{both_keep, declaring_behind, state_leads, told_in}
+use Rattle.occ_complete.proofs.Limits.{all_both}
+use Rattle.occ_complete_states.proofs.Beginning.{declared_begins}
+use Rattle.occ_complete_states.specs.Telling.{BeginsWith}
+use Rattle.occ_complete.specs.Ways.{ComesTo, goes_on}
+use Rattle.occ_engine.proofs.from_meaning.Facts.{some_is}
+use Rattle.occ_engine.specs.occ_meaning.Parallel.{two}
+use Rattle.occ_engine.proofs.from_script_lines.Scoping.{scope_kept-push}
+use Rattle.occ_engine.specs.occ_syntax.declared.scope.Kind.{Kind}
+use Rattle.occ_engine.specs.occ_syntax.declared.scope.Kind.TheVariants.{Chan, Var}
+use Rattle.occ_engine.specs.occ_syntax.Declarations.{declaring_all}
+use Rattle.occ_engine.specs.occ_syntax.Names.{free, free_in_waiting, is_in}
+use Rattle.occ_engine.specs.occ_syntax.Scopes.{IsState, Values, environment, variable_kind, with_value}
+use Rattle.occ_engine.specs.occ_syntax.Tree.{Tree, Waiting, alt, declare, seq}
+use Rattle.occ_engine.specs.occ_syntax.Types.{is_pair, scope_kept}
+use Rattle.occ_engine.specs.occ_syntax.Usage.{Keeps}
+use Rattle.occ_complete_states.specs.occ_target.Rows.{guarded}
+use Rattle.occ_complete_states.specs.occ_target.States.{variables}
+use Rattle.occ_complete_states.specs.occ_target_laws.Bodies.{IsVariable}
+use Rattle.occ_complete_states.specs.occ_target_laws.Shapes.{Header}
+use Rattle.occ_engine.proofs.from_usage.Scoped.{environment-push}
 
--- ---- an assignment in front
+-- ---- the guards
 
-keeps_itself : (S : List (Name × Kind)) → scope_kept S ≡ true → (xs : List ℕ) → xs ≡ variables S → (p : Tree) → Keeps (environment S) p
-    → Leads S p (seq (two (assignment xs (own_values xs)) p))
-keeps_itself S kept [] e p k = behind_skip S p k
-keeps_itself S kept (x ∷ xs) e p k =
-    leads_on S (behind_skip S p k)
-    (first_leads S (one p) (law_leads_back S 6 (id_law_back S (x ∷ xs) refl
-    (subst (AreVariables (environment S)) (sym e) (scope_variables (environment S) S kept (all_listed S kept))))))
+ready_named : (T : List (Name × Kind)) (s : Values) (y : ℕ) (w : Width) (p : Tree) (bs : List (Waiting × Tree)) (x : ℕ) → AllByRecursion (BeginsWith T s y w p) bs
+    → guard_names bs x ≡ false
+ready_named T s y w p [] x all = refl
+ready_named T s y w p (b ∷ bs) x all = ap (λ (z : Waiting × Tree). free_in_waiting z.0 x || guard_names bs x) all.0.form ∙ ready_named T s y w p bs x all.1
 
-last_assigned : (xs : List ℕ) (y : ℕ) (es : List Exp) → assign (xs ++ y ∷ []) es ≡ assignment (xs ++ y ∷ []) es
-last_assigned [] y es = refl
-last_assigned (x ∷ xs) y es = refl
+none_named : (T : List (Name × Kind)) (s : Values) (y : ℕ) (w : Width) (p : Tree) (bs : List (Waiting × Tree)) (ys : List (Name × Kind)) → AllByRecursion (BeginsWith T s y w p) bs
+    → AllByRecursion (λ (z : Name × Kind). guard_names bs z.0.0 ≡ false) ys
+none_named T s y w p bs [] all = tt
+none_named T s y w p bs (z ∷ ys) all = (ready_named T s y w p bs z.0.0 all, none_named T s y w p bs ys all)
 
--- new variables come with value 0, round the assignment and what stands behind it
-declared_round : (S ys : List (Name × Kind)) → scope_kept (S ++ ys) ≡ true → AllByRecursion (λ (y : Name × Kind). IsVariable y.1) ys
-    → (xs : List ℕ) (es : List Exp) (p : Tree) → AllByRecursion (λ (y : Name × Kind). has_declared p y.0.0 ≡ false) ys
-    → pairs_kept (environment S) xs es ≡ true → Keeps (environment S) (seq (two (assignment xs es) p))
-    → Leads S (seq (two (assignment xs es) p)) (declaring_all ys (seq (two (assignment (xs ++ variables ys) (es ++ cleared ys)) p)))
-declared_round S [] kept all xs es p off pairs k =
-    subst (λ l. Leads S (seq (two (assignment xs es) p)) (seq (two (assignment l (es ++ [])) p))) (sym (append-nil xs))
-    (subst (λ l. Leads S (seq (two (assignment xs es) p)) (seq (two (assignment xs l) p))) (sym (append-nil es)) (leads_itself S (seq (two (assignment xs es) p))))
-declared_round S ((name, Chan w d) ∷ ys) kept all xs es p off pairs k = absurd all.0
-declared_round S ((name, Var w) ∷ ys) kept all xs es p off pairs k =
-    let y = name.0 in
-    let T = S ++ (name, Var w) ∷ [] in
-    let more = xs ++ y ∷ [] in
-    let sides = es ++ constant w 0 ∷ [] in
-    let long : scope_kept (T ++ ys) ≡ true = subst (λ U. scope_kept U ≡ true) (sym (append_assoc S ((name, Var w) ∷ []) ys)) kept in
-    let new = last_new S name (Var w) (scope_front T ys long) in
-    let come = pair_comes S y w xs es (constant w 0) new.new new.width pairs (constant_type (environment S) w 0 new.width (pow_pos (bits_of w))) in
-    let first = first_leads S (one p) (law_leads_back S 55 come) in
-    let round = round_last S y w (assign more sides) p (leads_keep S new.kept k first) off.0 in
-    let outer = leads_on S first (law_leads_back S 50 round) in
-    let inner = declared_keeps S y w (seq (two (assign more sides) p)) round.left in
-    let named = last_assigned xs y sides in
-    let further = declared_round T ys long all.1 more sides p off.1
-    (assign_pairs (environment T) more sides (first_keeps (environment T) (assign more sides) (one p) inner))
-    (subst (λ a. Keeps (environment T) (seq (two a p))) named inner) in
-    let same : declaring_all ys (seq (two (assignment (more ++ variables ys) (sides ++ cleared ys)) p))
-    ≡ declaring_all ys (seq (two (assignment (xs ++ y ∷ variables ys) (es ++ constant w 0 ∷ cleared ys)) p)) =
-    λ i. declaring_all ys (seq (two (assignment (append_assoc xs (y ∷ []) (variables ys) i) (append_assoc es (constant w 0 ∷ []) (cleared ys) i)) p)) in
-    leads_on S outer (declared_leads S y w
-    (subst (λ z. Leads T (seq (two (assign more sides) p)) z) same
-    (subst (λ a. Leads T (seq (two a p)) (declaring_all ys (seq (two (assignment (more ++ variables ys) (sides ++ cleared ys)) p)))) (sym named) further)))
+-- ---- names in scope
 
-own_pairs : (S : List (Name × Kind)) (xs : List ℕ) → AreVariables (environment S) xs → pairs_kept (environment S) xs (own_values xs) ≡ true
-own_pairs S [] a = refl
-own_pairs S (x ∷ xs) a = assign_pairs (environment S) (x ∷ xs) (own_values (x ∷ xs)) (id_law_back S (x ∷ xs) refl a).left
+known_first : (b : Bool) (k : Kind) (o : Option Kind) → b ≡ true → is_none (cond b (Some k) o) ≡ false
+known_first true k o e = refl
+known_first false k o e = cc
 
--- ---- states of the scope
+known_later : (b : Bool) (k : Kind) (o : Option Kind) → is_none o ≡ false → is_none (cond b (Some k) o) ≡ false
+known_later true k o e = refl
+known_later false k o e = e
 
-held_state : (T : List (Name × Kind)) (s : Values) → AllByRecursion (IsHeld s) T → IsState (environment T) s
-held_state [] s all x w e = none_not_some e
-held_state (t ∷ T) s all x w e = at t.1 all.0 (x == t.0.0) refl e (held_state T s all.1 x w)
+either : (a b : Bool) → (a || b) ≡ true → (a ≡ true) ⊎ (b ≡ true)
+either true b e = inl refl
+either false b e = inr e
+
+variable_known : (A Y : List (Name × Kind)) (t : ℕ) → is_in (variables A) t ≡ true → is_none (environment (A ++ Y) t) ≡ false
+variable_known [] Y t e = cc
+variable_known ((name, Chan w d) ∷ A) Y t e = known_later (eqb t name.0) (Chan w d) (environment (A ++ Y) t) (variable_known A Y t e)
+variable_known ((name, Var w) ∷ A) Y t e = at (λ f. variable_known A Y t f) (either (eqb t name.0) (is_in (variables A) t) e)
   where
-    at : (k : Kind) → IsHeld s (t.0, k) → (b : Bool) → (x == t.0.0) ≡ b → variable_kind (if b then Some k else environment T x) ≡ Some w
-        → (variable_kind (environment T x) ≡ Some w → s x < 2 ^ bits_of w) → s x < 2 ^ bits_of w
-    at (Var v) h true i f ih =
-        let same : v ≡ w = some_is f in
-        subst (λ z. s x < 2 ^ bits_of z) same (subst (λ z. s z < 2 ^ bits_of v) (sym (eqb-true x t.0.0 i)) h)
-    at (Chan v d) h true i f ih = none_not_some f
-    at k h false i f ih = ih f
+    at : (is_in (variables A) t ≡ true → is_none (environment (A ++ Y) t) ≡ false) → (eqb t name.0 ≡ true) ⊎ (is_in (variables A) t ≡ true) → is_none (cond (eqb t name.0) (Some (Var w)) (environment (A ++ Y) t)) ≡ false
+    at further (inl f) = known_first (eqb t name.0) (Var w) (environment (A ++ Y) t) f
+    at further (inr f) = known_later (eqb t name.0) (Var w) (environment (A ++ Y) t) (further f)
 
-all_together : (P : Name × Kind → Type 0) (S I : List (Name × Kind)) → AllByRecursion P S → AllByRecursion P I → AllByRecursion P (S ++ I)
-all_together P [] I f g = g
-all_together P (s ∷ S) I f g = (f.0, all_together P S I f.1 g)
+known_behind : (X A : List (Name × Kind)) (t : ℕ) → is_none (environment A t) ≡ false → is_none (environment (X ++ A) t) ≡ false
+known_behind [] A t e = e
+known_behind (x ∷ X) A t e = known_later (eqb t x.0.0) x.1 (environment (X ++ A) t) (known_behind X A t e)
 
-zeros_held : (s : Values) (I : List (Name × Kind)) → AllByRecursion (λ (t : Name × Kind). s t.0.0 ≡ 0) I → AllByRecursion (IsHeld s) I
-zeros_held s [] all = tt
-zeros_held s ((name, Chan w d) ∷ I) all = (tt, zeros_held s I all.1)
-zeros_held s ((name, Var w) ∷ I) all = (subst (λ n. n < 2 ^ bits_of w) (sym all.0) (pow_pos (bits_of w)), zeros_held s I all.1)
+pub target_known : (h : Header) (ys : List (Name × Kind)) (t : ℕ) → is_target h t ≡ true → is_none (environment (scope_of h ++ ys) t) ≡ false
+target_known h ys t e =
+    subst (λ U. is_none (environment U t) ≡ false) (sym (append_assoc h.params h.inputs ys)) (known_behind h.params (h.inputs ++ ys) t (variable_known h.inputs ys t e))
 
-zero_of : (s : Values) (I : List (Name × Kind)) → AllByRecursion (λ (t : Name × Kind). s t.0.0 ≡ 0) I → (x : ℕ) → is_in (variables I) x ≡ true → s x ≡ 0
-zero_of s [] all x h = false_not_true h
-zero_of s ((name, Chan w d) ∷ I) all x h = zero_of s I all.1 x h
-zero_of s ((name, Var w) ∷ I) all x h =
-    elim (or_cases (x == name.0) (is_in (variables I) x) h) [ inl i ↦ ap s (eqb-true x name.0 i) ∙ all.0 | inr i ↦ zero_of s I all.1 x i ]
+pub target_other : (h : Header) (ys : List (Name × Kind)) (t y : ℕ) → is_target h t ≡ true → environment (scope_of h ++ ys) y ≡ None → eqb t y ≡ false
+target_other h ys t y e n = at (eqb t y) refl
+  where
+    both : is_none (environment (scope_of h ++ ys) y) ≡ true → is_none (environment (scope_of h ++ ys) y) ≡ false → ⊥
+    both f g = not_both (is_none (environment (scope_of h ++ ys) y)) f g
+      where
+        not_both : (b : Bool) → b ≡ true → b ≡ false → ⊥
+        not_both true f g = cc
+        not_both false f g = cc
 
--- ---- the choices
+    at : (b : Bool) → eqb t y ≡ b → b ≡ false
+    at true f = absurd (both (ap is_none n) (subst (λ z. is_none (environment (scope_of h ++ ys) z) ≡ false) (eqb-true t y f) (target_known h ys t e)))
+    at false f = refl
 
-filled_assigned : (zs : List ℕ) (es : List Exp) → is_pair zs ≡ true → assignment zs es ≡ assign zs es
-filled_assigned [] es h = cc
-filled_assigned (z ∷ zs) es h = refl
+pub pair_more : (T U : List (Name × Kind)) → is_pair (variables T) ≡ true → is_pair (variables (T ++ U)) ≡ true
+pair_more [] U e = cc
+pair_more ((name, Chan w d) ∷ T) U e = pair_more T U e
+pair_more ((name, Var w) ∷ T) U e = refl
 
--- each process with another one behind it
-abbrev each_before : List Tree → Tree → List Tree
-each_before [] p = []
-each_before (q ∷ qs) p = seq (two q p) ∷ each_before qs p
+-- ---- one variable more
 
-before_each : (test : ℕ → Exp) (k : ℕ) (qs : List Tree) (p : Tree) → each_case_before (numbered test k qs) (one p) ≡ numbered test k (each_before qs p)
-before_each test k [] p = refl
-before_each test k (q ∷ qs) p = ap (and_case (test k) (seq (two q p))) (before_each test (k + 1) qs p)
+abbrev Y : ℕ → Width → List (Name × Kind)
+Y y w = (record { 0 = y }, Var w) ∷ []
 
--- ---- a body begins
+hidden_not : (b f : Bool) → b ≡ false → (not b && f) ≡ false → f ≡ false
+hidden_not true f e g = cc
+hidden_not false f e g = g
 
-module _ (h : Header) (is : IsHeader h) (p : Tree) (keeps : Keeps (environment h.params) p) (few : IsFew (scope_of h) p) (away : IsAway h p)
-    (bits : bits_of_scope h.params ≤ 16) (filled : is_pair (variables (scope_of h)) ≡ true) where
-  abbrev S : List (Name × Kind)
-  S = h.params
+pub left_within : (h : Header) (ys : List (Name × Kind)) (y : ℕ) (w : Width) (p : Tree) → IsLeft h ys (declare y w p) → IsLeft h (ys ++ Y y w) p
+left_within h ys y w p l =
+    let o = opened (environment (scope_of h ++ ys)) y w (Var w) p l.keeps.types in
+    let same = append_assoc (scope_of h) ys (Y y w) in
+    record {
+      scope = subst (λ U. scope_kept U ≡ true) same (scope_kept-push (scope_of h ++ ys) (record { 0 = y }) (Var w) l.scope o.new o.width);
+      vars = all_both (λ (z : Name × Kind). IsVariable z.1) ys (Y y w) l.vars (tt, tt);
+      filled = subst (λ U. is_pair (variables U) ≡ true) same (pair_more (scope_of h ++ ys) (Y y w) l.filled);
+      keeps = subst (λ U. Keeps (environment U) p) same (declared_keeps (scope_of h ++ ys) y w p l.keeps);
+      few = subst (λ U. IsFew U p) same l.few;
+      spared = λ t g. hidden_not (eqb t y) (free p t) (target_other h ys t y g o.new) (l.spared t g);
+    }
 
-  abbrev T : List (Name × Kind)
-  T = scope_of h
+pub clear_within : (h : Header) (ys : List (Name × Kind)) (s : Values) (y v : ℕ) (w : Width) → IsClear h ys s → environment (scope_of h ++ ys) y ≡ None → v < 2 ^ bits_of w
+    → IsClear h (ys ++ Y y w) (with_value s y v)
+clear_within h ys s y v w c n small = record {
+  state = subst (λ U. IsState (environment U) (with_value s y v)) (append_assoc (scope_of h) ys (Y y w)) here;
+  clear = λ t g. ap (λ b. cond b v (s t)) (target_other h ys t y g n) ∙ c.clear t g;
+}
+  where
+    pushed : (x : ℕ) → environment ((scope_of h ++ ys) ++ Y y w) x ≡ cond (eqb x y) (Some (Var w)) (environment (scope_of h ++ ys) x)
+    pushed x = ap (λ Γ. Γ x) (environment-push (scope_of h ++ ys) (record { 0 = y }) (Var w) n)
 
-  front : scope_kept S ≡ true
-  front = scope_front S h.inputs is.kept
+    by : (x : ℕ) (u : Width) (b : Bool) → variable_kind (cond b (Some (Var w)) (environment (scope_of h ++ ys) x)) ≡ Some u → cond b v (s x) < 2 ^ bits_of u
+    by x u true e = subst (λ z. v < 2 ^ bits_of z) (some_is e) small
+    by x u false e = c.state x u e
 
-  off_all : (ts : List (Name × Kind)) → AllByRecursion (λ (t : Name × Kind). IsVariable t.1 × (environment S t.0.0 ≡ None)) ts
-      → AllByRecursion (λ (t : Name × Kind). is_in (variables S) t.0.0 ≡ false) ts
-  off_all [] all = tt
-  off_all (t ∷ ts) all = (not_variable S t.0.0 all.0.1, off_all ts all.1)
+    here : IsState (environment ((scope_of h ++ ys) ++ Y y w)) (with_value s y v)
+    here x u e = by x u (eqb x y) (sym (ap variable_kind (pushed x)) ∙ e)
 
-  off : AllByRecursion (λ (t : Name × Kind). is_in (variables S) t.0.0 ≡ false) h.inputs
-  off = off_all h.inputs is.declared
+begun : (h : Header) (n : ℕ) (ys : List (Name × Kind)) (s : Values) (y : ℕ) (w : Width) (p : Tree) (b : Waiting × Tree) → IsLeft h ys (declare y w p) → IsClear h ys s
+    → weight (declare y w p) ≤ n → BeginsWith (scope_of h ++ ys) s y w p b → IsOpenBranch h n (b.0, declaring_all ys b.1)
+begun h n ys s y w p b l c below i =
+    let o = opened (environment (scope_of h ++ ys)) y w (Var w) p l.keeps.types in
+    let s' : Values = with_value s y i.value in
+    subst (λ (z : Waiting × Tree). IsOpenBranch h n (z.0, declaring_all ys z.1)) (sym i.form)
+    (at_once (declaring_all ys (declare y w (seq (two (told ((scope_of h ++ ys) ++ Y y w) s') p)))) (record {
+      ys = ys ++ Y y w;
+      state = s';
+      left = p;
+      form = declaring_behind ys y w (seq (two (told ((scope_of h ++ ys) ++ Y y w) s') p))
+          ∙ ap (λ U. declaring_all (ys ++ Y y w) (seq (two (told U s') p))) (append_assoc (scope_of h) ys (Y y w));
+      is_left = left_within h ys y w p l;
+      is_clear = clear_within h ys s y i.value w c o.new i.small;
+      light = omega (arith, below);
+    }))
 
-  abbrev begin : ℕ → Values
-  begin k = start S h.inputs is.kept filled bits off front k
+all_begun : (h : Header) (n : ℕ) (ys : List (Name × Kind)) (s : Values) (y : ℕ) (w : Width) (p : Tree) (bs : List (Waiting × Tree)) → IsLeft h ys (declare y w p)
+    → IsClear h ys s → weight (declare y w p) ≤ n → AllByRecursion (BeginsWith (scope_of h ++ ys) s y w p) bs → AllByRecursion (IsOpenBranch h n) (each_declaring ys bs)
+all_begun h n ys s y w p [] l c below all = tt
+all_begun h n ys s y w p (b ∷ bs) l c below all = (begun h n ys s y w p b l c below all.0, all_begun h n ys s y w p bs l c below all.1)
 
-  zeros : (k : ℕ) → AllByRecursion (λ (t : Name × Kind). begin k t.0.0 ≡ 0) h.inputs
-  zeros k = zeros_there S h.inputs is.kept filled bits off front k h.inputs off
-
-  state_of_all : (k : ℕ) → IsState (environment T) (begin k)
-  state_of_all k =
-      held_state T (begin k) (all_together (IsHeld (begin k)) S h.inputs
-      (all_held (environment S) S (begin k) (start_state S h.inputs is.kept filled bits off front k) (all_listed S front))
-      (zeros_held (begin k) h.inputs (zeros k)))
-
-  abbrev choice : ℕ → Tree
-  choice k = in_state T [] (begin k) p
-
-  abbrev choices : ℕ → ℕ → List Tree
-  choices k zero = []
-  choices k (suc m) = choice k ∷ choices (k + 1) m
-
-  choices_count : (k m : ℕ) → length (choices k m) ≡ m
-  choices_count k zero = refl
-  choices_count k (suc m) = ap suc (choices_count (k + 1) m)
-
-  no_more : T ≡ T ++ []
-  no_more = sym (append-nil T)
-
-  scope_keeps : Keeps (environment T) p → IsLeft h [] p
-  scope_keeps k = record {
-    scope = subst (λ U. scope_kept U ≡ true) no_more is.kept;
-    vars = tt;
-    filled = subst (λ U. is_pair (variables U) ≡ true) no_more filled;
-    keeps = subst (λ U. Keeps (environment U) p) no_more k;
-    few = subst (λ U. IsFew U p) no_more few;
-    spared = away.spared;
-  }
-
-  is_configured : Keeps (environment T) p → (k : ℕ) → IsConfigured h (weight p + 1) (choice k)
-  is_configured keeps_so k = record {
-    ys = [];
-    state = begin k;
-    left = p;
-    form = refl;
-    is_left = scope_keeps keeps_so;
-    is_clear = record {
-      state = subst (λ U. IsState (environment U) (begin k)) no_more (state_of_all k);
-      clear = λ t e. zero_of (begin k) h.inputs (zeros k) t e;
-    };
-    light = omega arith;
-  }
-
-  all_configured : Keeps (environment T) p → (k m : ℕ) → AllByRecursion (IsConfigured h (weight p + 1)) (choices k m)
-  all_configured keeps_so k zero = tt
-  all_configured keeps_so k (suc m) = (is_configured keeps_so k, all_configured keeps_so (k + 1) m)
-
-  told_each : (k m : ℕ) → each_before (tolds S h.inputs is.kept filled bits off front k m) p ≡ choices k m
-  told_each k zero = refl
-  told_each k (suc m) = λ i. seq (two (told (no_more i) (begin k)) p) ∷ told_each (k + 1) m i
-
-  pub bodies_begin : HasBegun h (weight p + 1) p
-  bodies_begin =
-      let I = h.inputs in
-      let xs = variables S in
-      let zs = variables T in
-      let gs = own_values xs ++ cleared I in
-      let vars = only_variables h I is.declared in
-      let size = 2 ^ bits_of_scope S in
-      let are = scope_variables (environment S) S front (all_listed S front) in
-      let first = keeps_itself S front xs refl p keeps in
-      let second = declared_round S I is.kept vars xs (own_values xs) p away.declared (own_pairs S xs are) (leads_keep S front keeps first) in
-      let named : assignment (xs ++ variables I) gs ≡ assign zs gs = ap (λ l. assignment l gs) (sym (variables_append S I)) ∙ filled_assigned zs gs filled in
-      let outer : Leads S p (declaring_all I (seq (two (assign zs gs) p))) =
-      subst (λ a. Leads S p (declaring_all I (seq (two a p)))) named (leads_on S first second) in
-      let inner = within_keeps S I (seq (two (assign zs gs) p)) vars (leads_keep S front keeps outer) in
-      let table = becomes_table S I is.kept filled bits off front
-      (λ k. told_keeps T (begin k) (record { scope = is.kept; filled = filled; state = state_of_all k })) (first_keeps (environment T) (assign zs gs) (one p) inner) in
-      let third = first_leads T (one p) table in
-      let law = if_law T (numbered (initial h) 0 (tolds S I is.kept filled bits off front 0 size)) (one p) (leads_keep T is.kept inner third) in
-      let same : each_case_before (numbered (initial h) 0 (tolds S I is.kept filled bits off front 0 size)) (one p) ≡ numbered (initial h) 0 (choices 0 size) =
-      before_each (initial h) 0 (tolds S I is.kept filled bits off front 0 size) p ∙ ap (numbered (initial h) 0) (told_each 0 size) in
-      let last : Leads T (seq (two (assign zs gs) p)) (select (numbered (initial h) 0 (choices 0 size))) =
-      leads_on T third (subst (λ c. Leads T (seq (two (select (numbered (initial h) 0 (tolds S I is.kept filled bits off front 0 size))) p)) (select c)) same (law_leads T 12 law)) in
-      record {
-        parts = choices 0 size;
-        count = choices_count 0 size;
-        each = all_configured (first_keeps (environment T) p no_tree (rest_keeps (environment T) (assign zs gs) (one p) inner)) 0 size;
-        leads = leads_on S outer (declaring_leads S I vars last);
-      }
+pub variable_opens : (h : Header) → IsHeader h → (n : ℕ) (ys : List (Name × Kind)) (s : Values) (y : ℕ) (w : Width) (p : Tree) → IsLeft h ys (declare y w p)
+    → IsClear h ys s → weight (declare y w p) ≤ n → ComesTo h (IsOpenBranch h n) (in_state (scope_of h) ys s (declare y w p))
+variable_opens h is n ys s y w p l c below =
+    let T = scope_of h ++ ys in
+    let i = told_in h ys (declare y w p) s l c in
+    let b = declared_begins T s y w p i l.keeps in
+    let a = state_leads h ys s (declare y w p) (alt (guarded b.branches)) l b.leads in
+    let k = declaring_keeps (scope_of h) ys (seq (two (told T s) (declare y w p))) l.vars l.scope (both_keep T s (declare y w p) i l.keeps) in
+    let into = declarations_go_in (scope_of h) ys b.branches l.vars (none_named T s y w p b.branches ys b.each) l.scope (leads_keep (scope_of h) is.kept k a) in
+    record {
+      part = alt (guarded (each_declaring ys b.branches));
+      leads = leads_on (scope_of h) a into;
+      outcome = goes_on (each_declaring ys b.branches) (all_begun h n ys s y w p b.branches l c below b.each);
+    }

@@ -2,34 +2,34 @@
 use Rattle.std.proofs.Common.{◌≡◌, ◌∙◌, ◌++◌, ◌&&◌, ℕ, suc, true, List, [], ◌∷◌, length, map, refl, sym, ap, subst, inl, inr}
 use Rattle.std.proofs.lemmas.Bool.{and_parts}
 use Rattle.std.proofs.lemmas.List.{append_assoc}
-use Rattle.occ_complete_events.specs.occ_base.declared.names.Name.{Name}
-use Rattle.occ_complete_events.specs.occ_behaviour.States.{is_state}
-use Rattle.occ_complete.proofs.Parting.{end_parted}
+use Rattle.occ_engine.specs.occ_base.declared.names.Name.{Name}
+use Rattle.occ_complete_states.specs.occ_behaviour.States.{is_state}
+use Rattle.occ_complete.proofs.ProgramParting.{end_parted}
 use Rattle.occ_complete.specs.Clearing.{and_then, with_clearing}
 use Rattle.occ_complete.specs.Followed.{renewed, with_next}
-use Rattle.occ_complete_events.specs.occ_derive_moves.Unified.{cleared, ending_cleared}
-use Rattle.occ_complete_events.proofs.from_derive_laws.Behind.{alt_law_back, if_law_back}
-use Rattle.occ_complete_events.proofs.from_derive_laws.Turns.{none_keeps, with_first}
-use Rattle.occ_complete_events.proofs.from_complete_states.Leading.{law_leads_back, leads_keep, leads_on}
-use Rattle.occ_complete_events.proofs.from_complete_states.Pointwise.{branches_lead, cases_lead}
-use Rattle.occ_complete_events.specs.occ_complete_states.Leads.{BranchesLead, CasesLead, Leads, and_branches, and_cases, no_branches, no_cases}
-use Rattle.occ_complete_events.specs.occ_complete_states.Nodes.{process_cleared}
-use Rattle.occ_complete_events.specs.occ_complete_states.States.{scope_of}
-use Rattle.occ_complete_events.proofs.from_complete_states.Beginning.{constant_stays}
-use Rattle.occ_complete_events.specs.occ_law.Sequence.{each_branch_before, each_case_before}
-use Rattle.occ_complete_events.specs.occ_meaning.Parallel.{one}
-use Rattle.occ_complete_events.specs.occ_meaning.Substitution.{substituted}
-use Rattle.occ_complete_events.specs.occ_nform_table.Lists.{In}
-use Rattle.occ_complete_events.specs.occ_syntax.declared.scope.Kind.{Kind}
-use Rattle.occ_complete_events.specs.occ_syntax.declared.scope.Kind.TheVariants.{Chan, Var}
-use Rattle.occ_complete_events.specs.occ_syntax.Scopes.{Environment, environment}
-use Rattle.occ_complete_events.specs.occ_syntax.Tree.{Branches, Cases, Exp, Tree, Waiting, alt, and_branch, and_case, assign, no_branch, no_case, no_tree, ready, select, seq, truth}
-use Rattle.occ_complete_events.specs.occ_syntax.Types.{branches_kept, is_condition, is_pair, scope_kept, types_kept, waiting_kept}
-use Rattle.occ_complete_events.specs.occ_syntax.Usage.{Keeps}
-use Rattle.occ_complete_events.specs.occ_target.Rows.{guarded}
-use Rattle.occ_complete_events.specs.occ_target.States.{constant, constants, ending, variables}
-use Rattle.occ_complete_events.proofs.from_target_laws.Lists.{in_left, in_map, in_right}
-use Rattle.occ_complete_events.specs.occ_target_laws.Shapes.{Header, Node, accepting, ending_in, process_of}
+use Rattle.occ_complete_states.specs.occ_derive_moves.Unified.{cleared, ending_cleared}
+use Rattle.occ_complete_states.proofs.from_derive_laws.Behind.{alt_law_back, if_law_back}
+use Rattle.occ_complete_states.proofs.from_derive_laws.Turns.{none_keeps, with_first}
+use Rattle.occ_complete_states.proofs.Leading.{law_leads_back, leads_keep, leads_on}
+use Rattle.occ_complete_states.proofs.Pointwise.{branches_lead, cases_lead}
+use Rattle.occ_complete_states.specs.Leads.{BranchesLead, CasesLead, Leads, and_branches, and_cases, no_branches, no_cases}
+use Rattle.occ_complete_states.specs.Nodes.{process_cleared}
+use Rattle.occ_complete_states.specs.States.{scope_of}
+use Rattle.occ_complete_states.proofs.Beginning.{constant_stays}
+use Rattle.occ_engine.specs.occ_law.Sequence.{each_branch_before, each_case_before}
+use Rattle.occ_engine.specs.occ_meaning.Parallel.{one}
+use Rattle.occ_engine.specs.occ_meaning.Substitution.{substituted}
+use Rattle.occ_complete_states.specs.occ_nform_table.Lists.{In}
+use Rattle.occ_engine.specs.occ_syntax.declared.scope.Kind.{Kind}
+use Rattle.occ_engine.specs.occ_syntax.declared.scope.Kind.TheVariants.{Chan, Var}
+use Rattle.occ_engine.specs.occ_syntax.Scopes.{Environment, environment}
+use Rattle.occ_engine.specs.occ_syntax.Tree.{Branches, Cases, Exp, Tree, Waiting, alt, and_branch, and_case, assign, no_branch, no_case, no_tree, ready, select, seq, truth}
+use Rattle.occ_engine.specs.occ_syntax.Types.{branches_kept, is_condition, is_pair, scope_kept, types_kept, waiting_kept}
+use Rattle.occ_engine.specs.occ_syntax.Usage.{Keeps}
+use Rattle.occ_complete_states.specs.occ_target.Rows.{guarded}
+use Rattle.occ_complete_states.specs.occ_target.States.{constant, constants, ending, variables}
+use Rattle.occ_complete_states.proofs.from_target_laws.Lists.{in_left, in_map, in_right}
+use Rattle.occ_complete_states.specs.occ_target_laws.Shapes.{Header, Node, accepting, ending_in, process_of}
 
 -- ---- IFs and ALTs
 

@@ -2,26 +2,27 @@
 use Rattle.std.proofs.Common.{◌≡◌, ◌∙◌, ℕ, suc, ◌+◌, ◌≤◌, ◌<◌, Bool, true, false, if◌then◌else◌, is_none, nat_le, List, [], ◌∷◌, ◌++◌, Some, None, refl, sym, ap, inl, inr, ◌⊎◌, arith}
 use Rattle.std.proofs.lemmas.Bool.{and_parts, leb-true, ne_eqb, true≢false}
 use Rattle.std.specs.List.{AllByRecursion}
-use Rattle.occ_complete_events.specs.occ_base.declared.event.Dir.TheVariants.{Input}
-use Rattle.occ_complete_events.specs.occ_base.declared.names.Name.{Name}
-use Rattle.occ_complete_events.specs.occ_base.declared.width.Width.{Width}
-use Rattle.occ_complete_events.specs.occ_base.declared.width.Width.TheVariants.{Bool as Truth, Word}
-use Rattle.occ_complete_events.specs.occ_base.Width.{IsWidth}
-use Rattle.occ_complete.proofs.Headers.{AreApart, AreOff, IsFound, same_is, same_itself, scope_added, target_there, width_in, widths_fit}
+use Rattle.occ_engine.specs.occ_base.declared.event.Dir.TheVariants.{Input}
+use Rattle.occ_engine.specs.occ_base.declared.names.Name.{Name}
+use Rattle.occ_engine.specs.occ_base.declared.width.Width.{Width}
+use Rattle.occ_engine.specs.occ_base.declared.width.Width.TheVariants.{Bool as Truth, Word}
+use Rattle.occ_engine.specs.occ_base.Width.{IsWidth}
+use Rattle.occ_complete.proofs.Headers.{AreApart, AreOff, IsFound, scope_added, target_there, width_in, widths_fit}
 use Rattle.occ_complete.specs.Meeting.{AreMarked}
-use Rattle.occ_complete_events.proofs.from_complete_states.Fresh.{scope_below, top_of_scope}
-use Rattle.occ_complete_events.specs.occ_complete_states.Headers.{IsHeader}
-use Rattle.occ_complete_events.specs.occ_nform_table.Lines.{HasWidth, HaveWidths}
-use Rattle.occ_complete_events.proofs.from_nform_table.Events.{kind_holds}
-use Rattle.occ_complete_events.specs.occ_nform_table.Lists.{In}
-use Rattle.occ_complete_events.specs.occ_syntax.declared.scope.Kind.{Kind}
-use Rattle.occ_complete_events.specs.occ_syntax.declared.scope.Kind.TheVariants.{Chan, Var}
-use Rattle.occ_complete_events.specs.occ_syntax.Scopes.{environment}
-use Rattle.occ_complete_events.specs.occ_syntax.Types.{can_declare, is_width, scope_kept, width_of_kind}
-use Rattle.occ_complete_events.specs.occ_target.Inputs.{all_widths, same_width}
-use Rattle.occ_complete_events.specs.occ_target.Rows.{variable_of}
-use Rattle.occ_complete_events.specs.occ_target_laws.Bodies.{IsVariable}
-use Rattle.occ_complete_events.specs.occ_target_laws.Shapes.{Header}
+use Rattle.occ_complete_states.proofs.Fresh.{scope_below, top_of_scope}
+use Rattle.occ_complete_states.specs.Headers.{IsHeader}
+use Rattle.occ_complete_states.specs.occ_nform_table.Lines.{HasWidth, HaveWidths}
+use Rattle.occ_complete_states.proofs.from_nform_table.Events.{kind_holds}
+use Rattle.occ_complete_states.specs.occ_nform_table.Lists.{In}
+use Rattle.occ_engine.specs.occ_syntax.declared.scope.Kind.{Kind}
+use Rattle.occ_engine.specs.occ_syntax.declared.scope.Kind.TheVariants.{Chan, Var}
+use Rattle.occ_engine.specs.occ_syntax.Scopes.{environment}
+use Rattle.occ_engine.specs.occ_syntax.Types.{can_declare, is_width, scope_kept, width_of_kind, same_width}
+use Rattle.occ_complete_states.specs.occ_target.Inputs.{all_widths}
+use Rattle.occ_complete_states.specs.occ_target.Rows.{variable_of}
+use Rattle.occ_complete_states.specs.occ_target_laws.Bodies.{IsVariable}
+use Rattle.occ_complete_states.specs.occ_target_laws.Shapes.{Header}
+use Rattle.occ_engine.proofs.from_syntax.Widths.{same_as_itself, same_widths}
 
 abbrev from : ℕ → List Width → List (Name × Kind)
 from n [] = []
@@ -68,10 +69,10 @@ found S n (v ∷ ws) w i = at (same_width w v) refl (λ j. found S (suc n) ws w 
       front = [];
       rest = more;
       name = name;
-      parts = λ k. (name, Var (sym (same_is S w v e) k)) ∷ more;
+      parts = λ k. (name, Var (sym (same_widths w v e) k)) ∷ more;
       is = ap (λ b. if b then n else variable_of more w) e;
     }
-    at false e ih (inl f) = absurd (true≢false (sym (ap (same_width w) (sym f) ∙ same_itself S w) ∙ e))
+    at false e ih (inl f) = absurd (true≢false (sym (ap (same_width w) (sym f) ∙ same_as_itself w) ∙ e))
     at false e ih (inr j) =
         let r = ih j in
         record {

@@ -1,46 +1,46 @@
 -- Each part leads to a body of normal shape, and so to the normal body of its table.
 use Rattle.std.proofs.Common.{◌≡◌, ◌+◌, ◌≤◌, List, true, refl, subst, sym}
-use Rattle.occ_complete_events.specs.occ_base.declared.names.Name.{Name}
+use Rattle.occ_engine.specs.occ_base.declared.names.Name.{Name}
 use Rattle.occ_complete.proofs.Headers.{tables_have_headers}
 use Rattle.occ_complete.proofs.Unfilled.{body_begins}
 use Rattle.occ_complete.proofs.Whole.{bodies_are_shaped}
 use Rattle.occ_complete.specs.Begun.{HasShapedBody}
 use Rattle.occ_complete.specs.Tables.{header_of}
-use Rattle.occ_complete.specs.Ways.{Settles}
+use Rattle.occ_complete.specs.ProgramWays.{Settles}
 use Rattle.occ_complete.proofs.Apart.{nowhere, numbers_of}
 use Rattle.occ_complete.proofs.Few.{is_few}
 use Rattle.occ_complete.proofs.ExistsHeaders.{have_widths, own_header, own_is_header}
 use Rattle.occ_complete.specs.Meeting.{AreMarked, Meet}
-use Rattle.occ_complete_events.specs.occ_derive_moves.Weight.{weight}
-use Rattle.occ_complete_events.proofs.Freeing.{part_freed}
-use Rattle.occ_complete_events.proofs.from_complete_states.Given.{given_told}
-use Rattle.occ_complete_events.proofs.from_complete_states.Leading.{leads_on, sparing_leads, spares_keep}
-use Rattle.occ_complete_events.specs.occ_complete_states.Few.{IsFew}
-use Rattle.occ_complete_events.specs.occ_complete_states.Headers.{IsHeader}
-use Rattle.occ_complete_events.specs.occ_complete_states.Leads.{Leads}
-use Rattle.occ_complete_events.proofs.from_derive_moves.Keeping.{AreSound, works_same}
-use Rattle.occ_complete_events.proofs.Unifying.{alternatives_unify}
-use Rattle.occ_complete_events.proofs.Settling.{superposition_settles}
-use Rattle.occ_complete_events.proofs.from_meaning.Alike.{same_back, same_through}
-use Rattle.occ_complete_events.specs.occ_nform_table.Behaviours.{Stands}
-use Rattle.occ_complete_events.specs.occ_nform_table.Normal.{Parts}
-use Rattle.occ_complete_events.specs.occ_nform_table.Tables.{IsNormal}
-use Rattle.occ_complete_events.specs.occ_syntax.declared.scope.Kind.{Kind}
-use Rattle.occ_complete_events.specs.occ_syntax.declared.scope.Program.{Program}
-use Rattle.occ_complete_events.specs.occ_syntax.Counts.{bits_of_scope}
-use Rattle.occ_complete_events.specs.occ_syntax.Same.{SAME}
-use Rattle.occ_complete_events.specs.occ_syntax.Scopes.{environment}
-use Rattle.occ_complete_events.specs.occ_syntax.Tree.{Tree}
-use Rattle.occ_complete_events.specs.occ_syntax.Types.{scope_kept}
-use Rattle.occ_complete_events.specs.occ_syntax.Usage.{Keeps}
-use Rattle.occ_complete_events.specs.occ_syntax.View.{tree}
-use Rattle.occ_complete_events.specs.occ_target.Inputs.{input_widths}
-use Rattle.occ_complete_events.specs.occ_target.Program.{normal_body}
-use Rattle.occ_complete_events.proofs.from_target_laws.Reached.{shaped_programs_are_targets}
-use Rattle.occ_complete_events.proofs.from_target_laws.Fresh.{variables_free}
-use Rattle.occ_complete_events.proofs.from_target_laws.Bodies.{normal_bodies_are_one}
-use Rattle.occ_complete_events.specs.occ_target_laws.Shapes.{Header}
-use Rattle.occ_complete_events.specs.occ_usage.Accepted.{IsAccepted}
+use Rattle.occ_complete_states.specs.occ_derive_moves.Weight.{weight}
+use Rattle.occ_complete.proofs.Freeing.{part_freed}
+use Rattle.occ_complete_states.proofs.Given.{given_told}
+use Rattle.occ_complete_states.proofs.Leading.{leads_on, sparing_leads, spares_keep}
+use Rattle.occ_complete_states.specs.Few.{IsFew}
+use Rattle.occ_complete_states.specs.Headers.{IsHeader}
+use Rattle.occ_complete_states.specs.Leads.{Leads}
+use Rattle.occ_complete_states.proofs.from_derive_moves.Keeping.{AreSound, works_same}
+use Rattle.occ_complete.proofs.Unifying.{alternatives_unify}
+use Rattle.occ_complete.proofs.Settling.{superposition_settles}
+use Rattle.occ_engine.proofs.from_meaning.Alike.{same_back, same_through}
+use Rattle.occ_complete_states.specs.occ_nform_table.Behaviours.{Stands}
+use Rattle.occ_complete_states.specs.occ_nform_table.Normal.{Parts}
+use Rattle.occ_complete_states.specs.occ_nform_table.Tables.{IsNormal}
+use Rattle.occ_engine.specs.occ_syntax.declared.scope.Kind.{Kind}
+use Rattle.occ_engine.specs.occ_syntax.declared.scope.Program.{Program}
+use Rattle.occ_engine.specs.occ_syntax.Counts.{bits_of_scope}
+use Rattle.occ_engine.specs.occ_syntax.Same.{SAME}
+use Rattle.occ_engine.specs.occ_syntax.Scopes.{environment}
+use Rattle.occ_engine.specs.occ_syntax.Tree.{Tree}
+use Rattle.occ_engine.specs.occ_syntax.Types.{scope_kept}
+use Rattle.occ_engine.specs.occ_syntax.Usage.{Keeps}
+use Rattle.occ_engine.specs.occ_syntax.View.{tree}
+use Rattle.occ_complete_states.specs.occ_target.Inputs.{input_widths}
+use Rattle.occ_complete_states.specs.occ_target.Program.{normal_body}
+use Rattle.occ_complete_states.proofs.from_target_laws.Reached.{shaped_programs_are_targets}
+use Rattle.occ_complete_states.proofs.from_target_laws.Fresh.{variables_free}
+use Rattle.occ_complete_states.proofs.from_target_laws.Bodies.{normal_bodies_are_one}
+use Rattle.occ_complete_states.specs.occ_target_laws.Shapes.{Header}
+use Rattle.occ_engine.specs.occ_usage.Accepted.{IsAccepted}
 
 settles : (h : Header) → IsHeader h → Settles h
 settles h is limit ps c = superposition_settles h is limit ps c.each

@@ -1,16 +1,16 @@
 -- The conditions of an accepted program name few bits.
 use Rattle.std.proofs.Common.{◌≡◌, ◌∙◌, ℕ, ◌+◌, ◌≤◌, Bool, true, false, cond, List, [], ◌∷◌, ◌++◌, None, ap, arith}
-use Rattle.occ_complete_events.specs.occ_base.declared.names.Name.{Name}
-use Rattle.occ_complete_events.specs.occ_base.Width.{bits_of}
-use Rattle.occ_complete_events.specs.occ_bits.Named.{bits_named, named_part}
-use Rattle.occ_complete_events.specs.occ_complete_states.Few.{AllFew, BranchesFew, CasesFew, IsFew}
-use Rattle.occ_complete_events.specs.occ_law.Lists.{conditions}
-use Rattle.occ_complete_events.proofs.from_nform_table.Names.{bits_push}
-use Rattle.occ_complete_events.specs.occ_syntax.declared.scope.Kind.{Kind}
-use Rattle.occ_complete_events.specs.occ_syntax.declared.scope.Kind.TheVariants.{Chan, Var}
-use Rattle.occ_complete_events.specs.occ_syntax.Counts.{bits_of_kind, bits_of_scope, most_bits, most_bits_of_all, most_bits_of_branches, most_bits_of_cases}
-use Rattle.occ_complete_events.specs.occ_syntax.Names.{some_names}
-use Rattle.occ_complete_events.specs.occ_syntax.Tree.{Branches, Cases, Exp, Tree, Trees, alt, and_branch, and_case, and_tree, assign, connect, declare, no_branch, no_case, no_tree, par, receive, select, send, seq, skip, stop}
+use Rattle.occ_engine.specs.occ_base.declared.names.Name.{Name}
+use Rattle.occ_engine.specs.occ_base.Width.{bits_of}
+use Rattle.occ_engine.specs.occ_bits.Named.{bits_named, named_part}
+use Rattle.occ_complete_states.specs.Few.{AllFew, BranchesFew, CasesFew, IsFew}
+use Rattle.occ_engine.specs.occ_law.Lists.{conditions}
+use Rattle.occ_complete_states.proofs.from_nform_table.Names.{bits_push}
+use Rattle.occ_engine.specs.occ_syntax.declared.scope.Kind.{Kind}
+use Rattle.occ_engine.specs.occ_syntax.declared.scope.Kind.TheVariants.{Chan, Var}
+use Rattle.occ_engine.specs.occ_syntax.Counts.{bits_of_kind, bits_of_scope, most_bits, most_bits_of_all, most_bits_of_branches, most_bits_of_cases}
+use Rattle.occ_engine.specs.occ_syntax.Names.{some_names}
+use Rattle.occ_engine.specs.occ_syntax.Tree.{Branches, Cases, Exp, Tree, Trees, alt, and_branch, and_case, and_tree, assign, connect, declare, no_branch, no_case, no_tree, par, receive, select, send, seq, skip, stop}
 
 named_few : (S : List (Name × Kind)) (es : List Exp) → bits_named S es ≤ bits_of_scope S
 named_few [] es = omega arith

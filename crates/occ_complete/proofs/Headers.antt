@@ -4,37 +4,38 @@ use Rattle.std.proofs.lemmas.Bool.{eqb-true, or_left, or_right, true≢false}
 use Rattle.std.proofs.lemmas.List.{append_assoc}
 use Rattle.std.proofs.lemmas.Option.{slice_get_within}
 use Rattle.std.specs.List.{AllByRecursion}
-use Rattle.occ_complete_events.proofs.from_base.Naming.{naming}
-use Rattle.occ_complete_events.specs.occ_base.declared.event.Dir.TheVariants.{Input}
-use Rattle.occ_complete_events.specs.occ_base.declared.names.Name.{Name}
-use Rattle.occ_complete_events.specs.occ_base.declared.width.Width.{Width}
-use Rattle.occ_complete_events.specs.occ_base.declared.width.Width.TheVariants.{Bool as Truth, Word}
-use Rattle.occ_complete_events.specs.occ_base.Names.{place_of, with_text}
-use Rattle.occ_complete_events.specs.occ_base.Width.{IsWidth}
+use Rattle.occ_engine.proofs.from_base.Naming.{naming}
+use Rattle.occ_engine.specs.occ_base.declared.event.Dir.TheVariants.{Input}
+use Rattle.occ_engine.specs.occ_base.declared.names.Name.{Name}
+use Rattle.occ_engine.specs.occ_base.declared.width.Width.{Width}
+use Rattle.occ_engine.specs.occ_base.declared.width.Width.TheVariants.{Bool as Truth, Word}
+use Rattle.occ_engine.specs.occ_base.Names.{place_of, with_text}
+use Rattle.occ_engine.specs.occ_base.Width.{IsWidth}
 use Rattle.occ_complete.proofs.Kept.{kind_there}
 use Rattle.occ_complete.specs.Tables.{header_of}
-use Rattle.occ_complete_events.specs.occ_derive_moves.Unified.{is_target}
-use Rattle.occ_complete_events.proofs.from_complete_states.Scopes.{last_new, scope_front}
-use Rattle.occ_complete_events.specs.occ_complete_states.Headers.{IsHeader}
-use Rattle.occ_complete_events.proofs.from_meaning.Facts.{at_itself}
-use Rattle.occ_complete_events.specs.occ_nform_table.Lines.{HasWidth}
-use Rattle.occ_complete_events.specs.occ_nform_table.Normal.{Parts}
-use Rattle.occ_complete_events.specs.occ_nform_table.Tables.{IsNormal}
-use Rattle.occ_complete_events.proofs.from_nform_table.Events.{kind_holds, some_is, none_not_some}
-use Rattle.occ_complete_events.proofs.from_nform_table.Facts.{proper_of}
-use Rattle.occ_complete_events.specs.occ_nform_table.Lists.{In}
-use Rattle.occ_complete_events.proofs.from_script_lines.Scoping.{scope_kept-push}
-use Rattle.occ_complete_events.specs.occ_syntax.declared.scope.Kind.{Kind}
-use Rattle.occ_complete_events.specs.occ_syntax.declared.scope.Kind.TheVariants.{Chan, Var}
-use Rattle.occ_complete_events.specs.occ_syntax.Names.{is_in}
-use Rattle.occ_complete_events.specs.occ_syntax.Scopes.{environment, variable_kind, variable_width}
-use Rattle.occ_complete_events.specs.occ_syntax.Types.{is_width, scope_kept, width_of_kind}
-use Rattle.occ_complete_events.specs.occ_target.Inputs.{all_widths, digit_of, dotted, input_name, input_text, input_variables, input_widths, is_input_of, is_input_width, is_taken, same_width, variables_of}
-use Rattle.occ_complete_events.specs.occ_target.Rows.{variable_of}
-use Rattle.occ_complete_events.specs.occ_target.States.{variables}
-use Rattle.occ_complete_events.specs.occ_target_laws.Bodies.{AreDeclared, IsVariable}
-use Rattle.occ_complete_events.specs.occ_target_laws.Shapes.{Header}
-use Rattle.occ_complete_events.proofs.from_usage.Scoped.{environment-push}
+use Rattle.occ_complete_states.specs.occ_derive_moves.Unified.{is_target}
+use Rattle.occ_complete_states.proofs.Scopes.{last_new, scope_front}
+use Rattle.occ_complete_states.specs.Headers.{IsHeader}
+use Rattle.occ_engine.proofs.from_meaning.Facts.{at_itself}
+use Rattle.occ_complete_states.specs.occ_nform_table.Lines.{HasWidth}
+use Rattle.occ_complete_states.specs.occ_nform_table.Normal.{Parts}
+use Rattle.occ_complete_states.specs.occ_nform_table.Tables.{IsNormal}
+use Rattle.occ_complete_states.proofs.from_nform_table.Events.{kind_holds, some_is, none_not_some}
+use Rattle.occ_complete_states.proofs.from_nform_table.Facts.{proper_of}
+use Rattle.occ_complete_states.specs.occ_nform_table.Lists.{In}
+use Rattle.occ_engine.proofs.from_script_lines.Scoping.{scope_kept-push}
+use Rattle.occ_engine.specs.occ_syntax.declared.scope.Kind.{Kind}
+use Rattle.occ_engine.specs.occ_syntax.declared.scope.Kind.TheVariants.{Chan, Var}
+use Rattle.occ_engine.specs.occ_syntax.Names.{is_in}
+use Rattle.occ_engine.specs.occ_syntax.Scopes.{environment, variable_kind, variable_width}
+use Rattle.occ_engine.specs.occ_syntax.Types.{is_width, scope_kept, width_of_kind, same_width}
+use Rattle.occ_complete_states.specs.occ_target.Inputs.{all_widths, digit_of, dotted, input_name, input_text, input_variables, input_widths, is_input_of, is_input_width, is_taken, variables_of}
+use Rattle.occ_complete_states.specs.occ_target.Rows.{variable_of}
+use Rattle.occ_complete_states.specs.occ_target.States.{variables}
+use Rattle.occ_complete_states.specs.occ_target_laws.Bodies.{AreDeclared, IsVariable}
+use Rattle.occ_complete_states.specs.occ_target_laws.Shapes.{Header}
+use Rattle.occ_engine.proofs.from_usage.Scoped.{environment-push}
+use Rattle.occ_engine.proofs.from_syntax.Widths.{same_as_itself, same_widths}
 
 -- ---- texts: the second byte tells the width
 
@@ -176,16 +177,6 @@ module _ (params : List (Name × Kind)) where
     pub parts : ts ≡ front ++ (name, Var w) ∷ rest
     pub is : variable_of ts w ≡ name.0
 
-  pub same_is : (v w : Width) → same_width v w ≡ true → v ≡ w
-  same_is Truth Truth e = refl
-  same_is Truth (Word b) e = absurd (true≢false (sym e))
-  same_is (Word a) Truth e = absurd (true≢false (sym e))
-  same_is (Word a) (Word b) e = ap Word (eqb-true a b e)
-
-  pub same_itself : (w : Width) → same_width w w ≡ true
-  same_itself Truth = refl
-  same_itself (Word b) = at_itself b
-
   found_one : (names : List (List ℕ)) (ws : List Width) (w : Width) → In w ws → IsFound (variables_of names params ws) w
   unfolding variables_of
   found_one names [] w i = absurd i
@@ -202,10 +193,10 @@ module _ (params : List (Name × Kind)) where
         front = [];
         rest = more;
         name = n;
-        parts = λ k. (n, Var (sym (same_is w v e) k)) ∷ more;
+        parts = λ k. (n, Var (sym (same_widths w v e) k)) ∷ more;
         is = ap (λ b. if b then n.0 else variable_of more w) e;
       }
-      at false e ih (inl f) = absurd (true≢false (sym (ap (same_width w) (sym f) ∙ same_itself w) ∙ e))
+      at false e ih (inl f) = absurd (true≢false (sym (ap (same_width w) (sym f) ∙ same_as_itself w) ∙ e))
       at false e ih (inr j) =
           let r = ih j in
           record {
@@ -244,13 +235,9 @@ input_there : (params : List (Name × Kind)) (c : ℕ) (w : Width) → environme
 input_there [] c w e = none_not_some e
 input_there (p ∷ params) c w e = at (c == p.0.0) e (input_there params c w)
   where
-    itself : (w : Width) → same_width w w ≡ true
-    itself Truth = refl
-    itself (Word b) = at_itself b
-
     at : (b : Bool) → (if b then Some p.1 else environment params c) ≡ Some (Chan w (Some Input))
         → (environment params c ≡ Some (Chan w (Some Input)) → is_input_width params w ≡ true) → is_input_width (p ∷ params) w ≡ true
-    at true k ih = or_left (is_input_of w p.1) (is_input_width params w) (ap (is_input_of w) (some_is k) ∙ itself w)
+    at true k ih = or_left (is_input_of w p.1) (is_input_width params w) (ap (is_input_of w) (some_is k) ∙ same_as_itself w)
     at false k ih = or_right (is_input_of w p.1) (is_input_width params w) (ih k)
 
 apart_from : (params ts : List (Name × Kind)) → AllByRecursion (λ (t : Name × Kind). IsVariable t.1 × (environment params t.0.0 ≡ None)) ts

@@ -3,23 +3,23 @@ use Rattle.std.proofs.Common.{◌≡◌, ◌∙◌, ◌++◌, ◌==◌, ℕ, Boo
 use Rattle.std.proofs.lemmas.Bool.{and_parts, or_from}
 use Rattle.std.proofs.lemmas.Nat.{pow_pos}
 use Rattle.std.proofs.lemmas.List.{append_assoc}
-use Rattle.occ_complete_events.specs.occ_base.declared.names.Name.{Name}
-use Rattle.occ_complete_events.specs.occ_base.Width.{bits_of}
-use Rattle.occ_complete_events.proofs.from_bits.Laid.{fresh_first}
-use Rattle.occ_complete_events.specs.occ_derive_moves.Unified.{cleared}
-use Rattle.occ_complete_events.proofs.from_derive_laws.Opened.{agree_both}
-use Rattle.occ_complete_events.proofs.from_derive_laws.Pairs.{and_pair, assign_keeps}
-use Rattle.occ_complete_events.proofs.from_complete_states.Scopes.{last_new, scope_front}
-use Rattle.occ_complete_events.proofs.from_complete_states.Facts.{constant_type}
-use Rattle.occ_complete_events.proofs.from_meaning.Facts.{at_itself, none_not_some}
-use Rattle.occ_complete_events.specs.occ_syntax.declared.scope.Kind.{Kind}
-use Rattle.occ_complete_events.specs.occ_syntax.declared.scope.Kind.TheVariants.{Chan, Var}
-use Rattle.occ_complete_events.specs.occ_syntax.Names.{is_in}
-use Rattle.occ_complete_events.specs.occ_syntax.Scopes.{environment, variable_kind, variable_width}
-use Rattle.occ_complete_events.specs.occ_syntax.Tree.{assign}
-use Rattle.occ_complete_events.specs.occ_syntax.Types.{can_declare, is_pair, pairs_kept, scope_kept, type_of, width_of_kind}
-use Rattle.occ_complete_events.specs.occ_syntax.Usage.{Keeps}
-use Rattle.occ_complete_events.specs.occ_target.States.{constant, variables}
+use Rattle.occ_engine.specs.occ_base.declared.names.Name.{Name}
+use Rattle.occ_engine.specs.occ_base.Width.{bits_of}
+use Rattle.occ_engine.proofs.from_bits.Laid.{fresh_first}
+use Rattle.occ_complete_states.specs.occ_derive_moves.Unified.{cleared}
+use Rattle.occ_complete_states.proofs.from_derive_laws.Opened.{agree_both}
+use Rattle.occ_complete_states.proofs.from_derive_laws.Pairs.{and_pair, assign_keeps}
+use Rattle.occ_complete_states.proofs.Scopes.{last_new, scope_front}
+use Rattle.occ_complete_states.proofs.Facts.{constant_type}
+use Rattle.occ_engine.proofs.from_meaning.Facts.{at_itself, none_not_some}
+use Rattle.occ_engine.specs.occ_syntax.declared.scope.Kind.{Kind}
+use Rattle.occ_engine.specs.occ_syntax.declared.scope.Kind.TheVariants.{Chan, Var}
+use Rattle.occ_engine.specs.occ_syntax.Names.{is_in}
+use Rattle.occ_engine.specs.occ_syntax.Scopes.{environment, variable_kind, variable_width}
+use Rattle.occ_engine.specs.occ_syntax.Tree.{assign}
+use Rattle.occ_engine.specs.occ_syntax.Types.{can_declare, is_pair, pairs_kept, scope_kept, type_of, width_of_kind}
+use Rattle.occ_engine.specs.occ_syntax.Usage.{Keeps}
+use Rattle.occ_complete_states.specs.occ_target.States.{constant, variables}
 
 none_apart : (b : Bool) (k : Kind) (o : Option Kind) → cond b (Some k) o ≡ None → (b ≡ false) × (o ≡ None)
 none_apart true k o e = none_not_some (sym e)

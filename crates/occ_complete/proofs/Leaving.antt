@@ -3,32 +3,32 @@ use Rattle.std.proofs.Common.{◌≡◌, ◌∙◌, ◌++◌, ◌==◌, ℕ, fal
 use Rattle.std.proofs.lemmas.Bool.{or_from, or_parts}
 use Rattle.std.proofs.lemmas.List.{append-nil, append_assoc, length-append}
 use Rattle.std.specs.List.{AllByRecursion}
-use Rattle.occ_complete_events.specs.occ_base.declared.names.Name.{Name}
-use Rattle.occ_complete_events.specs.occ_base.declared.width.Width.{Width}
-use Rattle.occ_complete_events.specs.occ_base.declared.width.Width.TheVariants.{Bool as Truth, Word}
+use Rattle.occ_engine.specs.occ_base.declared.names.Name.{Name}
+use Rattle.occ_engine.specs.occ_base.declared.width.Width.{Width}
+use Rattle.occ_engine.specs.occ_base.declared.width.Width.TheVariants.{Bool as Truth, Word}
 use Rattle.occ_complete.specs.Clearing.{and_then}
-use Rattle.occ_complete_events.specs.occ_derive_moves.Unified.{cleared}
-use Rattle.occ_complete_events.proofs.from_derive_laws.Declared.{off_last}
-use Rattle.occ_complete_events.proofs.from_derive_laws.Values.{last_pair_goes}
-use Rattle.occ_complete_events.proofs.from_derive_laws.Pairs.{assign_some, assigned_variables}
-use Rattle.occ_complete_events.proofs.from_derive_laws.Turns.{first_keeps, one_law, rest_keeps, skip_law}
-use Rattle.occ_complete_events.specs.occ_derive_laws.Alike.{AreVariables}
-use Rattle.occ_complete_events.proofs.from_complete_states.Leading.{declared_leads, law_leads, leads_itself, leads_keep, leads_on}
-use Rattle.occ_complete_events.proofs.from_complete_states.Scopes.{declared_keeps, scope_front}
-use Rattle.occ_complete_events.specs.occ_complete_states.Leads.{Leads}
-use Rattle.occ_complete_events.specs.occ_law.Lists.{assigned_without, assignment, names_without, values_without}
-use Rattle.occ_complete_events.proofs.from_meaning.Facts.{at_itself, false_not_true, if_false, if_true, off_turned}
-use Rattle.occ_complete_events.specs.occ_meaning.Parallel.{one, two}
-use Rattle.occ_complete_events.specs.occ_syntax.declared.scope.Kind.{Kind}
-use Rattle.occ_complete_events.specs.occ_syntax.declared.scope.Kind.TheVariants.{Chan, Var}
-use Rattle.occ_complete_events.specs.occ_syntax.Declarations.{declaring_all}
-use Rattle.occ_complete_events.specs.occ_syntax.Names.{free, is_in, names, some_names}
-use Rattle.occ_complete_events.specs.occ_syntax.Scopes.{Environment, environment}
-use Rattle.occ_complete_events.specs.occ_syntax.Tree.{Exp, Tree, assign, declare, no_tree, seq}
-use Rattle.occ_complete_events.specs.occ_syntax.Types.{scope_kept}
-use Rattle.occ_complete_events.specs.occ_syntax.Usage.{Keeps}
-use Rattle.occ_complete_events.specs.occ_target.States.{constant, variables}
-use Rattle.occ_complete_events.specs.occ_target_laws.Bodies.{IsVariable}
+use Rattle.occ_complete_states.specs.occ_derive_moves.Unified.{cleared}
+use Rattle.occ_complete_states.proofs.from_derive_laws.Declared.{off_last}
+use Rattle.occ_complete_states.proofs.from_derive_laws.Values.{last_pair_goes}
+use Rattle.occ_complete_states.proofs.from_derive_laws.Pairs.{assign_some, assigned_variables}
+use Rattle.occ_complete_states.proofs.from_derive_laws.Turns.{first_keeps, one_law, rest_keeps, skip_law}
+use Rattle.occ_complete_states.specs.occ_derive_laws.Alike.{AreVariables}
+use Rattle.occ_complete_states.proofs.Leading.{declared_leads, law_leads, leads_itself, leads_keep, leads_on}
+use Rattle.occ_complete_states.proofs.Scopes.{declared_keeps, scope_front}
+use Rattle.occ_complete_states.specs.Leads.{Leads}
+use Rattle.occ_engine.specs.occ_law.Lists.{assigned_without, assignment, names_without, values_without}
+use Rattle.occ_engine.proofs.from_meaning.Facts.{at_itself, false_not_true, if_false, if_true, off_turned}
+use Rattle.occ_engine.specs.occ_meaning.Parallel.{one, two}
+use Rattle.occ_engine.specs.occ_syntax.declared.scope.Kind.{Kind}
+use Rattle.occ_engine.specs.occ_syntax.declared.scope.Kind.TheVariants.{Chan, Var}
+use Rattle.occ_engine.specs.occ_syntax.Declarations.{declaring_all}
+use Rattle.occ_engine.specs.occ_syntax.Names.{free, is_in, names, some_names}
+use Rattle.occ_engine.specs.occ_syntax.Scopes.{Environment, environment}
+use Rattle.occ_engine.specs.occ_syntax.Tree.{Exp, Tree, assign, declare, no_tree, seq}
+use Rattle.occ_engine.specs.occ_syntax.Types.{scope_kept}
+use Rattle.occ_engine.specs.occ_syntax.Usage.{Keeps}
+use Rattle.occ_complete_states.specs.occ_target.States.{constant, variables}
+use Rattle.occ_complete_states.specs.occ_target_laws.Bodies.{IsVariable}
 
 -- ---- the last pair
 

@@ -3,23 +3,23 @@ use Rattle.std.proofs.Common.{◌≡◌, ◌++◌, ◌+◌, ◌==◌, ◌||◌, 
 use Rattle.std.proofs.lemmas.Bool.{eqb-true, or_cases, or_from, or_parts}
 use Rattle.std.proofs.lemmas.List.{append-nil, append_assoc}
 use Rattle.std.specs.List.{AllByRecursion}
-use Rattle.occ_complete_events.specs.occ_base.declared.names.Name.{Name}
-use Rattle.occ_complete_events.specs.occ_bits.Named.{bits_named, named_part}
+use Rattle.occ_engine.specs.occ_base.declared.names.Name.{Name}
+use Rattle.occ_engine.specs.occ_bits.Named.{bits_named, named_part}
 use Rattle.occ_complete.specs.Begun.{IsAway}
-use Rattle.occ_complete_events.specs.occ_derive_moves.Apart.{has_declared}
-use Rattle.occ_complete_events.proofs.from_complete_states.Nowhere.{nowhere_declared}
-use Rattle.occ_complete_events.specs.occ_complete_states.Few.{AllFew, BranchesFew, CasesFew, IsFew}
-use Rattle.occ_complete_events.specs.occ_law.Lists.{conditions}
-use Rattle.occ_complete_events.proofs.from_meaning.Facts.{false_not_true}
-use Rattle.occ_complete_events.proofs.from_meaning.InScope.{nowhere_free}
-use Rattle.occ_complete_events.specs.occ_meaning.Rename.{stands, stands_in_branches, stands_in_cases, stands_in_some, stands_in_waiting}
-use Rattle.occ_complete_events.specs.occ_syntax.declared.scope.Kind.{Kind}
-use Rattle.occ_complete_events.specs.occ_syntax.declared.scope.Kind.TheVariants.{Chan, Var}
-use Rattle.occ_complete_events.specs.occ_syntax.Counts.{bits_of_kind, bits_of_scope}
-use Rattle.occ_complete_events.specs.occ_syntax.Names.{free, is_in, names, some_names}
-use Rattle.occ_complete_events.specs.occ_syntax.Tree.{Branches, Cases, Exp, Tree, Trees, alt, and_branch, and_case, and_tree, assign, connect, declare, no_branch, no_case, no_tree, par, receive, select, send, seq, skip, stop}
-use Rattle.occ_complete_events.specs.occ_target.States.{variables}
-use Rattle.occ_complete_events.specs.occ_target_laws.Shapes.{Header}
+use Rattle.occ_complete_states.specs.occ_derive_moves.Apart.{has_declared}
+use Rattle.occ_complete_states.proofs.Nowhere.{nowhere_declared}
+use Rattle.occ_complete_states.specs.Few.{AllFew, BranchesFew, CasesFew, IsFew}
+use Rattle.occ_engine.specs.occ_law.Lists.{conditions}
+use Rattle.occ_engine.proofs.from_meaning.Facts.{false_not_true}
+use Rattle.occ_engine.proofs.from_meaning.InScope.{nowhere_free}
+use Rattle.occ_engine.specs.occ_meaning.Rename.{stands, stands_in_branches, stands_in_cases, stands_in_some, stands_in_waiting}
+use Rattle.occ_engine.specs.occ_syntax.declared.scope.Kind.{Kind}
+use Rattle.occ_engine.specs.occ_syntax.declared.scope.Kind.TheVariants.{Chan, Var}
+use Rattle.occ_engine.specs.occ_syntax.Counts.{bits_of_kind, bits_of_scope}
+use Rattle.occ_engine.specs.occ_syntax.Names.{free, is_in, names, some_names}
+use Rattle.occ_engine.specs.occ_syntax.Tree.{Branches, Cases, Exp, Tree, Trees, alt, and_branch, and_case, and_tree, assign, connect, declare, no_branch, no_case, no_tree, par, receive, select, send, seq, skip, stop}
+use Rattle.occ_complete_states.specs.occ_target.States.{variables}
+use Rattle.occ_complete_states.specs.occ_target_laws.Shapes.{Header}
 
 -- ---- bits
 

@@ -3,19 +3,19 @@ use Rattle.std.proofs.Common.{◌≡◌, ◌∙◌, ◌<◌, ◌==◌, ◌+◌, 
 use Rattle.std.proofs.lemmas.Bool.{eqb-true, eq-eqb, true≢false}
 use Rattle.std.proofs.lemmas.Nat.{pow_pos}
 use Rattle.std.specs.List.{AllByRecursion}
-use Rattle.occ_complete_events.specs.occ_base.declared.event.Dir.TheVariants.{Input, Output}
-use Rattle.occ_complete_events.specs.occ_base.declared.event.Event.{Event}
-use Rattle.occ_complete_events.specs.occ_base.Width.{bits_of}
+use Rattle.occ_engine.specs.occ_base.declared.event.Dir.TheVariants.{Input, Output}
+use Rattle.occ_engine.specs.occ_base.declared.event.Event.{Event}
+use Rattle.occ_engine.specs.occ_base.Width.{bits_of}
 use Rattle.occ_complete.specs.Followed.{IsFollowed, after_input, after_output, renewed, with_next}
-use Rattle.occ_complete_events.specs.occ_complete_states.Nodes.{IsUnifiedNode}
-use Rattle.occ_complete_events.specs.occ_nform_table.Judging.{text_less}
-use Rattle.occ_complete_events.specs.occ_nform_table.Lines.{rank}
-use Rattle.occ_complete_events.specs.occ_nform_table.Lists.{Chain, In}
-use Rattle.occ_complete_events.specs.occ_syntax.Tree.{Cases, Exp, Tree, Waiting, and_case, input, no_case, output, select, stop}
-use Rattle.occ_complete_events.specs.occ_target.Rows.{part_at, variable_of}
-use Rattle.occ_complete_events.specs.occ_target.States.{is_at}
-use Rattle.occ_complete_events.proofs.from_target_laws.Lists.{in_map, map_in, one_by_key}
-use Rattle.occ_complete_events.specs.occ_target_laws.Shapes.{Header, IsNode, IsShaped, Leads, Node, branch_less, event, first_event, numbered, of_node, place, process_of, set_less}
+use Rattle.occ_complete_states.specs.Nodes.{IsUnifiedNode}
+use Rattle.occ_complete_states.specs.occ_nform_table.Judging.{text_less}
+use Rattle.occ_complete_states.specs.occ_nform_table.Lines.{rank}
+use Rattle.occ_complete_states.specs.occ_nform_table.Lists.{Chain, In}
+use Rattle.occ_engine.specs.occ_syntax.Tree.{Cases, Exp, Tree, Waiting, and_case, input, no_case, output, select, stop}
+use Rattle.occ_complete_states.specs.occ_target.Rows.{part_at, variable_of}
+use Rattle.occ_complete_states.specs.occ_target.States.{is_at}
+use Rattle.occ_complete_states.proofs.from_target_laws.Lists.{in_map, map_in, one_by_key}
+use Rattle.occ_complete_states.specs.occ_target_laws.Shapes.{Header, IsNode, IsShaped, Leads, Node, branch_less, event, first_event, numbered, of_node, place, process_of, set_less}
 
 -- ---- the processes of branches as a function: the place of the guard tells which
 

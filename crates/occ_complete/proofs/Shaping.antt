@@ -6,26 +6,26 @@ use Rattle.occ_complete.proofs.Kept.{clearing_keeps}
 use Rattle.occ_complete.proofs.Renewed.{processes_by_branch, renewed_shaped}
 use Rattle.occ_complete.specs.Clearing.{with_clearing}
 use Rattle.occ_complete.specs.Followed.{IsFollowed, after_input, after_output, renewed}
-use Rattle.occ_complete.specs.Ways.{HasShape, Settles, Tells, Unifies}
-use Rattle.occ_complete_events.specs.occ_derive_moves.Settled.{IsEventGuard, sends, takes}
-use Rattle.occ_complete_events.specs.occ_derive_moves.Unified.{cleared}
-use Rattle.occ_complete_events.proofs.from_derive_laws.Choices.{first_case, later_cases}
-use Rattle.occ_complete_events.proofs.from_complete_states.Leading.{leads_keep, leads_on}
-use Rattle.occ_complete_events.specs.occ_complete_states.Configured.{Follows}
-use Rattle.occ_complete_events.specs.occ_complete_states.Headers.{IsHeader}
-use Rattle.occ_complete_events.specs.occ_complete_states.Leads.{Leads}
-use Rattle.occ_complete_events.specs.occ_complete_states.Nodes.{GoesOnAsAny, IsUnifiedNode, any_of, process_cleared}
-use Rattle.occ_complete_events.specs.occ_complete_states.States.{scope_of}
-use Rattle.occ_complete_events.specs.occ_complete_states.Ways.{AreConfigured}
-use Rattle.occ_complete_events.proofs.from_nform_table.Lists.{in_all}
-use Rattle.occ_complete_events.specs.occ_behaviour.States.{is_state}
-use Rattle.occ_complete_events.specs.occ_syntax.Scopes.{environment}
-use Rattle.occ_complete_events.specs.occ_syntax.Tree.{Exp, Tree, Waiting, select}
-use Rattle.occ_complete_events.specs.occ_syntax.Usage.{Keeps}
-use Rattle.occ_complete_events.specs.occ_target.Rows.{variable_of}
-use Rattle.occ_complete_events.specs.occ_target.States.{is_at, variables}
-use Rattle.occ_complete_events.proofs.from_target_laws.Lists.{in_left}
-use Rattle.occ_complete_events.specs.occ_target_laws.Shapes.{Header, IsShaped, Node, accepting, numbered, process_of}
+use Rattle.occ_complete.specs.ProgramWays.{HasShape, Settles, Tells, Unifies}
+use Rattle.occ_complete_states.specs.occ_derive_moves.Settled.{IsEventGuard, sends, takes}
+use Rattle.occ_complete_states.specs.occ_derive_moves.Unified.{cleared}
+use Rattle.occ_complete_states.proofs.from_derive_laws.Choices.{first_case, later_cases}
+use Rattle.occ_complete_states.proofs.Leading.{leads_keep, leads_on}
+use Rattle.occ_complete_states.specs.Configured.{Follows}
+use Rattle.occ_complete_states.specs.Headers.{IsHeader}
+use Rattle.occ_complete_states.specs.Leads.{Leads}
+use Rattle.occ_complete_states.specs.Nodes.{GoesOnAsAny, IsUnifiedNode, any_of, process_cleared}
+use Rattle.occ_complete_states.specs.States.{scope_of}
+use Rattle.occ_complete_states.specs.Ways.{AreConfigured}
+use Rattle.occ_complete_states.proofs.from_nform_table.Lists.{in_all}
+use Rattle.occ_complete_states.specs.occ_behaviour.States.{is_state}
+use Rattle.occ_engine.specs.occ_syntax.Scopes.{environment}
+use Rattle.occ_engine.specs.occ_syntax.Tree.{Exp, Tree, Waiting, select}
+use Rattle.occ_engine.specs.occ_syntax.Usage.{Keeps}
+use Rattle.occ_complete_states.specs.occ_target.Rows.{variable_of}
+use Rattle.occ_complete_states.specs.occ_target.States.{is_at, variables}
+use Rattle.occ_complete_states.proofs.from_target_laws.Lists.{in_left}
+use Rattle.occ_complete_states.specs.occ_target_laws.Shapes.{Header, IsShaped, Node, accepting, numbered, process_of}
 
 no_less : (h : Header) (ps : List Tree) → AreConfigured h 0 ps → ⊥
 no_less h [] c = c.some refl

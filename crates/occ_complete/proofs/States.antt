@@ -2,28 +2,28 @@
 use Rattle.std.proofs.Common.{◌≡◌, ◌∙◌, ◌++◌, ◌==◌, ◌+◌, ◌<◌, ◌≤◌, ◌^◌, ◌||◌, ℕ, zero, suc, Bool, cond, false, true, List, [], ◌∷◌, refl, sym, subst, inl, inr, arith}
 use Rattle.std.proofs.lemmas.Bool.{and_from, cases_lt, eqb-false, eqb-true, eq-eqb, lt-ltb, or_cases, or_left, or_right}
 use Rattle.std.specs.List.{AllByRecursion}
-use Rattle.occ_complete_events.specs.occ_base.declared.names.Name.{Name}
-use Rattle.occ_complete_events.specs.occ_base.declared.width.Width.{Width}
-use Rattle.occ_complete_events.specs.occ_base.Width.{bits_of}
-use Rattle.occ_complete_events.specs.occ_behaviour.States.{is_state}
-use Rattle.occ_complete_events.specs.occ_bits.Named.{bits_named, named_part}
-use Rattle.occ_complete_events.proofs.from_complete_states.Facts.{IsHeld, constant_unnamed}
-use Rattle.occ_complete_events.specs.occ_law.States.{AreFew, some_true}
-use Rattle.occ_complete_events.proofs.from_meaning.Facts.{false_not_true, true_not_false}
-use Rattle.occ_complete_events.specs.occ_nform_table.Lines.{state_place}
-use Rattle.occ_complete_events.specs.occ_nform_table.Texts.{state_at_place}
-use Rattle.occ_complete_events.proofs.from_nform_table.PlaceNames.{place_is_state, place_there}
-use Rattle.occ_complete_events.proofs.from_nform_table.States.{place_below, same_state}
-use Rattle.occ_complete_events.specs.occ_syntax.declared.expr.Op.TheVariants.{And}
-use Rattle.occ_complete_events.specs.occ_syntax.declared.scope.Kind.{Kind}
-use Rattle.occ_complete_events.specs.occ_syntax.declared.scope.Kind.TheVariants.{Chan, Var}
-use Rattle.occ_complete_events.specs.occ_syntax.Counts.{bits_of_kind, bits_of_scope}
-use Rattle.occ_complete_events.specs.occ_syntax.Eval.{is_true}
-use Rattle.occ_complete_events.specs.occ_syntax.Names.{is_in, names, some_names}
-use Rattle.occ_complete_events.specs.occ_syntax.Scopes.{Environment, Values}
-use Rattle.occ_complete_events.specs.occ_syntax.Tree.{Exp, operation, variable}
-use Rattle.occ_complete_events.specs.occ_target.States.{all_true, condition, constant, joined, tests, variables}
-use Rattle.occ_complete_events.proofs.from_target_laws.Initial.{Holds, true_only, true_there}
+use Rattle.occ_engine.specs.occ_base.declared.names.Name.{Name}
+use Rattle.occ_engine.specs.occ_base.declared.width.Width.{Width}
+use Rattle.occ_engine.specs.occ_base.Width.{bits_of}
+use Rattle.occ_complete_states.specs.occ_behaviour.States.{is_state}
+use Rattle.occ_engine.specs.occ_bits.Named.{bits_named, named_part}
+use Rattle.occ_complete_states.proofs.Facts.{IsHeld, constant_unnamed}
+use Rattle.occ_engine.specs.occ_law.States.{AreFew, some_true}
+use Rattle.occ_engine.proofs.from_meaning.Facts.{false_not_true, true_not_false}
+use Rattle.occ_complete_states.specs.occ_nform_table.Lines.{state_place}
+use Rattle.occ_complete_states.specs.occ_nform_table.Texts.{state_at_place}
+use Rattle.occ_complete_states.proofs.from_nform_table.PlaceNames.{place_is_state, place_there}
+use Rattle.occ_complete_states.proofs.from_nform_table.States.{place_below, same_state}
+use Rattle.occ_engine.specs.occ_syntax.declared.expr.Op.TheVariants.{And}
+use Rattle.occ_engine.specs.occ_syntax.declared.scope.Kind.{Kind}
+use Rattle.occ_engine.specs.occ_syntax.declared.scope.Kind.TheVariants.{Chan, Var}
+use Rattle.occ_engine.specs.occ_syntax.Counts.{bits_of_kind, bits_of_scope}
+use Rattle.occ_engine.specs.occ_syntax.Eval.{is_true}
+use Rattle.occ_engine.specs.occ_syntax.Names.{is_in, names, some_names}
+use Rattle.occ_engine.specs.occ_syntax.Scopes.{Environment, Values}
+use Rattle.occ_engine.specs.occ_syntax.Tree.{Exp, operation, variable}
+use Rattle.occ_complete_states.specs.occ_target.States.{all_true, condition, constant, joined, tests, variables}
+use Rattle.occ_complete_states.proofs.from_target_laws.Initial.{Holds, true_only, true_there}
 
 -- ---- what conditions name
 

@@ -2,51 +2,48 @@
 use Rattle.std.proofs.Common.{◌≡◌, ◌∙◌, ◌++◌, ◌==◌, ◌+◌, ◌<◌, ◌≤◌, ◌^◌, ◌&&◌, ℕ, zero, suc, nat_lt, false, true, List, [], ◌∷◌, None, Some, refl, sym, ap, subst, arith}
 use Rattle.std.proofs.lemmas.Bool.{and_from, and_parts, eqb-true, ltb-true, or_left, or_parts, or_right}
 use Rattle.std.specs.List.{AllByRecursion}
-use Rattle.occ_complete_events.specs.occ_base.declared.names.Name.{Name}
-use Rattle.occ_complete_events.specs.occ_base.declared.width.Width.{Width}
-use Rattle.occ_complete_events.specs.occ_base.declared.width.Width.TheVariants.{Bool as TruthValue, Word}
-use Rattle.occ_complete_events.specs.occ_base.Width.{bits_of}
-use Rattle.occ_complete_events.specs.occ_behaviour.States.{is_state}
-use Rattle.occ_complete_events.specs.occ_bits.Named.{are_conditions}
+use Rattle.occ_engine.specs.occ_base.declared.names.Name.{Name}
+use Rattle.occ_engine.specs.occ_base.declared.width.Width.{Width}
+use Rattle.occ_engine.specs.occ_base.declared.width.Width.TheVariants.{Bool as TruthValue}
+use Rattle.occ_engine.specs.occ_base.Width.{bits_of}
+use Rattle.occ_complete_states.specs.occ_behaviour.States.{is_state}
+use Rattle.occ_engine.specs.occ_bits.Named.{are_conditions}
 use Rattle.occ_complete.proofs.States.{NameOwn, condition_own, constant_own, holds_same, own_few, own_more, states_exhaustive, tests_from, true_holds, variable_own}
-use Rattle.occ_complete_events.specs.occ_derive_moves.Unified.{cleared}
-use Rattle.occ_complete_events.proofs.from_derive_laws.Conditions.{conditions_append}
-use Rattle.occ_complete_events.proofs.from_derive_laws.IfHolding.{copy_law, under_law}
-use Rattle.occ_complete_events.proofs.from_complete_states.Leading.{law_leads, leads_itself, leads_on}
-use Rattle.occ_complete_events.specs.occ_complete_states.Leads.{Leads}
-use Rattle.occ_complete_events.specs.occ_complete_states.States.{facts, told}
-use Rattle.occ_complete_events.proofs.from_complete_states.Ending.{facts_append, state_front}
-use Rattle.occ_complete_events.proofs.from_complete_states.Facts.{IsHeld, IsListed, IsWide, all_held, all_listed, all_wide, constant_type}
-use Rattle.occ_complete_events.specs.occ_law.Choice.{copies}
-use Rattle.occ_complete_events.specs.occ_law.Lists.{all_cases, conditions, variables as own_values}
-use Rattle.occ_complete_events.specs.occ_law.States.{EachEqual, IsEqualWhere, and_place, no_place}
-use Rattle.occ_complete_events.proofs.from_meaning.Facts.{at_itself, false_not_true, if_true, value_off}
-use Rattle.occ_complete_events.specs.occ_nform_table.Texts.{state_at_place}
-use Rattle.occ_complete_events.proofs.from_nform_table.PlaceNames.{place_is_state}
-use Rattle.occ_complete_events.specs.occ_syntax.declared.expr.Op.TheVariants.{And, Equal}
-use Rattle.occ_complete_events.specs.occ_syntax.declared.scope.Kind.{Kind}
-use Rattle.occ_complete_events.specs.occ_syntax.declared.scope.Kind.TheVariants.{Chan, Var}
-use Rattle.occ_complete_events.specs.occ_syntax.Counts.{bits_of_scope}
-use Rattle.occ_complete_events.specs.occ_syntax.Names.{is_in, some_names}
-use Rattle.occ_complete_events.specs.occ_syntax.Scopes.{Environment, IsState, Values, environment, values, variable_kind, variable_width}
-use Rattle.occ_complete_events.specs.occ_syntax.Tree.{Cases, Exp, Tree, and_case, assign, no_case, operation, select, variable}
-use Rattle.occ_complete_events.specs.occ_syntax.Types.{agree, is_condition, is_pair, is_width, same_width, scope_kept, type_given, type_of, type_of_two}
-use Rattle.occ_complete_events.specs.occ_syntax.Usage.{Keeps}
-use Rattle.occ_complete_events.specs.occ_target.States.{condition, constant, is_at, joined, tests, variables}
-use Rattle.occ_complete_events.proofs.from_target_laws.Following.{constant_value}
-use Rattle.occ_complete_events.proofs.from_target_laws.Initial.{Holds, holds_itself, holds_state}
-use Rattle.occ_complete_events.specs.occ_target_laws.Shapes.{numbered}
+use Rattle.occ_complete_states.specs.occ_derive_moves.Unified.{cleared}
+use Rattle.occ_complete_states.proofs.from_derive_laws.Conditions.{conditions_append}
+use Rattle.occ_complete_states.proofs.from_derive_laws.IfHolding.{copy_law, under_law}
+use Rattle.occ_complete_states.proofs.Leading.{law_leads, leads_itself, leads_on}
+use Rattle.occ_complete_states.specs.Leads.{Leads}
+use Rattle.occ_complete_states.specs.States.{facts, told}
+use Rattle.occ_complete_states.proofs.Ending.{facts_append, state_front}
+use Rattle.occ_complete_states.proofs.Facts.{IsHeld, IsListed, IsWide, all_held, all_listed, all_wide, constant_type}
+use Rattle.occ_engine.specs.occ_law.Choice.{copies}
+use Rattle.occ_engine.specs.occ_law.Lists.{all_cases, conditions, variables as own_values}
+use Rattle.occ_engine.specs.occ_law.States.{EachEqual, IsEqualWhere, and_place, no_place}
+use Rattle.occ_engine.proofs.from_meaning.Facts.{at_itself, false_not_true, if_true, value_off}
+use Rattle.occ_complete_states.specs.occ_nform_table.Texts.{state_at_place}
+use Rattle.occ_complete_states.proofs.from_nform_table.PlaceNames.{place_is_state}
+use Rattle.occ_engine.specs.occ_syntax.declared.expr.Op.TheVariants.{And, Equal}
+use Rattle.occ_engine.specs.occ_syntax.declared.scope.Kind.{Kind}
+use Rattle.occ_engine.specs.occ_syntax.declared.scope.Kind.TheVariants.{Chan, Var}
+use Rattle.occ_engine.specs.occ_syntax.Counts.{bits_of_scope}
+use Rattle.occ_engine.specs.occ_syntax.Names.{is_in, some_names}
+use Rattle.occ_engine.specs.occ_syntax.Scopes.{Environment, IsState, Values, environment, values, variable_kind, variable_width}
+use Rattle.occ_engine.specs.occ_syntax.Tree.{Cases, Exp, Tree, and_case, assign, no_case, operation, select, variable}
+use Rattle.occ_engine.specs.occ_syntax.Types.{agree, is_condition, is_pair, is_width, same_width, scope_kept, type_given, type_of, type_of_two}
+use Rattle.occ_engine.specs.occ_syntax.Usage.{Keeps}
+use Rattle.occ_complete_states.specs.occ_target.States.{condition, constant, is_at, joined, tests, variables}
+use Rattle.occ_complete_states.proofs.from_target_laws.Following.{constant_value}
+use Rattle.occ_complete_states.proofs.from_target_laws.Initial.{Holds, holds_itself, holds_state}
+use Rattle.occ_complete_states.specs.occ_target_laws.Shapes.{numbered}
+use Rattle.occ_engine.proofs.from_syntax.Widths.{same_as_itself}
 
 -- ---- conditions are typed
-
-same_itself : (w : Width) → same_width w w ≡ true
-same_itself TruthValue = refl
-same_itself (Word b) = at_itself b
 
 test_typed : (Γ : Environment) (x : ℕ) (w : Width) (v : ℕ) → variable_width Γ x ≡ Some w → is_width w ≡ true → v < 2 ^ bits_of w
     → type_of Γ (is_at x w v) ≡ Some TruthValue
 test_typed Γ x w v h k l =
-    (λ i. type_of_two Equal (h i) (constant_type Γ w v k l i)) ∙ if_true (same_width w w) (type_given Equal w) None (same_itself w)
+    (λ i. type_of_two Equal (h i) (constant_type Γ w v k l i)) ∙ if_true (same_width w w) (type_given Equal w) None (same_as_itself w)
 
 joined_typed : (Γ : Environment) (S : List (Name × Kind)) (state : List (Name × ℕ)) (e : Exp) → AllByRecursion (IsListed Γ) S → AllByRecursion IsWide S
     → is_state S state ≡ true → type_of Γ e ≡ Some TruthValue → type_of Γ (joined e (tests S state)) ≡ Some TruthValue

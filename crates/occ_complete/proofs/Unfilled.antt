@@ -3,47 +3,47 @@ use Rattle.std.proofs.Common.{◌≡◌, ◌∙◌, ◌++◌, ◌+◌, ◌≤◌
 use Rattle.std.proofs.lemmas.Nat.{pow_pos}
 use Rattle.std.proofs.lemmas.List.{append-nil}
 use Rattle.std.specs.List.{AllByRecursion}
-use Rattle.occ_complete_events.specs.occ_base.declared.names.Name.{Name}
-use Rattle.occ_complete_events.specs.occ_base.declared.width.Width.TheVariants.{Bool as Truth}
-use Rattle.occ_complete_events.specs.occ_base.Width.{bits_of}
-use Rattle.occ_complete.proofs.Beginning.{bodies_begin}
+use Rattle.occ_engine.specs.occ_base.declared.names.Name.{Name}
+use Rattle.occ_engine.specs.occ_base.declared.width.Width.TheVariants.{Bool as Truth}
+use Rattle.occ_engine.specs.occ_base.Width.{bits_of}
+use Rattle.occ_complete.proofs.ProgramBeginning.{bodies_begin}
 use Rattle.occ_complete.proofs.Nowhere.{away, few_behind, few_with}
-use Rattle.occ_complete.proofs.Parting.{behind_skip}
+use Rattle.occ_complete.proofs.ProgramParting.{behind_skip}
 use Rattle.occ_complete.specs.Begun.{HasBegun}
-use Rattle.occ_complete_events.specs.occ_derive_moves.Unified.{is_target}
-use Rattle.occ_complete_events.specs.occ_derive_moves.Weight.{weight}
-use Rattle.occ_complete_events.proofs.from_derive_laws.Rows.{unnamed_few}
-use Rattle.occ_complete_events.proofs.from_derive_laws.IfHolding.{copy_law}
-use Rattle.occ_complete_events.proofs.from_derive_laws.Declared.{round_last}
-use Rattle.occ_complete_events.proofs.from_derive_laws.Values.{pair_comes}
-use Rattle.occ_complete_events.proofs.from_derive_laws.Turns.{first_keeps, rest_keeps}
-use Rattle.occ_complete_events.proofs.from_complete_states.Nowhere.{nowhere_declared}
-use Rattle.occ_complete_events.proofs.from_complete_states.Fresh.{IsFresh, fresh_name}
-use Rattle.occ_complete_events.proofs.from_complete_states.Leading.{first_leads, law_leads, law_leads_back, leads_keep, leads_on}
-use Rattle.occ_complete_events.proofs.from_complete_states.Scopes.{declared_keeps, scope_front}
-use Rattle.occ_complete_events.specs.occ_complete_states.Configured.{IsConfigured, IsLeft}
-use Rattle.occ_complete_events.specs.occ_complete_states.Few.{IsFew}
-use Rattle.occ_complete_events.specs.occ_complete_states.Headers.{IsHeader}
-use Rattle.occ_complete_events.specs.occ_complete_states.Leads.{Leads}
-use Rattle.occ_complete_events.specs.occ_complete_states.States.{facts, in_state, scope_of, told}
-use Rattle.occ_complete_events.proofs.from_complete_states.Ending.{facts_append, variables_append}
-use Rattle.occ_complete_events.proofs.from_meaning.Facts.{false_not_true}
-use Rattle.occ_complete_events.specs.occ_meaning.Parallel.{one, two}
-use Rattle.occ_complete_events.specs.occ_meaning.Rename.{stands}
-use Rattle.occ_complete_events.specs.occ_nform_table.Texts.{state_at_place}
-use Rattle.occ_complete_events.proofs.from_script_lines.Scoping.{scope_kept-push}
-use Rattle.occ_complete_events.specs.occ_syntax.declared.scope.Kind.{Kind}
-use Rattle.occ_complete_events.specs.occ_syntax.declared.scope.Kind.TheVariants.{Chan, Var}
-use Rattle.occ_complete_events.specs.occ_syntax.Counts.{bits_of_scope}
-use Rattle.occ_complete_events.specs.occ_syntax.Declarations.{declaring_all}
-use Rattle.occ_complete_events.specs.occ_syntax.Names.{is_in}
-use Rattle.occ_complete_events.specs.occ_syntax.Scopes.{Values, environment}
-use Rattle.occ_complete_events.specs.occ_syntax.Tree.{Tree, and_case, assign, declare, no_case, no_tree, select, seq, truth}
-use Rattle.occ_complete_events.specs.occ_syntax.Types.{is_pair, scope_kept}
-use Rattle.occ_complete_events.specs.occ_syntax.Usage.{Keeps}
-use Rattle.occ_complete_events.specs.occ_target.States.{all_true, constant, tests, variables}
-use Rattle.occ_complete_events.specs.occ_target_laws.Bodies.{IsVariable, in_state as initial}
-use Rattle.occ_complete_events.specs.occ_target_laws.Shapes.{Header, numbered}
+use Rattle.occ_complete_states.specs.occ_derive_moves.Unified.{is_target}
+use Rattle.occ_complete_states.specs.occ_derive_moves.Weight.{weight}
+use Rattle.occ_complete_states.proofs.from_derive_laws.Rows.{unnamed_few}
+use Rattle.occ_complete_states.proofs.from_derive_laws.IfHolding.{copy_law}
+use Rattle.occ_complete_states.proofs.from_derive_laws.Declared.{round_last}
+use Rattle.occ_complete_states.proofs.from_derive_laws.Values.{pair_comes}
+use Rattle.occ_complete_states.proofs.from_derive_laws.Turns.{first_keeps, rest_keeps}
+use Rattle.occ_complete_states.proofs.Nowhere.{nowhere_declared}
+use Rattle.occ_complete_states.proofs.Fresh.{IsFresh, fresh_name}
+use Rattle.occ_complete_states.proofs.Leading.{first_leads, law_leads, law_leads_back, leads_keep, leads_on}
+use Rattle.occ_complete_states.proofs.Scopes.{declared_keeps, scope_front}
+use Rattle.occ_complete_states.specs.Configured.{IsConfigured, IsLeft}
+use Rattle.occ_complete_states.specs.Few.{IsFew}
+use Rattle.occ_complete_states.specs.Headers.{IsHeader}
+use Rattle.occ_complete_states.specs.Leads.{Leads}
+use Rattle.occ_complete_states.specs.States.{facts, in_state, scope_of, told}
+use Rattle.occ_complete_states.proofs.Ending.{facts_append, variables_append}
+use Rattle.occ_engine.proofs.from_meaning.Facts.{false_not_true}
+use Rattle.occ_engine.specs.occ_meaning.Parallel.{one, two}
+use Rattle.occ_engine.specs.occ_meaning.Rename.{stands}
+use Rattle.occ_complete_states.specs.occ_nform_table.Texts.{state_at_place}
+use Rattle.occ_engine.proofs.from_script_lines.Scoping.{scope_kept-push}
+use Rattle.occ_engine.specs.occ_syntax.declared.scope.Kind.{Kind}
+use Rattle.occ_engine.specs.occ_syntax.declared.scope.Kind.TheVariants.{Chan, Var}
+use Rattle.occ_engine.specs.occ_syntax.Counts.{bits_of_scope}
+use Rattle.occ_engine.specs.occ_syntax.Declarations.{declaring_all}
+use Rattle.occ_engine.specs.occ_syntax.Names.{is_in}
+use Rattle.occ_engine.specs.occ_syntax.Scopes.{Values, environment}
+use Rattle.occ_engine.specs.occ_syntax.Tree.{Tree, and_case, assign, declare, no_case, no_tree, select, seq, truth}
+use Rattle.occ_engine.specs.occ_syntax.Types.{is_pair, scope_kept}
+use Rattle.occ_engine.specs.occ_syntax.Usage.{Keeps}
+use Rattle.occ_complete_states.specs.occ_target.States.{all_true, constant, tests, variables}
+use Rattle.occ_complete_states.specs.occ_target_laws.Bodies.{IsVariable, in_state as initial}
+use Rattle.occ_complete_states.specs.occ_target_laws.Shapes.{Header, numbered}
 
 -- ---- no variables
 

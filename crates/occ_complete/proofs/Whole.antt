@@ -1,31 +1,31 @@
 -- Bodies that have a configuration for each initial state lead to bodies of normal programs.
 use Rattle.std.proofs.Common.{◌≡◌, ◌∙◌, ◌+◌, ◌<◌, ◌++◌, ℕ, zero, suc, None, List, [], ◌∷◌, length, refl, sym, ap, subst, arith}
 use Rattle.std.specs.List.{AllByRecursion}
-use Rattle.occ_complete_events.specs.occ_base.declared.names.Name.{Name}
+use Rattle.occ_engine.specs.occ_base.declared.names.Name.{Name}
 use Rattle.occ_complete.proofs.Cleared.{CasesEnd, and_cases_end, choices_end, no_cases_end}
 use Rattle.occ_complete.proofs.Kept.{clearing_keeps}
 use Rattle.occ_complete.proofs.Leaving.{clearing_goes}
 use Rattle.occ_complete.proofs.Shaping.{superpositions_are_shaped}
 use Rattle.occ_complete.specs.Begun.{HasBegun, HasShapedBody}
-use Rattle.occ_complete.specs.Ways.{HasShape, Settles, Tells, Unifies}
-use Rattle.occ_complete_events.specs.occ_derive_moves.Unified.{cleared}
-use Rattle.occ_complete_events.proofs.from_derive_laws.Holding.{law_skip}
-use Rattle.occ_complete_events.proofs.from_derive_laws.Choices.{first_case, later_cases}
-use Rattle.occ_complete_events.proofs.from_complete_states.Leading.{declaring_leads, law_leads_back, leads_keep, leads_on}
-use Rattle.occ_complete_events.proofs.from_complete_states.Scopes.{declared_keeps, scope_front}
-use Rattle.occ_complete_events.specs.occ_complete_states.Configured.{IsConfigured}
-use Rattle.occ_complete_events.specs.occ_complete_states.Headers.{IsHeader}
-use Rattle.occ_complete_events.specs.occ_complete_states.States.{scope_of}
-use Rattle.occ_complete_events.specs.occ_syntax.declared.scope.Kind.{Kind}
-use Rattle.occ_complete_events.specs.occ_syntax.declared.scope.Kind.TheVariants.{Chan, Var}
-use Rattle.occ_complete_events.specs.occ_syntax.Declarations.{declaring_all}
-use Rattle.occ_complete_events.specs.occ_syntax.Scopes.{environment}
-use Rattle.occ_complete_events.specs.occ_syntax.Tree.{Exp, Tree, select}
-use Rattle.occ_complete_events.specs.occ_syntax.Usage.{Keeps}
-use Rattle.occ_complete_events.specs.occ_target.Rows.{part_at}
-use Rattle.occ_complete_events.specs.occ_target.States.{variables}
-use Rattle.occ_complete_events.specs.occ_target_laws.Bodies.{IsVariable, in_state}
-use Rattle.occ_complete_events.specs.occ_target_laws.Shapes.{Header, IsShaped, numbered}
+use Rattle.occ_complete.specs.ProgramWays.{HasShape, Settles, Tells, Unifies}
+use Rattle.occ_complete_states.specs.occ_derive_moves.Unified.{cleared}
+use Rattle.occ_complete_states.proofs.from_derive_laws.Holding.{law_skip}
+use Rattle.occ_complete_states.proofs.from_derive_laws.Choices.{first_case, later_cases}
+use Rattle.occ_complete_states.proofs.Leading.{declaring_leads, law_leads_back, leads_keep, leads_on}
+use Rattle.occ_complete_states.proofs.Scopes.{declared_keeps, scope_front}
+use Rattle.occ_complete_states.specs.Configured.{IsConfigured}
+use Rattle.occ_complete_states.specs.Headers.{IsHeader}
+use Rattle.occ_complete_states.specs.States.{scope_of}
+use Rattle.occ_engine.specs.occ_syntax.declared.scope.Kind.{Kind}
+use Rattle.occ_engine.specs.occ_syntax.declared.scope.Kind.TheVariants.{Chan, Var}
+use Rattle.occ_engine.specs.occ_syntax.Declarations.{declaring_all}
+use Rattle.occ_engine.specs.occ_syntax.Scopes.{environment}
+use Rattle.occ_engine.specs.occ_syntax.Tree.{Exp, Tree, select}
+use Rattle.occ_engine.specs.occ_syntax.Usage.{Keeps}
+use Rattle.occ_complete_states.specs.occ_target.Rows.{part_at}
+use Rattle.occ_complete_states.specs.occ_target.States.{variables}
+use Rattle.occ_complete_states.specs.occ_target_laws.Bodies.{IsVariable, in_state}
+use Rattle.occ_complete_states.specs.occ_target_laws.Shapes.{Header, IsShaped, numbered}
 use Rattle.std.proofs.lemmas.List.{append-nil, append_assoc}
 
 -- one configuration

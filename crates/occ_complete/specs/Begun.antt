@@ -1,18 +1,18 @@
 -- What a body comes to: it declares the variables for inputs, and has a choice for each initial state.
 use Rattle.std.specs.Prelude.{ℕ, ◌≡◌, ◌^◌, false, true, List, length}
 use Rattle.std.specs.List.{AllByRecursion}
-use Rattle.occ_complete_events.specs.occ_base.declared.names.Name.{Name}
-use Rattle.occ_complete_events.specs.occ_derive_moves.Apart.{has_declared}
-use Rattle.occ_complete_events.specs.occ_derive_moves.Unified.{is_target}
-use Rattle.occ_complete_events.specs.occ_complete_states.Configured.{IsConfigured}
-use Rattle.occ_complete_events.specs.occ_complete_states.Leads.{Leads}
-use Rattle.occ_complete_events.specs.occ_syntax.declared.scope.Kind.{Kind}
-use Rattle.occ_complete_events.specs.occ_syntax.Counts.{bits_of_scope}
-use Rattle.occ_complete_events.specs.occ_syntax.Declarations.{declaring_all}
-use Rattle.occ_complete_events.specs.occ_syntax.Names.{free}
-use Rattle.occ_complete_events.specs.occ_syntax.Tree.{Tree, select}
-use Rattle.occ_complete_events.specs.occ_target_laws.Bodies.{IsShapedBody, in_state}
-use Rattle.occ_complete_events.specs.occ_target_laws.Shapes.{Header, numbered}
+use Rattle.occ_engine.specs.occ_base.declared.names.Name.{Name}
+use Rattle.occ_complete_states.specs.occ_derive_moves.Apart.{has_declared}
+use Rattle.occ_complete_states.specs.occ_derive_moves.Unified.{is_target}
+use Rattle.occ_complete_states.specs.Configured.{IsConfigured}
+use Rattle.occ_complete_states.specs.Leads.{Leads}
+use Rattle.occ_engine.specs.occ_syntax.declared.scope.Kind.{Kind}
+use Rattle.occ_engine.specs.occ_syntax.Counts.{bits_of_scope}
+use Rattle.occ_engine.specs.occ_syntax.Declarations.{declaring_all}
+use Rattle.occ_engine.specs.occ_syntax.Names.{free}
+use Rattle.occ_engine.specs.occ_syntax.Tree.{Tree, select}
+use Rattle.occ_complete_states.specs.occ_target_laws.Bodies.{IsShapedBody, in_state}
+use Rattle.occ_complete_states.specs.occ_target_laws.Shapes.{Header, numbered}
 
 -- no variable for inputs is declared in the part, or stands free in it
 pub record IsAway (h : Header) (p : Tree) : Type 0 where

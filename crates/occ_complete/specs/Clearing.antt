@@ -1,10 +1,10 @@
 -- That the variables for inputs are cleared at the end of a process, while they are in scope.
 use Rattle.std.specs.Prelude.{ℕ, List, [], ◌∷◌}
-use Rattle.occ_complete_events.specs.occ_derive_moves.Unified.{cleared}
-use Rattle.occ_complete_events.specs.occ_meaning.Parallel.{two}
-use Rattle.occ_complete_events.specs.occ_syntax.Tree.{Exp, Tree, assign, seq}
-use Rattle.occ_complete_events.specs.occ_target.States.{variables}
-use Rattle.occ_complete_events.specs.occ_target_laws.Shapes.{Header}
+use Rattle.occ_complete_states.specs.occ_derive_moves.Unified.{cleared}
+use Rattle.occ_engine.specs.occ_meaning.Parallel.{two}
+use Rattle.occ_engine.specs.occ_syntax.Tree.{Exp, Tree, assign, seq}
+use Rattle.occ_complete_states.specs.occ_target.States.{variables}
+use Rattle.occ_complete_states.specs.occ_target_laws.Shapes.{Header}
 
 -- a process, and then an assignment, where it has variables
 abbrev pub and_then : List ℕ → List Exp → Tree → Tree

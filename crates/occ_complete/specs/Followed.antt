@@ -1,15 +1,15 @@
 -- What follows an event in a normal program.
 use Rattle.std.specs.Prelude.{ℕ, ◌≡◌, ◌<◌, ◌^◌, List, length, map, Some}
 use Rattle.std.specs.List.{AllByRecursion}
-use Rattle.occ_complete_events.specs.occ_base.declared.event.Dir.TheVariants.{Input, Output}
-use Rattle.occ_complete_events.specs.occ_base.declared.width.Width.{Width}
-use Rattle.occ_complete_events.specs.occ_base.Width.{bits_of}
-use Rattle.occ_complete_events.specs.occ_syntax.declared.scope.Kind.TheVariants.{Chan}
-use Rattle.occ_complete_events.specs.occ_syntax.Scopes.{environment}
-use Rattle.occ_complete_events.specs.occ_syntax.Tree.{Waiting, input, output, Tree, select}
-use Rattle.occ_complete_events.specs.occ_target.Rows.{variable_of}
-use Rattle.occ_complete_events.specs.occ_target.States.{constant, is_at}
-use Rattle.occ_complete_events.specs.occ_target_laws.Shapes.{Header, IsShaped, Node, numbered}
+use Rattle.occ_engine.specs.occ_base.declared.event.Dir.TheVariants.{Input, Output}
+use Rattle.occ_engine.specs.occ_base.declared.width.Width.{Width}
+use Rattle.occ_engine.specs.occ_base.Width.{bits_of}
+use Rattle.occ_engine.specs.occ_syntax.declared.scope.Kind.TheVariants.{Chan}
+use Rattle.occ_engine.specs.occ_syntax.Scopes.{environment}
+use Rattle.occ_engine.specs.occ_syntax.Tree.{Waiting, input, output, Tree, select}
+use Rattle.occ_complete_states.specs.occ_target.Rows.{variable_of}
+use Rattle.occ_complete_states.specs.occ_target.States.{constant, is_at}
+use Rattle.occ_complete_states.specs.occ_target_laws.Shapes.{Header, IsShaped, Node, numbered}
 
 -- Behind an output stands a process of normal shape; behind an input a choice of one for each value.
 pub data IsFollowed (h : Header) : Waiting → Tree → Type 0 where

@@ -1,6 +1,9 @@
+pub mod Headed
+pub mod Freed
+pub mod Ways
 pub mod Begun
 pub mod Clearing
 pub mod Followed
 pub mod Tables
-pub mod Ways
+pub mod ProgramWays
 pub mod Meeting

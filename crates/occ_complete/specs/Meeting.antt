@@ -1,11 +1,11 @@
 -- Programs that lead to one body.
 use Rattle.std.specs.Prelude.{◌≡◌, true, List}
 use Rattle.std.specs.List.{AllByRecursion}
-use Rattle.occ_complete_events.specs.occ_base.declared.names.Name.{Name}
-use Rattle.occ_complete_events.specs.occ_complete_states.Leads.{Leads}
-use Rattle.occ_complete_events.specs.occ_nform_table.Tables.{is_marked}
-use Rattle.occ_complete_events.specs.occ_syntax.declared.scope.Kind.{Kind}
-use Rattle.occ_complete_events.specs.occ_syntax.Tree.{Tree}
+use Rattle.occ_engine.specs.occ_base.declared.names.Name.{Name}
+use Rattle.occ_complete_states.specs.Leads.{Leads}
+use Rattle.occ_complete_states.specs.occ_nform_table.Tables.{is_marked}
+use Rattle.occ_engine.specs.occ_syntax.declared.scope.Kind.{Kind}
+use Rattle.occ_engine.specs.occ_syntax.Tree.{Tree}
 
 -- each channel among the parameters is marked as one for input or one for output
 abbrev pub AreMarked : List (Name × Kind) → Type 0

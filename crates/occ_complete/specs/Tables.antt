@@ -1,7 +1,7 @@
 -- Headers of normal tables.
-use Rattle.occ_complete_events.specs.occ_nform_table.Normal.{Parts}
-use Rattle.occ_complete_events.specs.occ_target.Inputs.{input_variables}
-use Rattle.occ_complete_events.specs.occ_target_laws.Shapes.{Header}
+use Rattle.occ_complete_states.specs.occ_nform_table.Normal.{Parts}
+use Rattle.occ_complete_states.specs.occ_target.Inputs.{input_variables}
+use Rattle.occ_complete_states.specs.occ_target_laws.Shapes.{Header}
 
 -- what the parts of the normal program of a table have in common
 abbrev pub header_of : Parts → Header

@@ -2,18 +2,18 @@
 
 ghost use Rattle.std.specs.Prelude.{◌≡◌};
 ghost use Rattle.occ_complete.specs.Meeting.{AreMarked, Meet};
-ghost use Rattle.occ_complete_events.specs.occ_complete_states.Leads.{Leads};
-ghost use Rattle.occ_complete_events.specs.occ_nform_table.Behaviours.{Stands};
-ghost use Rattle.occ_complete_events.specs.occ_nform_table.Normal.{Parts};
-ghost use Rattle.occ_complete_events.specs.occ_nform_table.Tables.{IsNormal};
-ghost use Rattle.occ_complete_events.specs.occ_syntax.declared.scope.Program.{Program};
-ghost use Rattle.occ_complete_events.specs.occ_syntax.Same.{SAME};
-ghost use Rattle.occ_complete_events.specs.occ_syntax.Scopes.{environment};
-ghost use Rattle.occ_complete_events.specs.occ_syntax.View.{tree};
-ghost use Rattle.occ_complete_events.specs.occ_target.Program.{normal_body};
-ghost use Rattle.occ_complete_events.specs.occ_usage.Accepted.{IsAccepted};
+ghost use Rattle.occ_complete_states.specs.Leads.{Leads};
+ghost use Rattle.occ_complete_states.specs.occ_nform_table.Behaviours.{Stands};
+ghost use Rattle.occ_complete_states.specs.occ_nform_table.Normal.{Parts};
+ghost use Rattle.occ_complete_states.specs.occ_nform_table.Tables.{IsNormal};
+ghost use Rattle.occ_engine.specs.occ_syntax.declared.scope.Program.{Program};
+ghost use Rattle.occ_engine.specs.occ_syntax.Same.{SAME};
+ghost use Rattle.occ_engine.specs.occ_syntax.Scopes.{environment};
+ghost use Rattle.occ_engine.specs.occ_syntax.View.{tree};
+ghost use Rattle.occ_complete_states.specs.occ_target.Program.{normal_body};
+ghost use Rattle.occ_engine.specs.occ_usage.Accepted.{IsAccepted};
 
-use occ_complete_events::laws_are_sound;
+use occ_engine::laws_are_sound;
 
 /// The laws are complete: two accepted programs with the same parameters that mean the same lead to one body, by moves by laws of the
 /// table. Each channel among the parameters has a direction, as in every program that was read.

@@ -1,17 +1,17 @@
 //! That there is a derivation of each normal program.
 
 ghost use Rattle.std.specs.Prelude.{◌≡◌};
-ghost use Rattle.occ_complete_events.specs.occ_derive_moves.Steps.{Derivable};
-ghost use Rattle.occ_complete_events.specs.occ_nform_table.Behaviours.{Stands};
-ghost use Rattle.occ_complete_events.specs.occ_nform_table.Normal.{Parts};
-ghost use Rattle.occ_complete_events.specs.occ_nform_table.Tables.{IsNormal};
-ghost use Rattle.occ_complete_events.specs.occ_syntax.declared.scope.Program.{Program};
-ghost use Rattle.occ_complete_events.specs.occ_syntax.View.{tree};
-ghost use Rattle.occ_complete_events.specs.occ_target.Program.{normal_body};
-ghost use Rattle.occ_complete_events.specs.occ_usage.Accepted.{IsAccepted};
+ghost use Rattle.occ_complete_states.specs.occ_derive_moves.Steps.{Derivable};
+ghost use Rattle.occ_complete_states.specs.occ_nform_table.Behaviours.{Stands};
+ghost use Rattle.occ_complete_states.specs.occ_nform_table.Normal.{Parts};
+ghost use Rattle.occ_complete_states.specs.occ_nform_table.Tables.{IsNormal};
+ghost use Rattle.occ_engine.specs.occ_syntax.declared.scope.Program.{Program};
+ghost use Rattle.occ_engine.specs.occ_syntax.View.{tree};
+ghost use Rattle.occ_complete_states.specs.occ_target.Program.{normal_body};
+ghost use Rattle.occ_engine.specs.occ_usage.Accepted.{IsAccepted};
 
 use crate::derivations_exist;
-use occ_complete_events::rows_make_steps;
+use occ_complete_states::rows_make_steps;
 
 /// Steps lead from an accepted program to the normal body of each normal table that stands for it.
 pub fn normal_programs_are_derivable()

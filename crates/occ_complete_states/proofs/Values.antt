@@ -3,7 +3,7 @@ use Rattle.std.proofs.Common.{◌≡◌, ◌∙◌, ◌++◌, ◌==◌, ◌+◌,
 use Rattle.std.proofs.lemmas.Bool.{and_from, cases_lt, eqb-true, eq-eqb, or_cases, or_left, or_right}
 use Rattle.occ_derive_laws.specs.occ_base.declared.names.Name.{Name}
 use Rattle.occ_derive_laws.specs.occ_base.declared.width.Width.{Width}
-use Rattle.occ_derive_laws.specs.occ_base.declared.width.Width.TheVariants.{Bool as TruthValue, Word}
+use Rattle.occ_derive_laws.specs.occ_base.declared.width.Width.TheVariants.{Bool as TruthValue}
 use Rattle.occ_derive_laws.specs.occ_base.Width.{bits_of}
 use Rattle.occ_derive_laws.specs.occ_bits.Named.{are_conditions}
 use Rattle.occ_derive_laws.proofs.Conditions.{conditions_append}
@@ -20,7 +20,7 @@ use Rattle.occ_derive_laws.specs.occ_law.Choice.{copies}
 use Rattle.occ_derive_laws.specs.occ_law.Lists.{all_cases, conditions}
 use Rattle.occ_derive_laws.specs.occ_law.Sequence.{each_case_before}
 use Rattle.occ_derive_laws.specs.occ_law.States.{AreFew, EachEqual, IsEqualWhere, and_place, no_place, some_true}
-use Rattle.occ_derive_laws.proofs.from_meaning.Facts.{at_itself, false_not_true, if_true, true_not_false}
+use Rattle.occ_derive_laws.proofs.from_meaning.Facts.{false_not_true, if_true, true_not_false}
 use Rattle.occ_derive_laws.specs.occ_meaning.Parallel.{one, two}
 use Rattle.occ_derive_laws.specs.occ_syntax.declared.expr.Op.TheVariants.{Equal}
 use Rattle.occ_derive_laws.specs.occ_syntax.declared.scope.Kind.{Kind}
@@ -33,6 +33,7 @@ use Rattle.occ_derive_laws.specs.occ_syntax.Usage.{Keeps}
 use Rattle.occ_derive_laws.specs.occ_target.States.{constant, is_at}
 use Rattle.occ_derive_laws.proofs.from_target_laws.Following.{constant_value, test_tells}
 use Rattle.occ_derive_laws.specs.occ_target_laws.Shapes.{numbered}
+use Rattle.occ_derive_laws.proofs.from_syntax.Widths.{same_as_itself}
 
 -- ---- lists over values
 
@@ -146,11 +147,7 @@ module _ (S : List (Name × Kind)) (kept : scope_kept S ≡ true) (t : ℕ) (w :
 
   test_typed : (v : ℕ) → v < 2 ^ bits_of w → is_condition (environment S) (is_at t w v) ≡ true
   test_typed v small =
-      ap (λ o. agree o (Some TruthValue)) ((λ i. type_of_two Equal (et i) (constant_type (environment S) w v wide small i)) ∙ if_true (same_width w w) (Some TruthValue) None (itself w))
-    where
-      itself : (u : Width) → same_width u u ≡ true
-      itself TruthValue = refl
-      itself (Word b) = at_itself b
+      ap (λ o. agree o (Some TruthValue)) ((λ i. type_of_two Equal (et i) (constant_type (environment S) w v wide small i)) ∙ if_true (same_width w w) (Some TruthValue) None (same_as_itself w))
 
   all_typed : (k m : ℕ) → k + m ≤ 2 ^ bits_of w → are_conditions (environment S) (conditions_of (is_at t w) k m) ≡ true
   all_typed k zero low = refl

@@ -1,6 +1,5 @@
-//! Functions from assignments of bits to labels, as ordered reduced decision diagrams whose nodes
-//! are shared (Bryant 1986), with the memo tables of operations on them.
-//! Sets of bit assignments, interned: one set has one number.
+//! Ordered reduced decision diagrams whose nodes are shared (Bryant 1986): functions from assignments of bits to labels, sets of
+//! assignments, and the memo of operations. One function has one number, and so has one set.
 #![tactic(auto)]
 
 mod diagram_law;
@@ -17,7 +16,7 @@ pub use label::Label;
 pub use law::sets_have_one_number;
 pub use memo::{Call, Memo};
 pub use node::{Decision, Node};
-pub use occ_base::{Dir, Event, List, Memory, Name, Names, Width};
+pub use occ_base::{List, Memory, Name, Width};
 pub use set::SetId;
 pub use store::Store;
 pub use table::Table;

@@ -2,7 +2,7 @@
 use Rattle.std.proofs.Common.{◌<◌, ◌≤◌, ℕ, suc, ◌+◌, ◌≡◌, List, [], ◌∷◌, drop, get_or, length, sym, subst, arith}
 use Rattle.std.specs.List.{AllByRecursion}
 use Rattle.std.proofs.Math.Seq.{drop-cons}
-use Rattle.occ_script_back.specs.occ_base.declared.names.Name.{Name}
+use Rattle.occ_syntax.specs.occ_base.declared.names.Name.{Name}
 use Rattle.occ_derive.specs.Derived.{AreBelow, IsBelow, ParamIsBelow, ProgramIsBelow}
 use Rattle.occ_derive_search.specs.occ_engine.declared.outcome.Outcome.{Outcome}
 use Rattle.occ_script_back.specs.occ_print.Greatest.{greatest}

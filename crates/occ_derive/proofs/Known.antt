@@ -1,7 +1,7 @@
 -- Names up to one that stands in a table stand in it.
 use Rattle.std.proofs.Common.{◌<◌, ℕ, arith, List, [], ◌∷◌, length}
 use Rattle.std.specs.List.{AllByRecursion}
-use Rattle.occ_script_back.specs.occ_base.declared.names.Name.{Name}
+use Rattle.occ_syntax.specs.occ_base.declared.names.Name.{Name}
 use Rattle.occ_derive.specs.Derived.{AreBelow, CanBeWritten, IsBelow, IsDerivation, IsProgramOf, ParamIsBelow, ProgramIsBelow}
 use Rattle.occ_derive_search.specs.occ_engine.declared.outcome.Outcome.{Outcome}
 use Rattle.occ_derive_search.specs.occ_engine.Outcomes.{IsTabled}

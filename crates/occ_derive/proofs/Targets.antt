@@ -2,9 +2,9 @@
 use Rattle.std.proofs.Common.{◌≡◌, ℕ, zero, suc, ◌+◌, ◌≤◌, Bool, true, false, cond, nat_le, List, [], ◌∷◌, ◌++◌, length, filter, length-append, refl, sym, subst, arith}
 use Rattle.std.specs.List.{list_all}
 use Rattle.std.proofs.lemmas.Bool.{and_from, and_parts, le-leb, leb-true}
-use Rattle.occ_script_back.specs.occ_base.declared.names.Name.{Name}
-use Rattle.occ_script_back.specs.occ_base.declared.width.Width.{Width}
-use Rattle.occ_script_back.specs.occ_base.Names.{with_text}
+use Rattle.occ_syntax.specs.occ_base.declared.names.Name.{Name}
+use Rattle.occ_syntax.specs.occ_base.declared.width.Width.{Width}
+use Rattle.occ_syntax.specs.occ_base.Names.{with_text}
 use Rattle.occ_script_back.specs.occ_lex.Growth.{GrowsByNames, IsNameText}
 use Rattle.occ_script_back.proofs.from_lex.Growing.{grows_not, grows_on, grows_once}
 use Rattle.occ_script_back.proofs.from_lex.Spelled.{is_name_text}

@@ -11,7 +11,7 @@ use Rattle.occ_script_back.specs.occ_print.Greatest.{greatest}
 use Rattle.occ_script_back.specs.occ_script_write.declared.writing.Done.{Done}
 use Rattle.occ_script_back.specs.occ_script_write.Text.{IsWritable}
 use Rattle.occ_script_back.specs.Said.{IsSaid, IsShortPath}
-use Rattle.occ_script_back.specs.occ_base.declared.names.Name.{Name}
+use Rattle.occ_syntax.specs.occ_base.declared.names.Name.{Name}
 use Rattle.occ_syntax.specs.declared.scope.Kind.{Kind}
 use Rattle.occ_syntax.specs.declared.scope.Program.{Program}
 use Rattle.occ_syntax.specs.Tree.{Tree}

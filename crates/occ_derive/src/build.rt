@@ -1,8 +1,8 @@
 //! Small parts of programs, and parts taken apart.
 
 use occ_derive_unify::{Frame, Lost, Piece, Trail, alt_of, assign_of, constant};
-use occ_script_back::{LawId, Memory, Name, Width};
-use occ_syntax::{Expr, Guard, Op, Proc, Procs, Wait};
+use occ_script_back::Law;
+use occ_syntax::{Expr, Guard, Memory, Name, Op, Proc, Procs, Wait, Width};
 use std::alloc::Global;
 
 /// Variables with their values, in order.
@@ -104,7 +104,7 @@ pub(crate) fn choices_in(alloc: Global, part: Proc) -> Result<Cases, Lost> {
 }
 
 /// A law used forward makes the present part the ALT of these branches.
-pub(crate) fn alt_by(trail: &mut Trail, law: LawId, branches: Branches) -> Result<Branches, Lost> {
+pub(crate) fn alt_by(trail: &mut Trail, law: Law, branches: Branches) -> Result<Branches, Lost> {
     let alloc = trail.alloc();
     let part = alt_of(alloc, branches)?;
     trail.forward(law, &part)?;

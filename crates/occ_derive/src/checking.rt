@@ -14,8 +14,8 @@ use crate::whole::proposals;
 use occ_complete::normal_programs_are_derivable;
 use occ_derive_search::{Outcome, Table, TargetFault, follow, search, target};
 use occ_derive_unify::Lost;
-use occ_script_back::{Accepted, Memory, Names, parts_are_known_up_to_their_greatest_name};
-use occ_syntax::{Program, same_proc};
+use occ_script_back::{Accepted, parts_are_known_up_to_their_greatest_name};
+use occ_syntax::{Memory, Names, Program, same_proc};
 use std::alloc::Global;
 
 /// The steps that the strategy proposes, where they lead from the accepted program to the normal one.

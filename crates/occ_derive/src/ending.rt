@@ -1,9 +1,9 @@
 //! The last assignment of a process, with what all processes end with taken out of it.
 
 use crate::build::{Pairs, alone, identities, joined, zeros};
-use occ_derive_unify::{Frame, Lost, Piece, Trail, assign_of, law, seq_of_two};
-use occ_script_back::{Name, Width};
-use occ_syntax::Proc;
+use occ_derive_unify::{Frame, Lost, Piece, Trail, assign_of, seq_of_two};
+use occ_script_back::Law;
+use occ_syntax::{Name, Proc, Width};
 
 /// Leaves out the last pairs of an assignment, from its end, until so many are left. Each gives a variable its own value.
 fn shortened(trail: &mut Trail, pairs: Pairs, count: usize) -> Result<Proc, Lost> {
@@ -13,7 +13,7 @@ fn shortened(trail: &mut Trail, pairs: Pairs, count: usize) -> Result<Proc, Lost
     for _ in 0..surplus {
         let _ = pairs.pop();
         let part = assign_of(alloc, pairs.as_slice())?;
-        trail.backward(law::ASSIGN_PAD, &part)?;
+        trail.backward(Law::AssignPad, &part)?;
     }
     Ok(assign_of(alloc, pairs.as_slice())?)
 }
@@ -27,7 +27,7 @@ fn turned(
     let alloc = trail.alloc();
     let turned = joined(zeros(alloc, targets)?, identities(alloc, params)?)?;
     let part = assign_of(alloc, turned.as_slice())?;
-    trail.forward(law::ASSIGN_ORDER, &part)?;
+    trail.forward(Law::AssignOrder, &part)?;
     shortened(trail, turned, targets.len())
 }
 
@@ -43,7 +43,7 @@ fn parted(trail: &mut Trail, frame: &Frame, ends: Pairs) -> Result<Proc, Lost> {
     let one = assign_of(alloc, first.as_slice())?;
     let other = assign_of(alloc, second.as_slice())?;
     let part = seq_of_two(alloc, one, other)?;
-    trail.backward(law::ASSIGN_JOIN, &part)?;
+    trail.backward(Law::AssignJoin, &part)?;
     trail.enter(0)?;
     let ends = shortened(trail, first, params.len())?;
     trail.leave();
@@ -57,7 +57,7 @@ fn parted(trail: &mut Trail, frame: &Frame, ends: Pairs) -> Result<Proc, Lost> {
 fn behind_skip(trail: &mut Trail, part: Proc) -> Result<Proc, Lost> {
     let alloc = trail.alloc();
     let part = alone(alloc, part)?;
-    trail.backward(law::SEQ_ONE, &part)?;
+    trail.backward(Law::SeqOne, &part)?;
     let Piece::Seq(mut parts) = Piece::of(alloc, part)? else {
         return Err(Lost::NoStep);
     };
@@ -65,7 +65,7 @@ fn behind_skip(trail: &mut Trail, part: Proc) -> Result<Proc, Lost> {
         return Err(Lost::NoStep);
     };
     let part = seq_of_two(alloc, Proc::Skip, last)?;
-    trail.backward(law::SEQ_SKIP, &part)?;
+    trail.backward(Law::SeqSkip, &part)?;
     Ok(part)
 }
 
@@ -83,7 +83,7 @@ pub(crate) fn behind_identities(
     let (_, last) = crate::build::both_of(alloc, part)?;
     let first = assign_of(alloc, identities(alloc, vars)?.as_slice())?;
     trail.enter(0)?;
-    trail.backward(law::ASSIGN_ID, &first)?;
+    trail.backward(Law::AssignId, &first)?;
     trail.leave();
     Ok(seq_of_two(alloc, first, last)?)
 }

@@ -1,4 +1,4 @@
-use occ_script_back::Memory;
+use occ_syntax::Memory;
 use thiserror::Error;
 
 /// Why there is no derivation.

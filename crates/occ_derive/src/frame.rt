@@ -5,8 +5,8 @@ ghost use Rattle.occ_script_back.specs.occ_lex.Growth.{GrowsByNames};
 ghost use Rattle.occ_script_back.specs.occ_lex.Spelling.{is_letter};
 
 use occ_derive_unify::{Frame, Lost};
-use occ_script_back::{Memory, Name, Names, Width, numbered};
-use occ_syntax::{Kind, Proc, Scope};
+use occ_script_back::numbered;
+use occ_syntax::{Kind, Memory, Name, Names, Proc, Scope, Width};
 use std::alloc::Global;
 
 /// What the strategy keeps in view: the frame, and all parameters in order.

@@ -2,11 +2,9 @@
 
 use crate::build::{Branches, Cases, add, alt_by, both_of, choices_in, is_at};
 use occ_derive_open::{cases, prefix};
-use occ_derive_unify::{
-    Frame, Lost, Piece, Trail, alt_of, assign_of, constant, if_of, law, seq_of_two,
-};
-use occ_script_back::{Memory, Name, Width};
-use occ_syntax::Proc;
+use occ_derive_unify::{Frame, Lost, Piece, Trail, alt_of, assign_of, constant, if_of, seq_of_two};
+use occ_script_back::Law;
+use occ_syntax::{Memory, Name, Proc, Width};
 use std::alloc::Global;
 
 /// `SEQ(IF, P)` as an IF with P behind each of its processes.
@@ -18,7 +16,7 @@ fn shared(trail: &mut Trail, choices: Cases, rest: Proc) -> Result<Cases, Lost> 
         add(&mut all, (condition, part))?;
     }
     let part = if_of(alloc, all)?;
-    trail.forward(law::SEQ_IF, &part)?;
+    trail.forward(Law::SeqIf, &part)?;
     choices_in(alloc, part)
 }
 
@@ -75,7 +73,7 @@ fn spread(trail: &mut Trail, first: &Proc, branches: Branches) -> Result<Branche
         let part = seq_of_two(alloc, first.copy(alloc)?, process)?;
         add(&mut all, (guard, part))?;
     }
-    alt_by(trail, law::ASSIGN_ALT, all)
+    alt_by(trail, Law::AssignAlt, all)
 }
 
 fn told_each(trail: &mut Trail, frame: &Frame, branches: Branches) -> Result<Proc, Lost> {

@@ -6,8 +6,8 @@ ghost use Rattle.occ_derive.specs.Derived.{AreBelow, IsBelow, ParamIsBelow, Prog
 ghost use Rattle.occ_script_back.specs.Said.{IsShortPath};
 
 use occ_derive_search::Outcome;
-use occ_script_back::{Done, Name, Path, greatest_name};
-use occ_syntax::{Kind, Program};
+use occ_script_back::{Done, Path, greatest_name};
+use occ_syntax::{Kind, Name, Program};
 
 /// Reads the numbers of a path, so that it is known that each has 32 bits.
 pub fn read_path(path: &Path)

@@ -17,5 +17,7 @@ pub use checking::{derive, derive_to};
 pub use fault::DeriveFault;
 pub use last::read_path;
 pub use occ_complete::normal_programs_are_derivable;
-pub use occ_derive_search::{moves_are_steps, steps_keep_the_meaning};
-pub use occ_script_back::write;
+pub use occ_derive_search::{
+    moves_are_steps, narrow_steps_are_moves, steps_go_on, steps_keep_the_meaning,
+};
+pub use occ_script_back::{Done, write};

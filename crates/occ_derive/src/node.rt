@@ -5,9 +5,9 @@ use crate::ending::{behind_identities, ended};
 use crate::frame::View;
 use crate::inputs::{by_cases, by_values, told};
 use crate::settle::settle;
-use occ_derive_unify::{Frame, Lost, Piece, Trail, alt_of, if_of, law, merge, seq_of_two, unify};
-use occ_script_back::Name;
-use occ_syntax::{Guard, Proc, Wait};
+use occ_derive_unify::{Frame, Lost, Piece, Trail, alt_of, if_of, merge, seq_of_two, unify};
+use occ_script_back::Law;
+use occ_syntax::{Guard, Name, Proc, Wait};
 
 /// An ALT, each of whose processes clears the variables for inputs last, as a SEQ that does so last.
 fn cleared_alt(trail: &mut Trail, frame: &Frame, branches: Branches) -> Result<Proc, Lost> {
@@ -22,7 +22,7 @@ fn cleared_alt(trail: &mut Trail, frame: &Frame, branches: Branches) -> Result<P
     }
     let front = alt_of(alloc, fronts)?;
     let part = seq_of_two(alloc, front, last)?;
-    trail.backward(law::SEQ_ALT, &part)?;
+    trail.backward(Law::SeqAlt, &part)?;
     Ok(part)
 }
 
@@ -39,7 +39,7 @@ pub(crate) fn cleared_if(trail: &mut Trail, frame: &Frame, choices: Cases) -> Re
     }
     let front = if_of(alloc, fronts)?;
     let part = seq_of_two(alloc, front, last)?;
-    trail.backward(law::SEQ_IF, &part)?;
+    trail.backward(Law::SeqIf, &part)?;
     Ok(part)
 }
 

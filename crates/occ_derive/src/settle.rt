@@ -2,9 +2,9 @@
 
 use crate::build::{Branches, add, alt_by, branches_in, is_of_events};
 use occ_derive_open::{advance, open};
-use occ_derive_unify::{Frame, Lost, Piece, Trail, alt_of, law, unseen};
-use occ_script_back::Memory;
-use occ_syntax::{Guard, Proc, Wait, same_expr, same_proc};
+use occ_derive_unify::{Frame, Lost, Piece, Trail, alt_of, unseen};
+use occ_script_back::Law;
+use occ_syntax::{Guard, Memory, Proc, Wait, same_expr, same_proc};
 use std::alloc::Global;
 use std::mem::replace;
 
@@ -80,7 +80,7 @@ fn once(trail: &mut Trail, branches: Branches) -> Result<Branches, Lost> {
         if place < branches.len() {
             let _ = branches.remove(place);
         }
-        branches = alt_by(trail, law::ALT_TWICE, branches)?;
+        branches = alt_by(trail, Law::AltTwice, branches)?;
     }
     Err(Lost::NoStep)
 }
@@ -128,7 +128,7 @@ fn put_back(
                 return Ok(branches);
             }
             let all = taken_in(alloc, branches, place, inner)?;
-            alt_by(trail, law::ALT_FLAT, all)
+            alt_by(trail, Law::AltFlat, all)
         }
         piece => {
             put(&mut branches, place, piece.into_proc(alloc)?);
@@ -198,7 +198,7 @@ fn as_branch(trail: &mut Trail, part: Proc) -> Result<Branches, Lost> {
     let mut branches = Vec::new(alloc);
     add(&mut branches, (unseen(), part))?;
     let part = alt_of(alloc, branches)?;
-    trail.backward(law::ALT_SKIP, &part)?;
+    trail.backward(Law::AltSkip, &part)?;
     branches_in(alloc, part)
 }
 

@@ -3,8 +3,7 @@
 use crate::build::{Cases, Pairs, add, is_at, joined, zeros};
 use crate::inputs::last_of;
 use occ_derive_unify::{assign_of, constant};
-use occ_script_back::{Memory, Name, Width};
-use occ_syntax::{Expr, Op};
+use occ_syntax::{Expr, Memory, Name, Op, Width};
 use std::alloc::Global;
 
 /// The values of variables, in their order.

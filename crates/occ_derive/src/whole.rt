@@ -10,10 +10,10 @@ use crate::node::{cleared_if, node};
 use crate::states::by_states;
 use occ_derive_open::apart;
 use occ_derive_unify::{
-    Dones, Frame, Lost, Piece, Trail, assign_of, if_of, law, restore, seq_of, seq_of_two, var_of,
+    Dones, Frame, Lost, Piece, Trail, assign_of, if_of, restore, seq_of, seq_of_two, var_of,
 };
-use occ_script_back::{Memory, Name, Names, Width, greatest_name};
-use occ_syntax::{Kind, Proc, Program};
+use occ_script_back::{Law, greatest_name};
+use occ_syntax::{Kind, Memory, Name, Names, Proc, Program, Width};
 use std::alloc::Global;
 
 /// How deep the strategy goes at most.
@@ -44,11 +44,11 @@ fn declared(
         let first = assign_of(alloc, pairs.as_slice())?;
         let first = var_of(alloc, *name, *width, first)?;
         trail.enter(0)?;
-        trail.backward(law::VAR_ASSIGN, &first)?;
+        trail.backward(Law::VarAssign, &first)?;
         trail.leave();
         let inner = seq_of_two(alloc, body_of(alloc, first)?, rest)?;
         let outer = var_of(alloc, *name, *width, inner)?;
-        trail.backward(law::VAR_LAST, &outer)?;
+        trail.backward(Law::VarLast, &outer)?;
         part = body_of(alloc, outer)?;
         trail.enter(0)?;
     }
@@ -64,7 +64,7 @@ fn brought_in(trail: &mut Trail, variable: (Name, Width), choices: Cases) -> Res
         add(&mut all, (condition, var_of(alloc, name, width, process)?))?;
     }
     let part = if_of(alloc, all)?;
-    trail.forward(law::VAR_IF, &part)?;
+    trail.forward(Law::VarIf, &part)?;
     choices_in(alloc, part)
 }
 
@@ -95,14 +95,14 @@ fn cleared(
     let rest = assign_of(alloc, zeros(alloc, before)?.as_slice())?;
     let inner = seq_of_two(alloc, front, rest)?;
     let part = var_of(alloc, name, width, inner)?;
-    trail.forward(law::VAR_END, &part)?;
+    trail.forward(Law::VarEnd, &part)?;
     let (front, rest) = both_of(alloc, body_of(alloc, part)?)?;
     if before.is_empty() {
         return Ok(var_of(alloc, name, width, lone(trail, front)?)?);
     }
     let front = var_of(alloc, name, width, front)?;
     let part = seq_of_two(alloc, front, rest)?;
-    trail.forward(law::VAR_LAST, &part)?;
+    trail.forward(Law::VarLast, &part)?;
     Ok(part)
 }
 
@@ -113,14 +113,14 @@ fn lone(trail: &mut Trail, front: Proc) -> Result<Proc, Lost> {
     add(&mut parts, front)?;
     let part = seq_of(alloc, parts)?;
     trail.enter(0)?;
-    trail.forward(law::SEQ_SKIP, &part)?;
+    trail.forward(Law::SeqSkip, &part)?;
     let Piece::Seq(mut parts) = Piece::of(alloc, part)? else {
         return Err(Lost::NoStep);
     };
     let Some(front) = parts.pop() else {
         return Err(Lost::NoStep);
     };
-    trail.forward(law::SEQ_ONE, &front)?;
+    trail.forward(Law::SeqOne, &front)?;
     trail.leave();
     Ok(front)
 }

@@ -2,10 +2,8 @@
 
 use crate::around::Turn;
 use crate::build::{alone, followed, in_two};
-use occ_derive_trail::{
-    Lost, Memory, Piece, Trail, alt_of, if_of, law, seq_of, seq_of_two, var_of,
-};
-use occ_syntax::{Expr, Guard, Proc};
+use occ_derive_trail::{Law, Lost, Piece, Trail, alt_of, if_of, seq_of, seq_of_two, var_of};
+use occ_syntax::{Expr, Guard, Memory, Proc};
 use std::alloc::Global;
 
 /// A SEQ whose first part has its head form, and the parts behind it.
@@ -13,7 +11,7 @@ pub(crate) fn after(trail: &mut Trail, head: Piece, rest: Vec<Proc>) -> Result<T
     match head {
         Piece::Skip => {
             let whole = seq_of(trail.alloc(), rest)?;
-            trail.forward(law::SEQ_SKIP, &whole)?;
+            trail.forward(Law::SeqSkip, &whole)?;
             Ok(Turn::Work(whole))
         }
         Piece::Stop => Ok(Turn::Head(stopped(trail, rest)?)),
@@ -21,7 +19,7 @@ pub(crate) fn after(trail: &mut Trail, head: Piece, rest: Vec<Proc>) -> Result<T
         head => {
             if rest.is_empty() {
                 let whole = head.into_proc(trail.alloc())?;
-                trail.forward(law::SEQ_ONE, &whole)?;
+                trail.forward(Law::SeqOne, &whole)?;
                 return Ok(Turn::Head(whole));
             }
             Ok(Turn::Head(before(trail, head, rest)?))
@@ -34,16 +32,16 @@ fn stopped(trail: &mut Trail, rest: Vec<Proc>) -> Result<Proc, Lost> {
     let alloc = trail.alloc();
     if !rest.is_empty() {
         let whole = seq_of(alloc, alone(alloc, Proc::Stop)?)?;
-        trail.forward(law::SEQ_STOP, &whole)?;
+        trail.forward(Law::SeqStop, &whole)?;
     }
-    trail.forward(law::SEQ_ONE, &Proc::Stop)?;
+    trail.forward(Law::SeqOne, &Proc::Stop)?;
     Ok(Proc::Stop)
 }
 
 // The parts of a SEQ and what follows it as one SEQ.
 fn flat(trail: &mut Trail, parts: Vec<Proc>, rest: Vec<Proc>) -> Result<Proc, Lost> {
     let whole = joined(trail.alloc(), parts, rest)?;
-    trail.forward(law::SEQ_FLAT, &whole)?;
+    trail.forward(Law::SeqFlat, &whole)?;
     Ok(whole)
 }
 
@@ -61,12 +59,12 @@ fn before(trail: &mut Trail, head: Piece, rest: Vec<Proc>) -> Result<Proc, Lost>
     match head {
         Piece::If(choices) => {
             let whole = choices_before(alloc, choices, rest.as_slice())?;
-            trail.forward(law::SEQ_IF, &whole)?;
+            trail.forward(Law::SeqIf, &whole)?;
             Ok(whole)
         }
         Piece::Alt(branches) => {
             let whole = branches_before(alloc, branches, rest.as_slice())?;
-            trail.forward(law::SEQ_ALT, &whole)?;
+            trail.forward(Law::SeqAlt, &whole)?;
             Ok(whole)
         }
         Piece::Var(name, width, body) => {
@@ -107,6 +105,6 @@ fn variable_before(trail: &mut Trail, head: Proc, second: Proc) -> Result<Proc, 
         return Err(Lost::NoStep);
     };
     let whole = var_of(alloc, name, width, seq_of_two(alloc, body, second)?)?;
-    trail.backward(law::VAR_LAST, &whole)?;
+    trail.backward(Law::VarLast, &whole)?;
     Ok(whole)
 }

@@ -1,5 +1,5 @@
-use occ_derive_trail::{Memory, Name, Trail, Width};
-use occ_syntax::{Guard, Proc};
+use occ_derive_trail::Trail;
+use occ_syntax::{Guard, Memory, Name, Proc, Width};
 use std::alloc::Global;
 
 /// How a part stands.

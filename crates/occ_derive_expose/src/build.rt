@@ -1,5 +1,5 @@
-use occ_derive_trail::{Lost, Memory, Piece, Trail, law, par_of, seq_of, seq_of_two};
-use occ_syntax::Proc;
+use occ_derive_trail::{Law, Lost, Piece, Trail, par_of, seq_of, seq_of_two};
+use occ_syntax::{Memory, Proc};
 use std::alloc::Global;
 
 /// PAR of two parts.
@@ -70,7 +70,7 @@ pub(crate) fn in_two(
         }
     }
     let whole = seq_of_two(alloc, first, seq_of(alloc, rest)?)?;
-    trail.backward(law::SEQ_FLAT, &whole)?;
+    trail.backward(Law::SeqFlat, &whole)?;
     parted(alloc, whole)
 }
 
@@ -88,6 +88,6 @@ pub(crate) fn beside_one(
         }
     }
     let whole = par_of_two(alloc, first, par_of(alloc, rest)?)?;
-    trail.backward(law::PAR_FLAT, &whole)?;
+    trail.backward(Law::ParFlat, &whole)?;
     parted(alloc, whole)
 }

@@ -3,8 +3,8 @@ use crate::around::{Around, Rounds, Turn};
 use crate::beside::{first_done, second_done};
 use crate::build::{alone, beside_one, cut};
 use crate::hidden::{declared, hidden};
-use occ_derive_trail::{Lost, Memory, Piece, Trail, alt_of, law, seq_of};
-use occ_syntax::{Expr, Guard, Proc, Wait};
+use occ_derive_trail::{Law, Lost, Piece, Trail, alt_of, seq_of};
+use occ_syntax::{Expr, Guard, Memory, Proc, Wait};
 use std::alloc::Global;
 
 /// Brings what a part does first to its head. The result is SKIP, STOP, a SEQ that begins with an assignment, an IF, an ALT or
@@ -53,14 +53,14 @@ fn done(trail: &mut Trail, rounds: &mut Rounds, next: Around, head: Proc) -> Res
 fn assigned(trail: &mut Trail, assignment: Piece) -> Result<Turn, Lost> {
     let alloc = trail.alloc();
     let whole = seq_of(alloc, alone(alloc, assignment.into_proc(alloc)?)?)?;
-    trail.backward(law::SEQ_ONE, &whole)?;
+    trail.backward(Law::SeqOne, &whole)?;
     Ok(Turn::Head(whole))
 }
 
 // An input or an output as the one branch of an ALT.
 fn guarded(trail: &mut Trail, wait: Wait) -> Result<Turn, Lost> {
     let whole = one_branch(trail.alloc(), wait)?;
-    trail.forward(law::IO_ALT, &whole)?;
+    trail.forward(Law::IoAlt, &whole)?;
     Ok(Turn::Head(whole))
 }
 
@@ -78,7 +78,7 @@ fn in_order(trail: &mut Trail, rounds: &mut Rounds, parts: Vec<Proc>) -> Result<
         return Ok(Turn::Head(seq_of(alloc, parts)?));
     }
     let Some((first, rest)) = cut(alloc, parts)? else {
-        trail.forward(law::SEQ_NONE, &Proc::Skip)?;
+        trail.forward(Law::SeqNone, &Proc::Skip)?;
         return Ok(Turn::Head(Proc::Skip));
     };
     rounds.enter(trail, 0, Around::Before(rest))?;
@@ -96,11 +96,11 @@ fn assigns_first(parts: &[Proc]) -> bool {
 // A PAR is worked at its first part, with all others as one.
 fn at_once(trail: &mut Trail, rounds: &mut Rounds, parts: Vec<Proc>) -> Result<Turn, Lost> {
     let Some((first, rest)) = cut(trail.alloc(), parts)? else {
-        trail.forward(law::PAR_NONE, &Proc::Skip)?;
+        trail.forward(Law::ParNone, &Proc::Skip)?;
         return Ok(Turn::Head(Proc::Skip));
     };
     if rest.is_empty() {
-        trail.forward(law::PAR_ONE, &first)?;
+        trail.forward(Law::ParOne, &first)?;
         return Ok(Turn::Work(first));
     }
     let (first, other) = beside_one(trail, first, rest)?;

@@ -4,8 +4,8 @@ ghost use Rattle.std.specs.Prelude.{◌≡◌, true};
 ghost use Rattle.occ_derive_trail.specs.occ_lex.Growth.{GrowsByNames};
 ghost use Rattle.occ_derive_trail.specs.occ_lex.Spelling.{is_letter};
 
-use occ_derive_trail::{Lost, Name, NameSet, Names, numbered};
-use occ_syntax::Kind;
+use occ_derive_trail::{Lost, NameSet, numbered};
+use occ_syntax::{Kind, Name, Names};
 use std::alloc::Global;
 
 /// The names that are used, and the number of the name that was made last.

@@ -3,10 +3,9 @@
 use crate::around::{Around, Rounds, Turn};
 use crate::build::{alone, cut, in_two, parted};
 use occ_derive_trail::{
-    Lost, Memory, Name, NameSet, Piece, Trail, Width, alt_of, free, if_of, law, seq_of, seq_of_two,
-    var_of,
+    Law, Lost, NameSet, Piece, Trail, alt_of, free, if_of, seq_of, seq_of_two, var_of,
 };
-use occ_syntax::{Expr, Guard, Proc, Wait};
+use occ_syntax::{Expr, Guard, Memory, Name, Proc, Wait, Width};
 use std::alloc::Global;
 
 /// A declared channel, and those declared next in it, are worked at what they govern. Channels that this doesn't name go.
@@ -57,14 +56,14 @@ pub(crate) fn hidden(
     let chan = Channel { name, width };
     let (whole, law) = match head {
         Piece::Seq(parts) => return chan.in_order(trail, parts),
-        Piece::If(choices) => (chan.choices(alloc, choices)?, law::CHAN_IF),
-        Piece::Alt(branches) => (chan.branches(alloc, branches)?, law::CHAN_ALT),
+        Piece::If(choices) => (chan.choices(alloc, choices)?, Law::ChanIf),
+        Piece::Alt(branches) => (chan.branches(alloc, branches)?, Law::ChanAlt),
         Piece::Var(name, width, body) => {
             let whole = var_of(alloc, name, width, chan.round(alloc, body)?)?;
-            trail.backward(law::VAR_SWAP, &whole)?;
+            trail.backward(Law::VarSwap, &whole)?;
             return Ok(whole);
         }
-        head => (head.into_proc(alloc)?, law::CHAN_UNUSED),
+        head => (head.into_proc(alloc)?, Law::ChanUnused),
     };
     trail.forward(law, &whole)?;
     Ok(whole)
@@ -89,7 +88,7 @@ impl Channel {
         if used.contains(self.name) {
             rounds.enter(trail, 0, Around::Hidden(self.name, self.width))?;
         } else {
-            trail.forward(law::CHAN_UNUSED, body)?;
+            trail.forward(Law::ChanUnused, body)?;
         }
         Ok(())
     }
@@ -112,7 +111,7 @@ impl Channel {
         };
         if rest.is_empty() {
             let whole = seq_of(alloc, alone(alloc, first)?)?;
-            trail.forward(law::CHAN_UNUSED, &whole)?;
+            trail.forward(Law::ChanUnused, &whole)?;
             return Ok(whole);
         }
         trail.enter(0)?;
@@ -126,9 +125,9 @@ impl Channel {
         let alloc = trail.alloc();
         let at_first = self.round(alloc, first.copy(alloc)?)?;
         let whole = seq_of_two(alloc, at_first, self.round(alloc, second)?)?;
-        trail.forward(law::CHAN_SEQ, &whole)?;
+        trail.forward(Law::ChanSeq, &whole)?;
         trail.enter(0)?;
-        trail.forward(law::CHAN_UNUSED, &first)?;
+        trail.forward(Law::ChanUnused, &first)?;
         trail.leave();
         let (_, second) = parted(alloc, whole)?;
         Ok(seq_of_two(alloc, first, second)?)

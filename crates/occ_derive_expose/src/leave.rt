@@ -2,10 +2,8 @@
 
 use crate::around::Turn;
 use crate::build::{alone, cut, par_of_two, parted};
-use occ_derive_trail::{
-    Lost, Memory, Piece, Trail, if_of, law, par_of, seq_of, seq_of_two, var_of,
-};
-use occ_syntax::{Expr, Proc};
+use occ_derive_trail::{Law, Lost, Piece, Trail, if_of, par_of, seq_of, seq_of_two, var_of};
+use occ_syntax::{Expr, Memory, Proc};
 use std::alloc::Global;
 
 /// The first part of a PAR leaves it.
@@ -14,7 +12,7 @@ pub(crate) fn first_leaves(trail: &mut Trail, head: Piece, other: Proc) -> Resul
         Piece::Skip => skip_leaves(trail, other),
         Piece::Stop => {
             let whole = par_of_two(trail.alloc(), other, Proc::Stop)?;
-            trail.forward(law::PAR_ORDER, &whole)?;
+            trail.forward(Law::ParOrder, &whole)?;
             let (other, _) = parted(trail.alloc(), whole)?;
             stop_leaves(trail, other)
         }
@@ -43,7 +41,7 @@ fn swapped(trail: &mut Trail, whole: Proc) -> Result<Proc, Lost> {
     let alloc = trail.alloc();
     let (first, second) = parted(alloc, whole)?;
     let whole = par_of_two(alloc, second, first)?;
-    trail.forward(law::PAR_ORDER, &whole)?;
+    trail.forward(Law::ParOrder, &whole)?;
     Ok(whole)
 }
 
@@ -51,21 +49,21 @@ fn swapped(trail: &mut Trail, whole: Proc) -> Result<Proc, Lost> {
 fn skip_leaves(trail: &mut Trail, other: Proc) -> Result<Turn, Lost> {
     let alloc = trail.alloc();
     let whole = par_of(alloc, alone(alloc, other)?)?;
-    trail.forward(law::PAR_SKIP, &whole)?;
+    trail.forward(Law::ParSkip, &whole)?;
     let Piece::Par(mut parts) = Piece::of(alloc, whole)? else {
         return Err(Lost::NoStep);
     };
     let Some(other) = parts.pop() else {
         return Err(Lost::NoStep);
     };
-    trail.forward(law::PAR_ONE, &other)?;
+    trail.forward(Law::ParOne, &other)?;
     Ok(Turn::Work(other))
 }
 
 // The other part before STOP.
 fn stop_leaves(trail: &mut Trail, other: Proc) -> Result<Turn, Lost> {
     let whole = seq_of_two(trail.alloc(), other, Proc::Stop)?;
-    trail.forward(law::PAR_STOP, &whole)?;
+    trail.forward(Law::ParStop, &whole)?;
     Ok(Turn::Work(whole))
 }
 
@@ -77,7 +75,7 @@ fn begins(trail: &mut Trail, head: Piece, other: Proc) -> Result<Proc, Lost> {
         Piece::If(choices) => chooses(trail, choices, other),
         Piece::Var(name, width, body) => {
             let whole = var_of(alloc, name, width, par_of_two(alloc, body, other)?)?;
-            trail.backward(law::VAR_PAR, &whole)?;
+            trail.backward(Law::VarPar, &whole)?;
             Ok(whole)
         }
         _ => Err(Lost::NoStep),
@@ -91,7 +89,7 @@ fn assigns(trail: &mut Trail, parts: Vec<Proc>, other: Proc) -> Result<Proc, Los
     };
     let beside = par_of_two(alloc, seq_of(alloc, rest)?, other)?;
     let whole = seq_of_two(alloc, first, beside)?;
-    trail.forward(law::PAR_ASSIGN, &whole)?;
+    trail.forward(Law::ParAssign, &whole)?;
     Ok(whole)
 }
 
@@ -99,7 +97,7 @@ fn chooses(trail: &mut Trail, choices: Vec<(Expr, Proc)>, other: Proc) -> Result
     let alloc = trail.alloc();
     let choices = with_else(trail, choices)?;
     let whole = choices_beside(alloc, choices, &other)?;
-    trail.forward(law::PAR_IF, &whole)?;
+    trail.forward(Law::ParIf, &whole)?;
     Ok(whole)
 }
 
@@ -118,7 +116,7 @@ fn with_else(trail: &mut Trail, choices: Vec<(Expr, Proc)>) -> Result<Vec<(Expr,
     }
     let whole = and_stop(trail.alloc(), choices)?;
     trail.enter(0)?;
-    trail.backward(law::IF_ELSE_STOP, &whole)?;
+    trail.backward(Law::IfElseStop, &whole)?;
     trail.leave();
     match Piece::of(trail.alloc(), whole)? {
         Piece::If(choices) => Ok(choices),

@@ -17,6 +17,6 @@ mod repeated;
 pub use exposing::expose;
 pub use naming::apart;
 pub use occ_derive_trail::{
-    Frame, Lost, Memory, Name, Piece, Trail, Width, alt_of, assign_of, constant, if_of, law,
-    seq_of, seq_of_two, unseen, var_of,
+    Frame, Law, Lost, Piece, Trail, alt_of, assign_of, constant, if_of, seq_of, seq_of_two, unseen,
+    var_of,
 };

@@ -1,14 +1,14 @@
 //! A PAR of two ALTs.
 
 use crate::build::par_of_two;
-use occ_derive_trail::{Lost, Memory, Name, Trail, alt_of, law, seq_of_two};
-use occ_syntax::{Expr, Exprs, Guard, NameList, Op, Proc, Wait};
+use occ_derive_trail::{Law, Lost, Trail, alt_of, seq_of_two};
+use occ_syntax::{Expr, Exprs, Guard, Memory, Name, NameList, Op, Proc, Wait};
 use std::alloc::Global;
 
 /// The ALT of all that the two can do first: what the first does alone, what the second does alone, and where they meet.
 pub(crate) fn meet(trail: &mut Trail, left: Proc, right: Proc) -> Result<Proc, Lost> {
     let whole = expanded(trail.alloc(), &left, &right)?;
-    trail.forward(law::PAR_EXPAND, &whole)?;
+    trail.forward(Law::ParExpand, &whole)?;
     Ok(whole)
 }
 

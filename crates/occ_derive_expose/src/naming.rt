@@ -2,8 +2,8 @@ ghost use Rattle.occ_derive_trail.specs.occ_lex.Growth.{GrowsByNames};
 
 use crate::fresh::Fresh;
 use crate::repeated::Search;
-use occ_derive_trail::{Lost, Name, Names, Path, RenameFault, Trail, at, law, rename, replace};
-use occ_syntax::{Kind, Proc, Program, Scope};
+use occ_derive_trail::{Law, Lost, Path, RenameFault, Trail, at, rename, replace};
+use occ_syntax::{Kind, Name, Names, Proc, Program, Scope};
 
 /// Gives each name that is declared in a body, and was used before, a name of its own. Used are those that are taken, and those
 /// declared further in front, in preorder. The table of names grows by names alone, also where no steps are found.
@@ -63,8 +63,8 @@ fn record(trail: &mut Trail, path: &Path, kind: Kind, whole: &Proc) -> Result<()
         trail.enter(*number)?;
     }
     match kind {
-        Kind::Var(_) => trail.forward(law::VAR_RENAME, whole)?,
-        Kind::Chan(_, _) => trail.forward(law::CHAN_RENAME, whole)?,
+        Kind::Var(_) => trail.forward(Law::VarRename, whole)?,
+        Kind::Chan(_, _) => trail.forward(Law::ChanRename, whole)?,
     }
     for _ in path.items() {
         trail.leave();

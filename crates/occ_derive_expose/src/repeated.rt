@@ -1,7 +1,7 @@
 //! Declarations of names that are used already.
 
-use occ_derive_trail::{Memory, Name, NameSet, Path};
-use occ_syntax::{Expr, Guard, Proc};
+use occ_derive_trail::{NameSet, Path};
+use occ_syntax::{Expr, Guard, Memory, Name, Proc};
 use std::alloc::Global;
 
 /// The names used so far, where the search stands, and the declarations found.

@@ -27,5 +27,6 @@ pub use Rattle.occ_renamed.proofs.from_meaning as from_meaning
 pub use Rattle.occ_derive_moves.proofs.from_nform_table as from_nform_table
 pub use Rattle.occ_renamed.proofs as from_renamed
 pub use Rattle.occ_renamed.proofs.from_script_lines as from_script_lines
+pub use Rattle.occ_renamed.proofs.from_syntax as from_syntax
 pub use Rattle.occ_derive_moves.proofs.from_target_laws as from_target_laws
 pub use Rattle.occ_renamed.proofs.from_usage as from_usage

@@ -2,15 +2,15 @@
 use Rattle.std.proofs.Common.{◌≡◌, ◌∙◌, ℕ, Bool, true, false, ◌&&◌, ◌==◌, Option, None, Some, if◌then◌else◌, is_none, refl, ap, sym}
 use Rattle.std.proofs.lemmas.Bool.{and_from, and_parts}
 use Rattle.occ_renamed.specs.occ_base.declared.width.Width.{Width}
-use Rattle.occ_renamed.specs.occ_base.declared.width.Width.TheVariants.{Bool as TruthValue, Word}
-use Rattle.occ_renamed.proofs.from_meaning.Facts.{at_itself, name_at, none_not_some}
+use Rattle.occ_renamed.proofs.from_meaning.Facts.{name_at, none_not_some}
 use Rattle.occ_renamed.proofs.from_meaning.States.{fresh_name}
 use Rattle.occ_renamed.specs.occ_meaning.Parallel.{two}
 use Rattle.occ_renamed.specs.occ_syntax.declared.scope.Kind.{Kind}
 use Rattle.occ_renamed.specs.occ_syntax.declared.scope.Kind.TheVariants.{Var}
 use Rattle.occ_renamed.specs.occ_syntax.Scopes.{Environment, variable_kind, variable_width, with_name}
 use Rattle.occ_renamed.specs.occ_syntax.Tree.{Tree, seq}
-use Rattle.occ_renamed.specs.occ_syntax.Types.{agree, can_declare, is_width, same_width, types_kept}
+use Rattle.occ_renamed.specs.occ_syntax.Types.{agree, can_declare, is_width, types_kept}
+use Rattle.occ_renamed.proofs.from_syntax.Widths.{same_as_itself}
 
 -- a declaration that keeps types: its name is new, and what it governs keeps types in its scope
 pub record Opened (Γ : Environment) (x : ℕ) (w : Width) (kind : Kind) (p : Tree) : Type 0 where
@@ -46,12 +46,8 @@ types_of_two Γ p q t = let k = and_parts (types_kept p Γ) (types_kept q Γ && 
 
 -- ---- types that agree
 
-width_itself : (w : Width) → same_width w w ≡ true
-width_itself TruthValue = refl
-width_itself (Word bits) = at_itself bits
-
 pub agree_both : (a b : Option Width) (w : Width) → a ≡ Some w → b ≡ Some w → agree a b ≡ true
-agree_both a b w h k = (λ i. agree (h i) (k i)) ∙ width_itself w
+agree_both a b w h k = (λ i. agree (h i) (k i)) ∙ same_as_itself w
 
 -- the width of a declared variable in its scope
 pub declared_width : (Γ : Environment) (x : ℕ) (w : Width) → variable_width (with_name Γ x (Var w)) x ≡ Some w

@@ -3,13 +3,12 @@ use Rattle.std.proofs.Common.{◌≡◌, ◌∙◌, ℕ, ◌==◌, Bool, true, f
 use Rattle.std.proofs.lemmas.Bool.{and_from, and_parts, eqb-true, not-true, or_cases, or_from, or_parts}
 use Rattle.occ_renamed.specs.occ_base.declared.names.Name.{Name}
 use Rattle.occ_renamed.specs.occ_base.declared.width.Width.{Width}
-use Rattle.occ_renamed.specs.occ_base.declared.width.Width.TheVariants.{Bool as TruthValue, Word}
 use Rattle.occ_derive_laws.proofs.Turns.{first_keeps, none_keeps, rest_keeps, with_first}
 use Rattle.occ_derive_laws.specs.Alike.{AreVariables}
 use Rattle.occ_renamed.specs.occ_law.Lists.{PairsReordered, behind_pair, pairs_in_steps, same_pairs, two_pairs, variables}
 use Rattle.occ_renamed.specs.occ_law.Sequence.{assign_id, assign_join, assign_order, assign_pad}
 use Rattle.occ_renamed.specs.occ_law.RuleTable.{LAW}
-use Rattle.occ_renamed.proofs.from_meaning.Facts.{agreed, and_three, at_itself, false_not_true, off_turned}
+use Rattle.occ_renamed.proofs.from_meaning.Facts.{agreed, and_three, false_not_true, off_turned}
 use Rattle.occ_renamed.proofs.from_meaning.Substituting.{substituted_type}
 use Rattle.occ_renamed.specs.occ_meaning.Parallel.{one, two}
 use Rattle.occ_renamed.specs.occ_meaning.Substitution.{substituted}
@@ -17,8 +16,9 @@ use Rattle.occ_renamed.specs.occ_syntax.declared.scope.Kind.{Kind}
 use Rattle.occ_renamed.specs.occ_syntax.Names.{is_in}
 use Rattle.occ_renamed.specs.occ_syntax.Scopes.{Environment, environment, variable_width}
 use Rattle.occ_renamed.specs.occ_syntax.Tree.{Exp, assign, seq, skip, variable}
-use Rattle.occ_renamed.specs.occ_syntax.Types.{agree, is_pair, pairs_kept, same_width, type_of}
+use Rattle.occ_renamed.specs.occ_syntax.Types.{agree, is_pair, pairs_kept, type_of}
 use Rattle.occ_renamed.specs.occ_syntax.Usage.{Keeps}
+use Rattle.occ_renamed.proofs.from_syntax.Widths.{same_as_itself}
 
 -- ---- the pairs of an assignment
 
@@ -49,12 +49,8 @@ assign_keeps Γ xs es p k = record { types = and_from (is_pair xs) (pairs_kept �
 
 -- ---- variables that keep their values
 
-width_itself : (w : Width) → same_width w w ≡ true
-width_itself TruthValue = refl
-width_itself (Word bits) = at_itself bits
-
 agree_itself : (o : Option Width) (w : Width) → o ≡ Some w → agree o o ≡ true
-agree_itself o w h = ap (λ z. agree z z) h ∙ width_itself w
+agree_itself o w h = ap (λ z. agree z z) h ∙ same_as_itself w
 
 variables_kept : (Γ : Environment) (xs : List ℕ) → AreVariables Γ xs → pairs_kept Γ xs (variables xs) ≡ true
 variables_kept Γ [] a = refl

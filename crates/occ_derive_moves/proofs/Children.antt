@@ -1,11 +1,11 @@
 -- A process with one of its parts replaced.
 use Rattle.std.proofs.Common.{◌≡◌, ℕ, zero, suc, true, false, Some, sym, ap, refl}
 use Rattle.occ_derive_moves.specs.Moves.{is_par}
-use Rattle.occ_target_laws.proofs.from_meaning.Facts.{none_not_some, some_is}
-use Rattle.occ_target_laws.specs.occ_meaning.Context.{branch_at, case_at, child, only_at, tree_at, with_branch, with_case, with_child, with_only, with_tree}
+use Rattle.occ_replay_rules.proofs.from_meaning.Facts.{none_not_some, some_is}
+use Rattle.occ_replay_rules.specs.occ_meaning.Context.{branch_at, case_at, child, only_at, tree_at, with_branch, with_case, with_child, with_only, with_tree}
 use Rattle.occ_replay_rules.specs.occ_script_lines.Places.{declared_by}
-use Rattle.occ_replay_rules.specs.occ_syntax.Tree.{Branches, Cases, Tree, Trees, alt, and_branch, and_case, and_tree, assign, connect, declare, no_branch, no_case, no_tree, par, receive, select, send, seq, skip, stop}
-use Rattle.occ_replay_rules.specs.occ_syntax.Usage.{AllKeepUsage, BranchesKeepUsage, CasesKeepUsage, KeepsUsage}
+use Rattle.occ_target_laws.specs.occ_syntax.Tree.{Branches, Cases, Tree, Trees, alt, and_branch, and_case, and_tree, assign, connect, declare, no_branch, no_case, no_tree, par, receive, select, send, seq, skip, stop}
+use Rattle.occ_target_laws.specs.occ_syntax.Usage.{AllKeepUsage, BranchesKeepUsage, CasesKeepUsage, KeepsUsage}
 
 -- ---- the part is there
 

@@ -2,25 +2,25 @@
 use Rattle.std.proofs.Common.{◌≡◌, ℕ, Bool, true, false, not, List, [], ◌∷◌, Option, None, Some, refl, ap, subst}
 use Rattle.std.proofs.lemmas.Bool.{and_parts}
 use Rattle.std.specs.Option.{option_and_then, option_map, unwrap_or}
-use Rattle.occ_replay_rules.specs.occ_base.declared.names.Name.{Name}
+use Rattle.occ_target_laws.specs.occ_base.declared.names.Name.{Name}
 use Rattle.occ_derive_moves.proofs.Children.{child_keeps}
 use Rattle.occ_derive_moves.specs.Moves.{AreNarrow, IsGood, IsUse, Works, and_use, in_the_open, is_open, is_par, no_use, sparingly}
 use Rattle.occ_replay_rules.specs.Moves.{Move, Moves, and_move, no_move}
 use Rattle.occ_replay_rules.specs.occ_law.RuleTable.{LAW}
-use Rattle.occ_target_laws.proofs.from_meaning.Alike.{same_back, same_itself, same_through}
-use Rattle.occ_target_laws.proofs.from_meaning.Places.{part_usage, put_types}
-use Rattle.occ_target_laws.specs.occ_meaning.Context.{child, environment_at, part_at, put, with_child}
+use Rattle.occ_replay_rules.proofs.from_meaning.Alike.{same_back, same_itself, same_through}
+use Rattle.occ_replay_rules.proofs.from_meaning.Places.{part_usage, put_types}
+use Rattle.occ_replay_rules.specs.occ_meaning.Context.{child, environment_at, part_at, put, with_child}
 use Rattle.occ_replay_rules.specs.Steps.{Joins}
 use Rattle.occ_replay_rules.proofs.from_script_lines.Scoping.{put_in_same, scopes}
 use Rattle.occ_replay_rules.specs.occ_script_lines.declared.direction.Direction.{Direction}
 use Rattle.occ_replay_rules.specs.occ_script_lines.declared.direction.Direction.TheVariants as direction
 use Rattle.occ_replay_rules.specs.occ_script_lines.Places.{scope_list}
-use Rattle.occ_replay_rules.specs.occ_syntax.declared.scope.Kind.{Kind}
-use Rattle.occ_replay_rules.specs.occ_syntax.Same.{SAME}
-use Rattle.occ_replay_rules.specs.occ_syntax.Scopes.{environment}
-use Rattle.occ_replay_rules.specs.occ_syntax.Tree.{Tree}
-use Rattle.occ_replay_rules.specs.occ_syntax.Types.{scope_kept}
-use Rattle.occ_replay_rules.specs.occ_syntax.Usage.{Keeps, KeepsUsage}
+use Rattle.occ_target_laws.specs.occ_syntax.declared.scope.Kind.{Kind}
+use Rattle.occ_target_laws.specs.occ_syntax.Same.{SAME}
+use Rattle.occ_target_laws.specs.occ_syntax.Scopes.{environment}
+use Rattle.occ_target_laws.specs.occ_syntax.Tree.{Tree}
+use Rattle.occ_target_laws.specs.occ_syntax.Types.{scope_kept}
+use Rattle.occ_target_laws.specs.occ_syntax.Usage.{Keeps, KeepsUsage}
 use Rattle.occ_target_laws.proofs.from_usage.Putting.{put_keeps}
 
 not_true : (b : Bool) → not b ≡ true → b ≡ false

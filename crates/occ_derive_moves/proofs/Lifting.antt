@@ -2,16 +2,16 @@
 use Rattle.std.proofs.Common.{◌≡◌, ◌∙◌, ℕ, Bool, true, false, not, List, [], ◌∷◌, ◌++◌, Option, None, Some, refl, sym, ap, subst}
 use Rattle.std.proofs.lemmas.Bool.{and_from, and_parts}
 use Rattle.std.specs.Option.{option_and_then, option_map, unwrap_or}
-use Rattle.occ_replay_rules.specs.occ_base.declared.names.Name.{Name}
+use Rattle.occ_target_laws.specs.occ_base.declared.names.Name.{Name}
 use Rattle.occ_derive_moves.proofs.Children.{child_again, child_in, child_itself, declared_in, par_in}
 use Rattle.occ_derive_moves.specs.Moves.{IsGood, IsSparing, IsUse, Row, Spares, Works, all_under, and_use, in_the_open, is_open, is_par, no_use, sparingly, under}
 use Rattle.occ_replay_rules.specs.Moves.{Move}
-use Rattle.occ_target_laws.proofs.from_meaning.Facts.{none_not_some}
-use Rattle.occ_target_laws.specs.occ_meaning.Context.{child, part_at, put, with_child}
+use Rattle.occ_replay_rules.proofs.from_meaning.Facts.{none_not_some}
+use Rattle.occ_replay_rules.specs.occ_meaning.Context.{child, part_at, put, with_child}
 use Rattle.occ_replay_rules.specs.Steps.{Joins}
 use Rattle.occ_replay_rules.specs.occ_script_lines.Places.{declared_by, scope_list}
-use Rattle.occ_replay_rules.specs.occ_syntax.declared.scope.Kind.{Kind}
-use Rattle.occ_replay_rules.specs.occ_syntax.Tree.{Tree}
+use Rattle.occ_target_laws.specs.occ_syntax.declared.scope.Kind.{Kind}
+use Rattle.occ_target_laws.specs.occ_syntax.Tree.{Tree}
 
 -- ---- any row
 
@@ -109,7 +109,7 @@ not_true false e = refl
 pub works_under : (path : List ℕ) (S : List (Name × Kind)) (p c d : Tree) (moves : List Move) → is_open path p ≡ true → part_at path p ≡ Some c
     → Works (scope_list path S p) c moves d → Works S p (all_under path moves) (put path p d)
 works_under [] S p c d moves o e row =
-    subst (λ ms. Works S p ms d) (sym (under_none moves)) (subst (λ z. Works S z moves d) (sym (Rattle.occ_target_laws.proofs.from_meaning.Facts.some_is e)) row)
+    subst (λ ms. Works S p ms d) (sym (under_none moves)) (subst (λ z. Works S z moves d) (sym (Rattle.occ_replay_rules.proofs.from_meaning.Facts.some_is e)) row)
 works_under (i ∷ path) S p c d moves o e row = below (λ T q g f r. works_under path T q c d moves g f r) (child p i) refl both.1 e row
   where
     both : (not (is_par p) ≡ true) × (unwrap_or (option_map (is_open path) (child p i)) true ≡ true)
@@ -128,7 +128,7 @@ works_under (i ∷ path) S p c d moves o e row = below (λ T q g f r. works_unde
 pub spares_under : (path : List ℕ) (S : List (Name × Kind)) (p c d : Tree) (moves : List Move) → part_at path p ≡ Some c
     → Spares (scope_list path S p) c moves d → Spares S p (all_under path moves) (put path p d)
 spares_under [] S p c d moves e row =
-    subst (λ ms. Spares S p ms d) (sym (under_none moves)) (subst (λ z. Spares S z moves d) (sym (Rattle.occ_target_laws.proofs.from_meaning.Facts.some_is e)) row)
+    subst (λ ms. Spares S p ms d) (sym (under_none moves)) (subst (λ z. Spares S z moves d) (sym (Rattle.occ_replay_rules.proofs.from_meaning.Facts.some_is e)) row)
 spares_under (i ∷ path) S p c d moves e row = below (λ T q f r. spares_under path T q c d moves f r) (child p i) refl e row
   where
     below : ((T : List (Name × Kind)) (q : Tree) → part_at path q ≡ Some c → Spares (scope_list path T q) c moves d → Spares T q (all_under path moves) (put path q d))

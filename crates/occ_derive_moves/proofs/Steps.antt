@@ -1,23 +1,23 @@
 -- Steps, moves and rows, and what holds along steps.
 use Rattle.std.proofs.Common.{◌≡◌, ◌∙◌, ℕ, true, List, [], ◌∷◌, ◌++◌, refl, sym}
-use Rattle.occ_replay_rules.specs.occ_base.declared.names.Name.{Name}
+use Rattle.occ_target_laws.specs.occ_base.declared.names.Name.{Name}
 use Rattle.occ_derive_moves.proofs.Keeping.{AreSound, good_keeps}
 use Rattle.occ_derive_moves.specs.Moves.{AreNarrow, IsGood, IsUse, Works, and_use, in_the_open, no_use, sparingly}
 use Rattle.occ_derive_moves.specs.Steps.{IsStep, Steps, and_step, no_step}
 use Rattle.occ_replay_rules.specs.Moves.{Move, Moves, and_move, no_move}
-use Rattle.occ_target_laws.proofs.from_meaning.Alike.{same_back, same_itself, same_through}
-use Rattle.occ_target_laws.specs.occ_meaning.Context.{put}
+use Rattle.occ_replay_rules.proofs.from_meaning.Alike.{same_back, same_itself, same_through}
+use Rattle.occ_replay_rules.specs.occ_meaning.Context.{put}
 use Rattle.occ_replay_rules.specs.Steps.{Joins}
 use Rattle.occ_replay_rules.proofs.from_script_lines.Scoping.{put_in_same}
 use Rattle.occ_replay_rules.specs.occ_script_lines.declared.direction.Direction.{Direction}
 use Rattle.occ_replay_rules.specs.occ_script_lines.declared.direction.Direction.TheVariants as direction
 use Rattle.occ_replay_rules.specs.occ_script_lines.Places.{scope_list}
-use Rattle.occ_replay_rules.specs.occ_syntax.declared.scope.Kind.{Kind}
-use Rattle.occ_replay_rules.specs.occ_syntax.Same.{SAME}
-use Rattle.occ_replay_rules.specs.occ_syntax.Scopes.{environment}
-use Rattle.occ_replay_rules.specs.occ_syntax.Tree.{Tree}
-use Rattle.occ_replay_rules.specs.occ_syntax.Types.{scope_kept}
-use Rattle.occ_replay_rules.specs.occ_syntax.Usage.{Keeps}
+use Rattle.occ_target_laws.specs.occ_syntax.declared.scope.Kind.{Kind}
+use Rattle.occ_target_laws.specs.occ_syntax.Same.{SAME}
+use Rattle.occ_target_laws.specs.occ_syntax.Scopes.{environment}
+use Rattle.occ_target_laws.specs.occ_syntax.Tree.{Tree}
+use Rattle.occ_target_laws.specs.occ_syntax.Types.{scope_kept}
+use Rattle.occ_target_laws.specs.occ_syntax.Usage.{Keeps}
 
 -- ---- steps and moves
 

@@ -1,6 +1,6 @@
 -- The names that a part declares: where a declaration comes to stand round something else, it is to capture none of its names.
 use Rattle.std.specs.Prelude.{ℕ, ◌==◌, Bool, false, ◌||◌}
-use Rattle.occ_replay_rules.specs.occ_syntax.Tree.{Tree, skip, stop, assign, receive, send, seq, par, select, alt, declare, connect, Trees, no_tree, and_tree, Cases, no_case, and_case, Branches, no_branch, and_branch}
+use Rattle.occ_target_laws.specs.occ_syntax.Tree.{Tree, skip, stop, assign, receive, send, seq, par, select, alt, declare, connect, Trees, no_tree, and_tree, Cases, no_case, and_case, Branches, no_branch, and_branch}
 
 -- whether a part declares a name
 abbrev mutual

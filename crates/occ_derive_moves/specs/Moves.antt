@@ -1,14 +1,14 @@
 -- Derivations of a part: laws used at places in it, one after the other, whatever stands round the part.
 use Rattle.std.specs.Prelude.{ℕ, ◌≡◌, ◌≤◌, Bool, true, false, not, ◌&&◌, List, [], ◌∷◌, ◌++◌, Some, map, option_map, unwrap_or}
 use Rattle.std.specs.List.{AllByRecursion}
-use Rattle.occ_replay_rules.specs.occ_base.declared.names.Name.{Name}
+use Rattle.occ_target_laws.specs.occ_base.declared.names.Name.{Name}
 use Rattle.occ_replay_rules.specs.Moves.{Move}
-use Rattle.occ_target_laws.specs.occ_meaning.Context.{child, part_at, put}
+use Rattle.occ_replay_rules.specs.occ_meaning.Context.{child, part_at, put}
 use Rattle.occ_replay_rules.specs.occ_print.Lines.{most_symbols, part_lines}
 use Rattle.occ_replay_rules.specs.Steps.{Joins}
 use Rattle.occ_replay_rules.specs.occ_script_lines.Places.{scope_list}
-use Rattle.occ_replay_rules.specs.occ_syntax.declared.scope.Kind.{Kind}
-use Rattle.occ_replay_rules.specs.occ_syntax.Tree.{Tree, skip, stop, assign, receive, send, seq, par, select, alt, declare, connect}
+use Rattle.occ_target_laws.specs.occ_syntax.declared.scope.Kind.{Kind}
+use Rattle.occ_target_laws.specs.occ_syntax.Tree.{Tree, skip, stop, assign, receive, send, seq, par, select, alt, declare, connect}
 use Rattle.occ_target_laws.specs.occ_usage.Local.{UsesNoMore}
 
 -- ---- one law

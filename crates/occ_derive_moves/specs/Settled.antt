@@ -1,11 +1,11 @@
 -- The guards of a normal program.
 use Rattle.std.specs.Prelude.{ℕ, ◌≡◌, ◌<◌, ◌^◌, Some}
-use Rattle.occ_replay_rules.specs.occ_base.declared.event.Dir.TheVariants.{Input, Output}
-use Rattle.occ_replay_rules.specs.occ_base.declared.width.Width.{Width}
-use Rattle.occ_replay_rules.specs.occ_base.Width.{bits_of}
-use Rattle.occ_replay_rules.specs.occ_syntax.declared.scope.Kind.TheVariants.{Chan}
-use Rattle.occ_replay_rules.specs.occ_syntax.Scopes.{environment}
-use Rattle.occ_replay_rules.specs.occ_syntax.Tree.{Waiting, input, output}
+use Rattle.occ_target_laws.specs.occ_base.declared.event.Dir.TheVariants.{Input, Output}
+use Rattle.occ_target_laws.specs.occ_base.declared.width.Width.{Width}
+use Rattle.occ_target_laws.specs.occ_base.Width.{bits_of}
+use Rattle.occ_target_laws.specs.occ_syntax.declared.scope.Kind.TheVariants.{Chan}
+use Rattle.occ_target_laws.specs.occ_syntax.Scopes.{environment}
+use Rattle.occ_target_laws.specs.occ_syntax.Tree.{Waiting, input, output}
 use Rattle.occ_target_laws.specs.occ_target.Rows.{variable_of}
 use Rattle.occ_target_laws.specs.occ_target.States.{constant}
 use Rattle.occ_target_laws.specs.Shapes.{Header}

@@ -1,14 +1,14 @@
 -- Steps of a derivation: laws used on parts of a process, one after the other, whatever the length of a printed line.
 use Rattle.std.specs.Prelude.{◌≡◌, List, [], ◌∷◌, Some}
-use Rattle.occ_replay_rules.specs.occ_base.declared.names.Name.{Name}
+use Rattle.occ_target_laws.specs.occ_base.declared.names.Name.{Name}
 use Rattle.occ_replay_rules.specs.Moves.{Move}
-use Rattle.occ_target_laws.specs.occ_meaning.Context.{part_at, put}
+use Rattle.occ_replay_rules.specs.occ_meaning.Context.{part_at, put}
 use Rattle.occ_replay_rules.specs.Steps.{Joins}
 use Rattle.occ_replay_rules.specs.occ_script_lines.Places.{scope_list}
-use Rattle.occ_replay_rules.specs.occ_syntax.declared.scope.Kind.{Kind}
-use Rattle.occ_replay_rules.specs.occ_syntax.Scopes.{environment}
-use Rattle.occ_replay_rules.specs.occ_syntax.Tree.{Tree}
-use Rattle.occ_replay_rules.specs.occ_syntax.Usage.{Keeps}
+use Rattle.occ_target_laws.specs.occ_syntax.declared.scope.Kind.{Kind}
+use Rattle.occ_target_laws.specs.occ_syntax.Scopes.{environment}
+use Rattle.occ_target_laws.specs.occ_syntax.Tree.{Tree}
+use Rattle.occ_target_laws.specs.occ_syntax.Usage.{Keeps}
 
 -- A step may be taken: there is a part at its path, the whole with the new part keeps all rules, and the law joins the two parts.
 pub record IsStep (S : List (Name × Kind)) (p : Tree) (move : Move) : Type 0 where

@@ -1,10 +1,10 @@
 -- The variables into which a normal program inputs, and the end of a process in which they are known too.
 use Rattle.std.specs.Prelude.{ℕ, Bool, ◌∷◌, ◌++◌, List, []}
-use Rattle.occ_replay_rules.specs.occ_base.declared.names.Name.{Name}
-use Rattle.occ_replay_rules.specs.occ_syntax.declared.scope.Kind.{Kind}
-use Rattle.occ_replay_rules.specs.occ_syntax.declared.scope.Kind.TheVariants.{Chan, Var}
-use Rattle.occ_replay_rules.specs.occ_syntax.Names.{is_in}
-use Rattle.occ_replay_rules.specs.occ_syntax.Tree.{Exp, Tree}
+use Rattle.occ_target_laws.specs.occ_base.declared.names.Name.{Name}
+use Rattle.occ_target_laws.specs.occ_syntax.declared.scope.Kind.{Kind}
+use Rattle.occ_target_laws.specs.occ_syntax.declared.scope.Kind.TheVariants.{Chan, Var}
+use Rattle.occ_target_laws.specs.occ_syntax.Names.{is_in}
+use Rattle.occ_target_laws.specs.occ_syntax.Tree.{Exp, Tree}
 use Rattle.occ_target_laws.specs.occ_target.States.{assigning, constant, constants, variables}
 use Rattle.occ_target_laws.specs.Shapes.{Header}
 

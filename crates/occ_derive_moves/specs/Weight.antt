@@ -1,6 +1,6 @@
 -- How much is left to do: what a step from one state to the next takes from.
 use Rattle.std.specs.Prelude.{ℕ, ◌+◌, max}
-use Rattle.occ_replay_rules.specs.occ_syntax.Tree.{Tree, skip, stop, assign, receive, send, seq, par, select, alt, declare, connect, Trees, no_tree, and_tree, Cases, no_case, and_case, Branches, no_branch, and_branch}
+use Rattle.occ_target_laws.specs.occ_syntax.Tree.{Tree, skip, stop, assign, receive, send, seq, par, select, alt, declare, connect, Trees, no_tree, and_tree, Cases, no_case, and_case, Branches, no_branch, and_branch}
 
 abbrev mutual
   pub weight : Tree → ℕ

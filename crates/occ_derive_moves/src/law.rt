@@ -1,16 +1,16 @@
 //! Laws of steps.
 
 ghost use Rattle.std.specs.Prelude.{◌≡◌, ◌++◌, List, true};
-ghost use Rattle.occ_replay_rules.specs.occ_base.declared.names.Name.{Name};
+ghost use Rattle.occ_target_laws.specs.occ_base.declared.names.Name.{Name};
 ghost use Rattle.occ_derive_moves.specs.Moves.{AreNarrow, Works};
 ghost use Rattle.occ_derive_moves.specs.Steps.{Steps};
 ghost use Rattle.occ_replay_rules.specs.Moves.{Move, Moves};
-ghost use Rattle.occ_replay_rules.specs.occ_syntax.declared.scope.Kind.{Kind};
-ghost use Rattle.occ_replay_rules.specs.occ_syntax.Same.{SAME};
-ghost use Rattle.occ_replay_rules.specs.occ_syntax.Scopes.{environment};
-ghost use Rattle.occ_replay_rules.specs.occ_syntax.Tree.{Tree};
-ghost use Rattle.occ_replay_rules.specs.occ_syntax.Types.{scope_kept};
-ghost use Rattle.occ_replay_rules.specs.occ_syntax.Usage.{Keeps};
+ghost use Rattle.occ_target_laws.specs.occ_syntax.declared.scope.Kind.{Kind};
+ghost use Rattle.occ_target_laws.specs.occ_syntax.Same.{SAME};
+ghost use Rattle.occ_target_laws.specs.occ_syntax.Scopes.{environment};
+ghost use Rattle.occ_target_laws.specs.occ_syntax.Tree.{Tree};
+ghost use Rattle.occ_target_laws.specs.occ_syntax.Types.{scope_kept};
+ghost use Rattle.occ_target_laws.specs.occ_syntax.Usage.{Keeps};
 
 use occ_replay_rules::laws_are_sound;
 

@@ -16,4 +16,4 @@ pub use moving::{
     sparing_parts_lift, sparing_rows_are_rows,
 };
 pub use occ_replay_rules::{Direction, Path, at, replace, scope_at};
-pub use occ_target_laws::{Memory, Name, Table, TargetFault, Width, target};
+pub use occ_target_laws::{Table, TargetFault, target};

@@ -7,10 +7,9 @@ use crate::row::{
 };
 use crate::spine::{Spine, Standing};
 use occ_derive_expose::{
-    Frame, Lost, Name, Piece, Trail, Width, alt_of, assign_of, expose, if_of, law, seq_of,
-    seq_of_two, var_of,
+    Frame, Law, Lost, Piece, Trail, alt_of, assign_of, expose, if_of, seq_of, seq_of_two, var_of,
 };
-use occ_syntax::{Expr, Guard, Proc, Wait};
+use occ_syntax::{Expr, Guard, Name, Proc, Wait, Width};
 use std::mem::replace;
 
 /// A configuration goes on until it waits: until nothing is left to do, its first thing to do reads a variable whose value isn't
@@ -37,7 +36,7 @@ impl Spine {
             Some(Layer::Seq(rest)) => {
                 if rest.is_empty() {
                     let assignment = assign_of(trail.alloc(), self.known.as_slice())?;
-                    trail.forward(law::SEQ_ONE, &assignment)?;
+                    trail.forward(Law::SeqOne, &assignment)?;
                     return Ok(true);
                 }
                 let (head, rest) = first_of(rest)?;
@@ -123,7 +122,7 @@ impl Spine {
         let alloc = trail.alloc();
         if held(self.known.as_slice(), name).is_none() {
             let assignment = self.assignment(trail)?;
-            trail.forward(law::VAR_UNUSED, &assignment)?;
+            trail.forward(Law::VarUnused, &assignment)?;
             return Ok(());
         }
         let mut others = Vec::new(alloc);
@@ -134,14 +133,14 @@ impl Spine {
         }
         self.known = others;
         let assignment = self.assignment(trail)?;
-        trail.forward(law::VAR_ASSIGN, &assignment)?;
+        trail.forward(Law::VarAssign, &assignment)?;
         Ok(())
     }
 
     fn skip(&mut self, trail: &mut Trail, rest: Vec<Proc>) -> Result<(), Lost> {
         let alloc = trail.alloc();
         let whole = seq_with(alloc, self.assignment(trail)?, rest)?;
-        trail.forward(law::SEQ_SKIP, &whole)?;
+        trail.forward(Law::SeqSkip, &whole)?;
         let (_, rest) = first_of(parts_of_seq(alloc, whole)?)?;
         self.layers.push(trail, Layer::Seq(rest))
     }
@@ -151,11 +150,11 @@ impl Spine {
         let alloc = trail.alloc();
         if !rest.is_empty() {
             let whole = seq_of_two(alloc, self.assignment(trail)?, Proc::Stop)?;
-            trail.forward(law::SEQ_STOP, &whole)?;
+            trail.forward(Law::SeqStop, &whole)?;
         }
         let none = alt_of(alloc, Vec::new(alloc))?;
         trail.enter(1)?;
-        trail.backward(law::ALT_NONE, &none)?;
+        trail.backward(Law::AltNone, &none)?;
         trail.leave();
         self.put(trail, none, Vec::new(alloc))
     }
@@ -182,7 +181,7 @@ impl Spine {
         branches.push((Guard { condition, wait }, Proc::Skip))?;
         let whole = alt_of(alloc, branches)?;
         trail.enter(1)?;
-        trail.forward(law::IO_ALT, &whole)?;
+        trail.forward(Law::IoAlt, &whole)?;
         trail.leave();
         self.put(trail, whole, rest)
     }
@@ -230,7 +229,7 @@ impl Spine {
             choices.push((condition, part))?;
         }
         let whole = if_of(alloc, choices)?;
-        trail.forward(law::ASSIGN_IF, &whole)?;
+        trail.forward(Law::AssignIf, &whole)?;
         choices_of_if(trail, whole)
     }
 
@@ -265,7 +264,7 @@ fn with_else(trail: &mut Trail, head: Proc) -> Result<Proc, Lost> {
     choices.push((Expr::Bool(true), Proc::Stop))?;
     let whole = if_of(trail.alloc(), choices)?;
     trail.enter(1)?;
-    trail.backward(law::IF_ELSE_STOP, &whole)?;
+    trail.backward(Law::IfElseStop, &whole)?;
     trail.leave();
     Ok(whole)
 }
@@ -279,13 +278,13 @@ fn only_choice(trail: &mut Trail, choices: Vec<(Expr, Proc)>, place: usize) -> R
         }
         let _ = left.remove(0);
         let whole = if_of(trail.alloc(), left)?;
-        trail.forward(law::IF_FALSE, &whole)?;
+        trail.forward(Law::IfFalse, &whole)?;
         left = choices_of_if(trail, whole)?;
     }
     if left.is_empty() {
         return Err(Lost::NoStep);
     }
     let (_, part) = left.remove(0);
-    trail.forward(law::IF_TRUE, &part)?;
+    trail.forward(Law::IfTrue, &part)?;
     Ok(part)
 }

@@ -1,5 +1,5 @@
-use occ_derive_expose::{Memory, Name, Width, constant};
-use occ_syntax::{Expr, Op};
+use occ_derive_expose::constant;
+use occ_syntax::{Expr, Memory, Name, Op, Width};
 use std::alloc::Global;
 
 /// The variables of an assignment with their right sides.

@@ -1,8 +1,8 @@
 ghost use Rattle.std.specs.Prelude.{◌≤◌, IfSome, length};
 
 use crate::constants::{Pairs, held, made_constant, substituted};
-use occ_derive_expose::{Frame, Lost, Memory, Name, Trail, assign_of, law};
-use occ_syntax::Expr;
+use occ_derive_expose::{Frame, Law, Lost, Trail, assign_of};
+use occ_syntax::{Expr, Memory, Name};
 use std::alloc::Global;
 
 /// Two assignments one after the other become one assignment to all their variables in order, with constants where nothing is named.
@@ -34,7 +34,7 @@ fn one_of_both(
     let back = widened(trail, second, order)?;
     trail.leave();
     let made = behind(alloc, front.as_slice(), back.as_slice())?;
-    trail.forward(law::ASSIGN_JOIN, &assign_of(alloc, made.as_slice())?)?;
+    trail.forward(Law::AssignJoin, &assign_of(alloc, made.as_slice())?)?;
     Ok(made)
 }
 
@@ -99,7 +99,7 @@ fn widened(trail: &mut Trail, pairs: Pairs, order: &[Name]) -> Result<Pairs, Los
     }
     let alloc = trail.alloc();
     let ordered = in_order(alloc, wide.as_slice(), order)?;
-    trail.forward(law::ASSIGN_ORDER, &assign_of(alloc, ordered.as_slice())?)?;
+    trail.forward(Law::AssignOrder, &assign_of(alloc, ordered.as_slice())?)?;
     Ok(ordered)
 }
 
@@ -118,7 +118,7 @@ fn with_variable(trail: &mut Trail, pairs: Pairs, name: Name) -> Result<Pairs, L
         None => {
             let mut wide = pairs;
             wide.push((name, Expr::Var(name)))?;
-            trail.forward(law::ASSIGN_PAD, &assign_of(trail.alloc(), wide.as_slice())?)?;
+            trail.forward(Law::AssignPad, &assign_of(trail.alloc(), wide.as_slice())?)?;
             Ok(wide)
         }
     }
@@ -154,7 +154,7 @@ fn evaluated(trail: &mut Trail, pairs: Pairs) -> Result<Pairs, Lost> {
     if !is_changed {
         return Ok(made);
     }
-    trail.forward(law::EXPR, &assign_of(alloc, made.as_slice())?)?;
+    trail.forward(Law::Expr, &assign_of(alloc, made.as_slice())?)?;
     Ok(made)
 }
 

@@ -1,6 +1,6 @@
 use crate::row::{group, seq_with};
-use occ_derive_expose::{Lost, Name, Trail, Width, var_of};
-use occ_syntax::Proc;
+use occ_derive_expose::{Lost, Trail, var_of};
+use occ_syntax::{Name, Proc, Width};
 use std::alloc::Global;
 
 /// What stands directly round the first part of a process.

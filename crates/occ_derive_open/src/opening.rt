@@ -5,10 +5,9 @@ use crate::row::{declared, first_of};
 use crate::spine::{Spine, Standing};
 use crate::turning::turn_input;
 use occ_derive_expose::{
-    Frame, Lost, Name, Piece, Trail, Width, alt_of, assign_of, constant, law, seq_of, seq_of_two,
-    unseen, var_of,
+    Frame, Law, Lost, Piece, Trail, alt_of, assign_of, constant, seq_of, seq_of_two, unseen, var_of,
 };
-use occ_syntax::{Expr, Guard, Proc, Wait};
+use occ_syntax::{Expr, Guard, Name, Proc, Wait, Width};
 use std::alloc::Global;
 
 /// The branches of an ALT.
@@ -49,7 +48,7 @@ fn end(trail: &mut Trail, spine: &Spine) -> Result<Proc, Lost> {
     let mut branches = Vec::new(alloc);
     branches.push((unseen(), assign_of(alloc, spine.known.as_slice())?))?;
     let whole = alt_of(alloc, branches)?;
-    trail.backward(law::ALT_SKIP, &whole)?;
+    trail.backward(Law::AltSkip, &whole)?;
     Ok(whole)
 }
 
@@ -84,7 +83,7 @@ fn any_value(trail: &mut Trail, (name, width): (Name, Width), part: Proc) -> Res
         branches.push((unseen(), var_of(alloc, name, width, inner)?))?;
     }
     let whole = alt_of(alloc, branches)?;
-    trail.forward(law::VAR_ANY, &whole)?;
+    trail.forward(Law::VarAny, &whole)?;
     Ok(whole)
 }
 
@@ -126,7 +125,7 @@ impl Spine {
             ))?;
         }
         let whole = alt_of(alloc, branches)?;
-        trail.forward(law::ASSIGN_ALT, &whole)?;
+        trail.forward(Law::AssignAlt, &whole)?;
         branches_of_alt(alloc, whole)
     }
 
@@ -179,7 +178,7 @@ fn evaluated(trail: &mut Trail, branches: Branches) -> Result<Branches, Lost> {
         return Ok(constants);
     }
     let whole = alt_of(alloc, constants)?;
-    trail.forward(law::EXPR, &whole)?;
+    trail.forward(Law::Expr, &whole)?;
     branches_of_alt(alloc, whole)
 }
 
@@ -206,7 +205,7 @@ fn possible(trail: &mut Trail, branches: Branches) -> Result<Branches, Lost> {
             let _ = left.remove(place);
         }
         let whole = alt_of(alloc, left)?;
-        trail.forward(law::ALT_FALSE, &whole)?;
+        trail.forward(Law::AltFalse, &whole)?;
         left = branches_of_alt(alloc, whole)?;
     }
     Ok(left)
@@ -258,7 +257,7 @@ fn into_var(trail: &mut Trail, part: Proc, variable: (Name, Width)) -> Result<Pr
         branches.push((guard, var_of(alloc, name, width, part)?))?;
     }
     let whole = alt_of(alloc, branches)?;
-    trail.forward(law::VAR_ALT, &whole)?;
+    trail.forward(Law::VarAlt, &whole)?;
     Ok(whole)
 }
 
@@ -274,6 +273,6 @@ fn into_seq(trail: &mut Trail, part: Proc, rest: Vec<Proc>) -> Result<Proc, Lost
         branches.push((guard, seq_of(alloc, parts)?))?;
     }
     let whole = alt_of(alloc, branches)?;
-    trail.forward(law::SEQ_ALT, &whole)?;
+    trail.forward(Law::SeqAlt, &whole)?;
     Ok(whole)
 }

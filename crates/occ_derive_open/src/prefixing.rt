@@ -2,8 +2,8 @@ use crate::joining::join_pairs;
 use crate::layers::{Layer, Layers};
 use crate::row::{first_of, flatten, into_scope, two_of_seq};
 use crate::spine::Spine;
-use occ_derive_expose::{Frame, Lost, Name, Piece, Trail, Width, assign_of};
-use occ_syntax::{Expr, Proc};
+use occ_derive_expose::{Frame, Lost, Piece, Trail, assign_of};
+use occ_syntax::{Expr, Name, Proc, Width};
 
 /// A SEQ of an assignment and a configuration becomes the configuration with the assignment brought in to its known values.
 pub fn prefix(trail: &mut Trail, frame: &Frame, part: Proc) -> Result<Proc, Lost> {

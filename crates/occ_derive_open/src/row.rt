@@ -1,5 +1,5 @@
-use occ_derive_expose::{Lost, Name, Piece, Trail, Width, law, seq_of, seq_of_two, var_of};
-use occ_syntax::{Expr, Proc};
+use occ_derive_expose::{Law, Lost, Piece, Trail, seq_of, seq_of_two, var_of};
+use occ_syntax::{Expr, Name, Proc, Width};
 use std::alloc::Global;
 
 /// The most steps that any one loop of the strategy takes.
@@ -51,7 +51,7 @@ pub(crate) fn group(
     let alloc = trail.alloc();
     let both = seq_of_two(alloc, first, second)?;
     let whole = seq_with(alloc, both, rest)?;
-    trail.backward(law::SEQ_FLAT, &whole)?;
+    trail.backward(Law::SeqFlat, &whole)?;
     let parts = parts_of_seq(alloc, whole)?;
     let (both, rest) = first_of(parts)?;
     let (first, second) = two_of_seq(alloc, both)?;
@@ -66,7 +66,7 @@ pub(crate) fn flatten(
 ) -> Result<(Proc, Vec<Proc>), Lost> {
     let alloc = trail.alloc();
     let whole = seq_with(alloc, first, rest)?;
-    trail.forward(law::SEQ_FLAT, &whole)?;
+    trail.forward(Law::SeqFlat, &whole)?;
     let parts = parts_of_seq(alloc, whole)?;
     let (first, rest) = first_of(parts)?;
     Ok((first, rest))
@@ -84,7 +84,7 @@ pub(crate) fn into_scope(
     let (name, width) = variable;
     let inner = seq_of_two(alloc, assignment, body)?;
     let whole = var_of(alloc, name, width, inner)?;
-    trail.backward(law::VAR_FIRST, &whole)?;
+    trail.backward(Law::VarFirst, &whole)?;
     let (_, _, inner) = declared(alloc, whole)?;
     let (_, body) = two_of_seq(alloc, inner)?;
     Ok(body)

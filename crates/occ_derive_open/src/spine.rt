@@ -1,8 +1,8 @@
 use crate::constants::{Pairs, first_unknown, value_in};
 use crate::layers::{Layer, Layers};
 use crate::row::first_of;
-use occ_derive_expose::{Lost, Name, Piece, Trail, assign_of};
-use occ_syntax::{Expr, Guard, Proc, Wait};
+use occ_derive_expose::{Lost, Piece, Trail, assign_of};
+use occ_syntax::{Expr, Guard, Name, Proc, Wait};
 
 /// A configuration taken apart: what is known of the state, and what stands round the assignment that says it.
 #[derive(Drop)]

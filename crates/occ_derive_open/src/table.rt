@@ -1,6 +1,6 @@
 use crate::row::choices_of_if;
-use occ_derive_expose::{Lost, Memory, Trail, if_of, law};
-use occ_syntax::{Expr, Op, Proc};
+use occ_derive_expose::{Law, Lost, Trail, if_of};
+use occ_syntax::{Expr, Memory, Op, Proc};
 use std::alloc::Global;
 
 type Rows = Vec<(Expr, Proc)>;
@@ -58,9 +58,9 @@ fn without_last(choices: Rows) -> Result<(Rows, Proc), Lost> {
 fn one_case(trail: &mut Trail, condition: &Expr, other: &Proc, part: Proc) -> Result<Rows, Lost> {
     let alloc = trail.alloc();
     let copies = if_else(alloc, condition, part.copy(alloc)?, part.copy(alloc)?)?;
-    trail.forward(law::IF_COPY, &copies)?;
+    trail.forward(Law::IfCopy, &copies)?;
     let whole = if_else(alloc, condition, other.copy(alloc)?, part)?;
-    trail.forward(law::IF_UNDER, &whole)?;
+    trail.forward(Law::IfUnder, &whole)?;
     Ok(choices_of_if(trail, whole)?)
 }
 
@@ -90,7 +90,7 @@ fn nested(trail: &mut Trail, choices: Rows, more: Rows) -> Result<Rows, Lost> {
     }
     all.push((Expr::Bool(true), Proc::Stop))?;
     let whole = if_of(alloc, all)?;
-    trail.forward(law::IF_NEST, &whole)?;
+    trail.forward(Law::IfNest, &whole)?;
     Ok(choices_of_if(trail, whole)?)
 }
 
@@ -99,7 +99,7 @@ fn cut(trail: &mut Trail, choices: Rows) -> Result<Rows, Lost> {
     let alloc = trail.alloc();
     let (front, _) = without_last(choices)?;
     let whole = if_of(alloc, front)?;
-    trail.forward(law::IF_CUT, &whole)?;
+    trail.forward(Law::IfCut, &whole)?;
     Ok(choices_of_if(trail, whole)?)
 }
 
@@ -115,7 +115,7 @@ fn plain(trail: &mut Trail, choices: Rows, count: usize) -> Result<Rows, Lost> {
         all.push((second_of(alloc, condition)?, part))?;
     }
     let whole = if_of(alloc, all)?;
-    trail.forward(law::EXPR, &whole)?;
+    trail.forward(Law::Expr, &whole)?;
     Ok(choices_of_if(trail, whole)?)
 }
 

@@ -4,9 +4,9 @@ use crate::layers::Layers;
 use crate::opening::{Branches, branches_of_alt};
 use crate::row::{declared, first_of, flatten, group, two_of_seq};
 use occ_derive_expose::{
-    Frame, Lost, Name, Piece, Trail, Width, alt_of, assign_of, constant, law, seq_of_two, var_of,
+    Frame, Law, Lost, Piece, Trail, alt_of, assign_of, constant, seq_of_two, var_of,
 };
-use occ_syntax::{Expr, Guard, Proc, Wait};
+use occ_syntax::{Expr, Guard, Name, Proc, Wait, Width};
 use std::alloc::Global;
 
 /// What one input is about: its channel, its variable with the width, the target of that width, and a name that stands nowhere.
@@ -69,12 +69,12 @@ impl Turning {
         place: usize,
     ) -> Result<Branches, Lost> {
         let whole = self.declare(trail.alloc(), branches)?;
-        trail.backward(law::VAR_UNUSED, &whole)?;
+        trail.backward(Law::VarUnused, &whole)?;
         let whole = self.into_spare(trail, whole, place)?;
         let whole = self.into_target(trail, frame, whole, place)?;
         let branches = self.undeclare(trail.alloc(), whole)?;
         let whole = alt_of(trail.alloc(), branches)?;
-        trail.forward(law::VAR_UNUSED, &whole)?;
+        trail.forward(Law::VarUnused, &whole)?;
         branches_of_alt(trail.alloc(), whole)
     }
 
@@ -108,7 +108,7 @@ impl Turning {
         let guard = self.guard(guard.condition, self.spare);
         put(&mut branches, place, (guard, part))?;
         let whole = self.declare(alloc, branches)?;
-        trail.forward(law::VAR_ALT, &whole)?;
+        trail.forward(Law::VarAlt, &whole)?;
         Ok(whole)
     }
 
@@ -134,7 +134,7 @@ impl Turning {
         let guard = self.guard(guard.condition, self.target);
         put(&mut branches, place, (guard, part))?;
         let whole = self.declare(alloc, branches)?;
-        trail.backward(law::VAR_ALT, &whole)?;
+        trail.backward(Law::VarAlt, &whole)?;
         Ok(whole)
     }
 
@@ -158,7 +158,7 @@ impl Turning {
         let (rest, _) = first_of(rest)?;
         let inner = seq_of_two(alloc, known, rest)?;
         let whole = seq_of_two(alloc, target, inner)?;
-        trail.backward(law::SEQ_FLAT, &whole)?;
+        trail.backward(Law::SeqFlat, &whole)?;
         let (_, inner) = two_of_seq(alloc, whole)?;
         Ok(inner)
     }
@@ -200,7 +200,7 @@ impl Turning {
         let front = self.front(alloc, joined.as_slice())?;
         let known = assign_of(alloc, kept.as_slice())?;
         let whole = seq_of_two(alloc, assign_of(alloc, front.as_slice())?, known)?;
-        trail.backward(law::ASSIGN_JOIN, &whole)?;
+        trail.backward(Law::AssignJoin, &whole)?;
         trail.enter(0)?;
         self.narrow(trail, front.as_slice())?;
         trail.leave();
@@ -249,11 +249,11 @@ impl Turning {
             }
         }
         if !self.leads(front) {
-            trail.forward(law::ASSIGN_ORDER, &assign_of(alloc, pairs.as_slice())?)?;
+            trail.forward(Law::AssignOrder, &assign_of(alloc, pairs.as_slice())?)?;
         }
         for _ in 1..pairs.len() {
             let _ = pairs.pop();
-            trail.backward(law::ASSIGN_PAD, &assign_of(alloc, pairs.as_slice())?)?;
+            trail.backward(Law::AssignPad, &assign_of(alloc, pairs.as_slice())?)?;
         }
         Ok(())
     }

@@ -2,8 +2,8 @@
 use Rattle.std.proofs.Common.{◌≡◌, ℕ, arith, true, List}
 use Rattle.std.proofs.lemmas.Bool.{lt-ltb}
 use Rattle.std.specs.Prelude.{nat_lt}
-use Rattle.occ_derive_moves.specs.occ_base.declared.names.Name.{Name}
-use Rattle.occ_derive_moves.proofs.Numbers.{joined_number}
+use Rattle.occ_syntax.specs.occ_base.declared.names.Name.{Name}
+use Rattle.occ_derive_moves.proofs.from_replay_rules.Numbers.{joined_number}
 use Rattle.occ_derive_moves.specs.occ_replay_rules.Steps.{Joins}
 use Rattle.occ_derive_moves.specs.occ_script_lines.declared.direction.Direction.{Direction}
 use Rattle.occ_syntax.specs.declared.scope.Kind.{Kind}

@@ -4,7 +4,7 @@ use Rattle.std.proofs.lemmas.Bool.{and_parts}
 use Rattle.std.proofs.lemmas.List.{append-nil}
 use Rattle.std.specs.Prelude.{◌==◌, ◌&&◌, not}
 use Rattle.std.specs.List.{list_any}
-use Rattle.occ_derive_moves.specs.occ_base.declared.event.Dir.TheVariants.{Output}
+use Rattle.occ_syntax.specs.occ_base.declared.event.Dir.TheVariants.{Output}
 use Rattle.occ_derive_search.proofs.Leading.{Leads, at_once, by, then_on}
 use Rattle.occ_derive_search.specs.Longer.{longer_row, more_branches, more_cases, more_trees}
 use Rattle.occ_derive_search.specs.Piles.{Held, and_exp, and_made, and_part, and_wait, begun, where_true, width_of}

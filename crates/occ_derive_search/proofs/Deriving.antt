@@ -1,10 +1,10 @@
 -- Each derivation has a code.
 use Rattle.std.proofs.Common.{◌≡◌, ℕ, true, List, [], ◌∷◌, ◌++◌, Some, refl, ap, sym, subst, append_assoc}
 use Rattle.std.proofs.lemmas.List.{append-nil}
-use Rattle.occ_derive_moves.specs.occ_base.declared.names.Name.{Name}
-use Rattle.occ_engine.proofs.from_meaning.Contexts.{part_types}
-use Rattle.occ_engine.proofs.from_meaning.Places.{put_there}
-use Rattle.occ_engine.specs.occ_meaning.Context.{environment_at, put}
+use Rattle.occ_syntax.specs.occ_base.declared.names.Name.{Name}
+use Rattle.occ_derive_moves.proofs.from_meaning.Contexts.{part_types}
+use Rattle.occ_derive_moves.proofs.from_meaning.Places.{put_there}
+use Rattle.occ_derive_moves.specs.occ_meaning.Context.{environment_at, put}
 use Rattle.occ_derive_search.specs.Codes.{HasCode}
 use Rattle.occ_derive_search.proofs.Coding.{coded_part, counted}
 use Rattle.occ_derive_search.proofs.Leading.{Leads, at_once, by, then_on}

@@ -1,13 +1,13 @@
 -- Steps have laws of the table.
 use Rattle.std.proofs.Common.{List, [], ◌∷◌}
 use Rattle.std.specs.List.{AllByRecursion}
-use Rattle.occ_derive_moves.specs.occ_base.declared.names.Name.{Name}
-use Rattle.occ_derive_moves.proofs.Numbers.{joined_number}
+use Rattle.occ_syntax.specs.occ_base.declared.names.Name.{Name}
+use Rattle.occ_derive_moves.proofs.from_replay_rules.Numbers.{joined_number}
 use Rattle.occ_derive_moves.proofs.Steps.{begun}
 use Rattle.occ_derive_moves.specs.Steps.{Steps}
 use Rattle.occ_engine.specs.Moved.{moves_of}
 use Rattle.occ_engine.specs.Outcomes.{IsTabled}
-use Rattle.occ_engine.specs.occ_meaning.Context.{put}
+use Rattle.occ_derive_moves.specs.occ_meaning.Context.{put}
 use Rattle.occ_engine.specs.occ_script_write.declared.writing.Done.{Done}
 use Rattle.occ_syntax.specs.declared.scope.Kind.{Kind}
 use Rattle.occ_syntax.specs.Tree.{Tree}

@@ -1,7 +1,7 @@
 -- Steps that are taken one after the other.
 use Rattle.std.proofs.Common.{◌≡◌, ℕ, ◌+◌, ◌<◌, suc, add-one, List, [], ◌∷◌, ◌++◌, length, take, drop, get_or, None, Some, sym, ap, subst, ◌∙◌}
 use Rattle.std.proofs.lemmas.List.{map-append}
-use Rattle.occ_derive_moves.specs.occ_base.declared.names.Name.{Name}
+use Rattle.occ_syntax.specs.occ_base.declared.names.Name.{Name}
 use Rattle.occ_derive_search.proofs.Numbers.{tabled}
 use Rattle.occ_derive_search.specs.declared.walk.Walk.{Walk}
 use Rattle.occ_derive_search.specs.Derivations.{IsDerived}
@@ -12,7 +12,7 @@ use Rattle.occ_engine.proofs.Leading.{divided, taken_next}
 use Rattle.occ_engine.specs.Followed.{ended}
 use Rattle.occ_engine.specs.Moved.{move_of, moves_of}
 use Rattle.occ_derive_moves.specs.occ_replay_rules.Moves.{Move}
-use Rattle.occ_engine.specs.occ_meaning.Context.{put}
+use Rattle.occ_derive_moves.specs.occ_meaning.Context.{put}
 use Rattle.occ_engine.specs.occ_script_write.declared.writing.Done.{Done}
 use Rattle.occ_syntax.specs.declared.scope.Kind.{Kind}
 use Rattle.occ_syntax.specs.declared.scope.Program.{Program}

@@ -1,11 +1,11 @@
 -- One step of a derivation: when its part may be put in, and whether it is a step.
 use Rattle.std.proofs.Common.{◌≡◌, ℕ, true, List, Some, sym, ap, subst, ◌∙◌}
-use Rattle.occ_derive_moves.specs.occ_base.declared.names.Name.{Name}
+use Rattle.occ_syntax.specs.occ_base.declared.names.Name.{Name}
 use Rattle.occ_derive_search.specs.declared.walk.Walk.{Walk}
 use Rattle.occ_derive_search.specs.Walking.{IsNext}
 use Rattle.occ_engine.specs.Moved.{move_of}
-use Rattle.occ_engine.proofs.from_meaning.Places.{part_keeps, put_scope, put_there}
-use Rattle.occ_engine.specs.occ_meaning.Context.{part_at, put}
+use Rattle.occ_derive_moves.proofs.from_meaning.Places.{part_keeps, put_scope, put_there}
+use Rattle.occ_derive_moves.specs.occ_meaning.Context.{part_at, put}
 use Rattle.occ_derive_moves.proofs.from_script_lines.Scoping.{scopes}
 use Rattle.occ_derive_moves.specs.occ_script_lines.Places.{IsPutIn, scope_list}
 use Rattle.occ_engine.specs.occ_script_write.declared.writing.Done.{Done}

@@ -1,7 +1,7 @@
 -- The machine that builds steps, and what each instruction does.
 use Rattle.std.specs.Prelude.{ℕ, suc, zero, Bool, nat_lt, ◌&&◌, List, [], ◌∷◌, ◌++◌, Option, None, Some, ◌≡◌, if◌then◌else◌}
-use Rattle.occ_derive_moves.specs.occ_base.declared.width.Width.{Width}
-use Rattle.occ_derive_moves.specs.occ_base.declared.width.Width.TheVariants.{Bool as TruthValue, Word}
+use Rattle.occ_syntax.specs.occ_base.declared.width.Width.{Width}
+use Rattle.occ_syntax.specs.occ_base.declared.width.Width.TheVariants.{Bool as TruthValue, Word}
 use Rattle.occ_derive_search.specs.declared.instruction.Instruction.{Instruction}
 use Rattle.occ_derive_search.specs.declared.instruction.Instruction.TheVariants as instruction
 use Rattle.occ_derive_search.specs.Longer.{longer_alt, longer_assignment, longer_if, longer_row}

@@ -4,7 +4,7 @@ use Rattle.occ_derive_search.specs.declared.exchange.Exchange.{Exchange}
 use Rattle.occ_derive_search.specs.declared.walk.Walk.{Walk}
 use Rattle.occ_derive_moves.specs.Steps.{IsStep}
 use Rattle.occ_derive_moves.specs.occ_replay_rules.Moves.{Move}
-use Rattle.occ_engine.specs.occ_meaning.Context.{part_at, put}
+use Rattle.occ_derive_moves.specs.occ_meaning.Context.{part_at, put}
 use Rattle.occ_derive_moves.specs.occ_script_lines.Places.{IsPutIn}
 use Rattle.occ_engine.specs.occ_script_write.declared.writing.Done.{Done}
 use Rattle.occ_syntax.specs.declared.scope.Program.{Program}

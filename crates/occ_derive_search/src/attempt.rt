@@ -5,9 +5,8 @@ ghost use Rattle.occ_derive_search.specs.Attempts.{IsAttempt};
 ghost use Rattle.occ_syntax.specs.View.{tree};
 
 use crate::{follow, steps_of};
-use occ_derive_moves::Memory;
 use occ_engine::{Accepted, Outcome};
-use occ_syntax::{Proc, same_proc};
+use occ_syntax::{Memory, Proc, same_proc};
 use std::alloc::Global;
 
 /// The derivation that a row of digits spells, where it leads from an accepted program to that body. None where it spells none.

@@ -4,8 +4,8 @@ ghost use Rattle.occ_engine.specs.Moved.{moves_of};
 ghost use Rattle.occ_derive_moves.specs.occ_replay_rules.Moves.{Move};
 
 use crate::machine::Machine;
-use occ_derive_moves::Memory;
 use occ_engine::Dones;
+use occ_syntax::Memory;
 use std::alloc::Global;
 
 /// The steps that a row of digits spells. Of a row that spells none the answer says nothing. `Memory` comes too where a step has a path

@@ -5,7 +5,7 @@ ghost use Rattle.std.specs.List.{AllByRecursion, AllByRecursion-prop};
 ghost use Rattle.occ_derive_search.specs.Rows.{IsDigit, IsDigit-prop, carried, rank};
 
 use crate::DIGITS;
-use occ_derive_moves::Memory;
+use occ_syntax::Memory;
 use std::alloc::Global;
 
 /// Makes the next row of a row, but for a digit behind it: whether one comes there.

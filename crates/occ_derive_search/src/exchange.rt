@@ -2,7 +2,7 @@
 
 ghost use Rattle.std.specs.Prelude.{◌≡◌, ◌↔◌, IfOk, IsSome, IsTrue, true};
 ghost use Rattle.occ_derive_search.specs.Walking.{IsExchange};
-ghost use Rattle.occ_engine.specs.occ_meaning.Context.{part_at};
+ghost use Rattle.occ_derive_moves.specs.occ_meaning.Context.{part_at};
 ghost use Rattle.occ_derive_moves.specs.occ_replay_rules.Steps.{Joins};
 ghost use Rattle.occ_derive_moves.specs.occ_script_lines.Places.{scope_list};
 ghost use Rattle.occ_syntax.specs.Scopes.{environment};
@@ -11,9 +11,9 @@ ghost use Rattle.occ_syntax.specs.Usage.{Keeps};
 ghost use Rattle.occ_syntax.specs.View.{tree};
 ghost use Rattle.occ_engine.specs.occ_usage.Accepted.{KeepsRules};
 
-use occ_derive_moves::{Direction, Memory, replace};
+use occ_derive_moves::{Direction, replace};
 use occ_engine::{Done, Store, holds, keeps_exchanged};
-use occ_syntax::{Proc, Program, Scope};
+use occ_syntax::{Memory, Proc, Program, Scope};
 use std::alloc::Global;
 
 /// A program with a part put in, and the part that stood there.

@@ -4,9 +4,8 @@ ghost use Rattle.std.specs.Prelude.{IfOk};
 ghost use Rattle.occ_derive_search.specs.Derivations.{AreFollowed};
 
 use crate::walk::Walk;
-use occ_derive_moves::Memory;
 use occ_engine::{Accepted, Done};
-use occ_syntax::Program;
+use occ_syntax::{Memory, Program};
 use std::alloc::Global;
 
 /// The program to which steps lead, each with its part, one after the other from an accepted program: what somebody proposes is

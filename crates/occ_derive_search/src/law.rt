@@ -1,7 +1,7 @@
 //! Laws of codes.
 
 ghost use Rattle.std.specs.Prelude.{◌≡◌, List, true};
-ghost use Rattle.occ_derive_moves.specs.occ_base.declared.names.Name.{Name};
+ghost use Rattle.occ_syntax.specs.occ_base.declared.names.Name.{Name};
 ghost use Rattle.occ_derive_search.specs.Codes.{HasCode};
 ghost use Rattle.occ_derive_moves.specs.Steps.{Steps};
 ghost use Rattle.occ_derive_moves.specs.occ_replay_rules.Moves.{Move};

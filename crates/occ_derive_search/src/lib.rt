@@ -23,5 +23,5 @@ pub use occ_derive_moves::{
     Table, TargetFault, moves_are_steps, narrow_steps_are_moves, steps_go_on,
     steps_keep_the_meaning, target,
 };
-pub use occ_engine::{Dones, Outcome};
+pub use occ_engine::Outcome;
 pub use searching::search;

@@ -6,8 +6,7 @@ ghost use Rattle.occ_derive_search.specs.Longer.{longer_alt, longer_assignment, 
 ghost use Rattle.occ_syntax.specs.Tree.{Tree, alt, no_branch, no_case, no_tree, par, select, seq};
 ghost use Rattle.occ_syntax.specs.View.{exp, tree, waiting};
 
-use occ_derive_moves::{Memory, Name};
-use occ_syntax::{Alternatives, Choices, Expr, Exprs, Guard, NameList, Proc, Procs};
+use occ_syntax::{Alternatives, Choices, Expr, Exprs, Guard, Memory, Name, NameList, Proc, Procs};
 use std::alloc::Global;
 use std::mem::replace;
 

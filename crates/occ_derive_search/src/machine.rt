@@ -6,9 +6,9 @@ ghost use Rattle.occ_derive_search.specs.Seen.{held};
 ghost use Rattle.occ_engine.specs.Moved.{moves_of};
 ghost use Rattle.occ_syntax.specs.View.{exp, tree, waiting};
 
-use occ_derive_moves::{Direction, Memory, Path};
+use occ_derive_moves::{Direction, Path};
 use occ_engine::{Done, Dones, LawId};
-use occ_syntax::{Expr, Proc, Wait};
+use occ_syntax::{Expr, Memory, Proc, Wait};
 use std::alloc::Global;
 use std::mem::replace;
 

@@ -12,9 +12,9 @@ use crate::longer::{
     alt_none, if_none, par_none, seq_none, with_alternative, with_choice, with_pair, with_part,
 };
 use crate::machine::Machine;
-use occ_derive_moves::{Direction, Memory, Name, Width};
+use occ_derive_moves::Direction;
 use occ_engine::LawId;
-use occ_syntax::{Expr, Exprs, Guard, NameList, Op, Proc, Wait};
+use occ_syntax::{Expr, Exprs, Guard, Memory, Name, NameList, Op, Proc, Wait, Width};
 
 /// The width of that number of bits; 0 stands for that of a truth value.
 fn width(bits: usize) -> Option<Width>

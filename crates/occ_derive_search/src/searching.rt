@@ -7,9 +7,8 @@ ghost use Rattle.occ_syntax.specs.View.{tree};
 
 use crate::attempt::attempt;
 use crate::counter::Counter;
-use occ_derive_moves::Memory;
 use occ_engine::{Accepted, Outcome};
-use occ_syntax::Proc;
+use occ_syntax::{Memory, Proc};
 use std::alloc::Global;
 
 /// A derivation from an accepted program to the one of its header with this body, where there is one: all rows of digits are read as

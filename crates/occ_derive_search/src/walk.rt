@@ -7,9 +7,9 @@ ghost use Rattle.occ_syntax.specs.View.{tree};
 ghost use Rattle.occ_engine.specs.occ_usage.Accepted.{KeepsRules};
 
 use crate::exchange::{Exchange, exchanged, joins};
-use occ_derive_moves::{Memory, at, scope_at};
+use occ_derive_moves::{at, scope_at};
 use occ_engine::{Done, Store};
-use occ_syntax::Program;
+use occ_syntax::{Memory, Program};
 use std::alloc::Global;
 
 /// The program to which steps have led so far, and the store that serves the laws.

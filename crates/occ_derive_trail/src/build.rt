@@ -1,5 +1,6 @@
-use occ_script_write::{Memory, Name, Width};
-use occ_syntax::{Alternatives, Choices, Expr, Exprs, Guard, NameList, Proc, Procs, Wait};
+use occ_syntax::{
+    Alternatives, Choices, Expr, Exprs, Guard, Memory, Name, NameList, Proc, Procs, Wait, Width,
+};
 use std::alloc::Global;
 
 /// SEQ of these parts.

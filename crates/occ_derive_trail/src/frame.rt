@@ -1,4 +1,4 @@
-use occ_script_write::{Name, Width};
+use occ_syntax::{Name, Width, same_width};
 
 /// What a derivation keeps in view: the parameters that are variables, in order; the variables that take in what an input
 /// brings, one for each width; and a name that stands nowhere in the program.
@@ -21,7 +21,7 @@ impl Frame {
     /// The target of that width; None where there is none.
     pub fn target(&self, width: Width) -> Option<Name> {
         for (name, other) in self.targets.as_slice() {
-            if is_same_width(width, *other) {
+            if same_width(width, *other) {
                 return Some(*name);
             }
         }
@@ -38,16 +38,6 @@ impl Frame {
                 None => left.0 < right.0,
             },
         }
-    }
-}
-
-fn is_same_width(left: Width, right: Width) -> bool {
-    match left {
-        Width::Bool => matches!(right, Width::Bool),
-        Width::Word(bits) => match right {
-            Width::Bool => false,
-            Width::Word(others) => bits == others,
-        },
     }
 }
 

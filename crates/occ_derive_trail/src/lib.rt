@@ -3,7 +3,6 @@
 
 mod build;
 mod frame;
-pub mod law;
 mod lists;
 mod lost;
 mod piece;
@@ -15,9 +14,6 @@ pub use build::{
 pub use frame::Frame;
 pub use lists::{branches_of, choices_of, parts_of};
 pub use lost::Lost;
-pub use occ_script_write::{
-    LawId, Memory, Name, NameSet, Names, Path, RenameFault, Width, at, free, numbered, rename,
-    replace,
-};
+pub use occ_script_write::{Law, NameSet, Path, RenameFault, at, free, numbered, rename, replace};
 pub use piece::Piece;
 pub use trail::{Dones, Trail};

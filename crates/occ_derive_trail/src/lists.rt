@@ -1,5 +1,4 @@
-use occ_script_write::Memory;
-use occ_syntax::{Alternatives, Choices, Expr, Guard, Proc, Procs, Wait};
+use occ_syntax::{Alternatives, Choices, Expr, Guard, Memory, Proc, Procs, Wait};
 use std::alloc::Global;
 
 /// The processes of a list, taken out of it.

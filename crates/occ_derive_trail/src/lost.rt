@@ -1,4 +1,4 @@
-use occ_script_write::Memory;
+use occ_syntax::Memory;
 use std::alloc::{AllocError, AllocFailed};
 use thiserror::Error;
 

@@ -1,7 +1,8 @@
 use crate::build::{alt_of, assign_of, if_of, pairs_of, par_of, seq_of, var_of};
 use crate::lists::{branches_of, choices_of, parts_of};
-use occ_script_write::{Memory, Name, Width};
-use occ_syntax::{Alternatives, Choices, Expr, Exprs, Guard, NameList, Proc, Procs};
+use occ_syntax::{
+    Alternatives, Choices, Expr, Exprs, Guard, Memory, Name, NameList, Proc, Procs, Width,
+};
 use std::alloc::Global;
 use std::mem::replace;
 

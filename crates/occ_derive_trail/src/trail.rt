@@ -1,6 +1,6 @@
 use crate::Lost;
-use occ_script_write::{Direction, Done, LawId, List, Memory, Path};
-use occ_syntax::Proc;
+use occ_script_write::{Direction, Done, Law, Path};
+use occ_syntax::{List, Memory, Proc};
 use std::alloc::Global;
 
 /// Steps in order.
@@ -41,20 +41,20 @@ impl Trail {
     }
 
     /// A law used forward: it makes the present part this one.
-    pub fn forward(&mut self, law: LawId, part: &Proc) -> Result<(), Lost> {
+    pub fn forward(&mut self, law: Law, part: &Proc) -> Result<(), Lost> {
         self.step(law, Direction::Forward, part)
     }
 
     /// A law used backward: it makes the present part this one.
-    pub fn backward(&mut self, law: LawId, part: &Proc) -> Result<(), Lost> {
+    pub fn backward(&mut self, law: Law, part: &Proc) -> Result<(), Lost> {
         self.step(law, Direction::Backward, part)
     }
 
-    fn step(&mut self, law: LawId, dir: Direction, part: &Proc) -> Result<(), Lost> {
+    fn step(&mut self, law: Law, dir: Direction, part: &Proc) -> Result<(), Lost> {
         let path = copied(self.alloc, self.place.as_slice())?;
         let part = part.copy(self.alloc)?;
         self.steps.push(Done {
-            law,
+            law: law.id(),
             dir,
             path,
             part,

@@ -3,7 +3,7 @@ use crate::merging::{flat, merged};
 use crate::moving::housed;
 use crate::orders::{Key, ranks};
 use crate::unifying::each_ordered;
-use occ_derive_trail::{Lost, Trail, alt_of, law, unseen};
+use occ_derive_trail::{Law, Lost, Trail, alt_of, unseen};
 use occ_syntax::Scope;
 use std::alloc::Global;
 
@@ -127,12 +127,12 @@ fn least(
     pair.push(less)?;
     pair.push(more)?;
     alt.list.push((unseen(), alt_of(alloc, pair)?))?;
-    let mut alt = alt.backward(trail, law::ALT_FLAT)?;
+    let mut alt = alt.backward(trail, Law::AltFlat)?;
     let pair = Alt::of(alloc, alt.take(place)?)?;
     let own = beyond(trail.alloc(), pair, count)?;
     let ranks = ranks(alloc, params, own.list.as_slice())?;
     enter(trail, place)?;
-    let own = own.forward(trail, law::ALT_LEAST)?;
+    let own = own.forward(trail, Law::AltLeast)?;
     trail.leave();
     alt.put(place, own.into_part(alloc)?)?;
     Ok((flat(trail, alt, place)?, ranks))

@@ -1,6 +1,6 @@
 use crate::orders::{Key, accepted, key_of, rank};
-use occ_derive_trail::{LawId, Lost, Memory, Piece, Trail, alt_of, law};
-use occ_syntax::{Guard, Proc, Scope};
+use occ_derive_trail::{Law, Lost, Piece, Trail, alt_of};
+use occ_syntax::{Guard, Memory, Proc, Scope};
 use std::alloc::Global;
 use std::cmp::Ordering;
 use std::mem::replace;
@@ -62,7 +62,7 @@ impl Alt {
     }
 
     /// A law used forward makes the present part this ALT.
-    pub(crate) fn forward(self, trail: &mut Trail, law: LawId) -> Result<Alt, Lost> {
+    pub(crate) fn forward(self, trail: &mut Trail, law: Law) -> Result<Alt, Lost> {
         let alloc = trail.alloc();
         let part = self.into_part(alloc)?;
         trail.forward(law, &part)?;
@@ -70,7 +70,7 @@ impl Alt {
     }
 
     /// A law used backward makes the present part this ALT.
-    pub(crate) fn backward(self, trail: &mut Trail, law: LawId) -> Result<Alt, Lost> {
+    pub(crate) fn backward(self, trail: &mut Trail, law: Law) -> Result<Alt, Lost> {
         let alloc = trail.alloc();
         let part = self.into_part(alloc)?;
         trail.backward(law, &part)?;
@@ -207,7 +207,7 @@ impl Rows {
         if !moved {
             return Ok(Alt { list });
         }
-        let made = Alt { list }.forward(trail, law::ALT_ORDER)?;
+        let made = Alt { list }.forward(trail, Law::AltOrder)?;
         Ok(made)
     }
 }

@@ -11,7 +11,7 @@ mod unifying;
 
 pub use merging::merge;
 pub use occ_derive_trail::{
-    Dones, Frame, Lost, Piece, Trail, alt_of, assign_of, constant, if_of, law, seq_of, seq_of_two,
+    Dones, Frame, Lost, Piece, Trail, alt_of, assign_of, constant, if_of, seq_of, seq_of_two,
     unseen, var_of,
 };
 pub use restoring::restore;

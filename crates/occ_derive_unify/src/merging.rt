@@ -1,7 +1,7 @@
 use crate::alt::{Alt, enter};
 use crate::orders::rank;
-use occ_derive_trail::{Lost, Memory, Trail, alt_of, law, unseen};
-use occ_syntax::{Guard, Proc, Scope, Wait, same_proc};
+use occ_derive_trail::{Law, Lost, Trail, alt_of, unseen};
+use occ_syntax::{Guard, Memory, Proc, Scope, Wait, same_proc};
 use std::alloc::Global;
 
 /// Makes an ALT one with each guard once, in the order of a normal program: what follows a guard is what followed it before,
@@ -34,7 +34,7 @@ fn once_at(trail: &mut Trail, params: &Scope, mut alt: Alt, place: usize) -> Res
         return Ok(alt);
     }
     let _ = alt.remove(place)?;
-    let made = alt.forward(trail, law::ALT_TWICE)?;
+    let made = alt.forward(trail, Law::AltTwice)?;
     Ok(made)
 }
 
@@ -116,7 +116,7 @@ fn together(trail: &mut Trail, mut alt: Alt, place: usize) -> Result<Alt, Lost> 
     let second = alt.take(place)?;
     let part = two_of(trail.alloc(), first, second)?;
     alt.put(place, part)?;
-    let made = alt.forward(trail, law::ALT_SAME)?;
+    let made = alt.forward(trail, Law::AltSame)?;
     Ok(made)
 }
 
@@ -193,7 +193,7 @@ fn alone(trail: &mut Trail, mut whole: Alt) -> Result<Proc, Lost> {
         return Ok(made);
     }
     let part = whole.take(0)?;
-    trail.forward(law::ALT_SKIP, &part)?;
+    trail.forward(Law::AltSkip, &part)?;
     Ok(part)
 }
 
@@ -202,7 +202,7 @@ pub(crate) fn flat(trail: &mut Trail, mut whole: Alt, place: usize) -> Result<Al
     let (_, part) = whole.remove(place)?;
     let inner = Alt::of(trail.alloc(), part)?;
     let list = with_all(whole.list, place, inner.list)?;
-    let made = Alt { list }.forward(trail, law::ALT_FLAT)?;
+    let made = Alt { list }.forward(trail, Law::AltFlat)?;
     Ok(made)
 }
 

@@ -1,7 +1,7 @@
 use crate::alt::{Alt, Rows, enter};
 use crate::merging::{joined, once};
 use crate::orders::{Key, following, rank};
-use occ_derive_trail::{Lost, Trail, law};
+use occ_derive_trail::{Law, Lost, Trail};
 use occ_syntax::{Guard, Proc, Scope, same_proc};
 
 /// The place of the first acceptance with an event of that rank: its home. None where no acceptance has one.
@@ -105,7 +105,7 @@ fn copied_out(trail: &mut Trail, params: &Scope, mut alt: Alt, event: Event) -> 
     let branch = inner.remove(0)?;
     alt.put(event.home, inner.into_part(alloc)?)?;
     alt.insert(event.home, branch)?;
-    alt.backward(trail, law::ALT_SPLIT)
+    alt.backward(trail, Law::AltSplit)
 }
 
 // The first branch twice.
@@ -114,7 +114,7 @@ fn doubled(trail: &mut Trail, alt: Alt) -> Result<Alt, Lost> {
     let (mut alt, copy) = alt.copied(alloc)?;
     let first = Alt::of(alloc, copy)?.remove(0)?;
     alt.insert(0, first)?;
-    alt.backward(trail, law::ALT_TWICE)
+    alt.backward(trail, Law::AltTwice)
 }
 
 /// Moves the ALT's own branches of the event of that rank into its home, where an acceptance has it.
@@ -181,7 +181,7 @@ fn split(trail: &mut Trail, mut alt: Alt, place: usize) -> Result<Alt, Lost> {
     let mut inner = Alt::of(alloc, alt.take(place)?)?;
     inner.insert(0, branch)?;
     alt.put(place, inner.into_part(alloc)?)?;
-    alt.forward(trail, law::ALT_SPLIT)
+    alt.forward(trail, Law::AltSplit)
 }
 
 // Neighbours of one guard in the acceptance at a place become one.

@@ -1,6 +1,5 @@
 use occ_behaviour::place_in;
-use occ_derive_trail::{Memory, Name};
-use occ_syntax::{Expr, Exprs, Guard, Proc, Scope, Wait};
+use occ_syntax::{Expr, Exprs, Guard, Memory, Name, Proc, Scope, Wait};
 use std::alloc::Global;
 use std::cmp::Ordering;
 

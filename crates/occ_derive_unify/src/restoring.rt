@@ -1,7 +1,7 @@
 use crate::alt::{Alt, enter};
 use crate::merging::{flat, has_unseen};
 use crate::orders::{accepted, following, ranks};
-use occ_derive_trail::{Lost, Trail, choices_of, if_of, law, unseen};
+use occ_derive_trail::{Law, Lost, Trail, choices_of, if_of, unseen};
 use occ_syntax::{Choices, Guard, Proc, Scope, Wait};
 use std::alloc::Global;
 use std::mem::replace;
@@ -109,7 +109,7 @@ fn offering(trail: &mut Trail, params: &Scope, alt: Alt) -> Result<Alt, Lost> {
 fn slid(trail: &mut Trail, alt: Alt) -> Result<Alt, Lost> {
     let (mut alt, copy) = alt.copied(trail.alloc())?;
     alt.list.push((unseen(), copy))?;
-    alt.backward(trail, law::ALT_SLIDE)
+    alt.backward(trail, Law::AltSlide)
 }
 
 // The ranks of the events of the acceptance at a place that no acceptance before it has.
@@ -164,7 +164,7 @@ fn offered(
     let (mut outer, copy) = inner.copied(alloc)?;
     outer.list.truncate(chosen.len());
     outer.list.push((unseen(), copy))?;
-    let mut outer = outer.backward(trail, law::ALT_SLIDE)?;
+    let mut outer = outer.backward(trail, Law::AltSlide)?;
     let inner = Alt::of(alloc, outer.take(chosen.len())?)?;
     enter(trail, chosen.len())?;
     let inner = inner.ordered(trail, params)?;

@@ -7,5 +7,5 @@ mod real;
 
 pub use desk::{Desk, ReadError, WriteFailed, send};
 pub use memory::MemoryDesk;
-pub use occ_base::{Dir, Event, Events, List, Memory, Name, Names, State, Width};
+pub use occ_base::{Dir, Event, Events, Memory, Name, Names, State, Width};
 pub use real::RealDesk;

@@ -1,7 +1,7 @@
 -- An expansion asks for nothing that a law doesn't make: what its wishes ask for is always there.
 use Rattle.std.proofs.Common.{◌≡◌, ◌∙◌, ℕ, true, false, ◌&&◌, List, [], ◌∷◌, ◌++◌, append-nil, Some, refl, sym, ap, subst}
 use Rattle.std.proofs.lemmas.Bool.{and_parts}
-use Rattle.occ_script_write.specs.occ_base.declared.names.Name.{Name}
+use Rattle.occ_syntax.specs.occ_base.declared.names.Name.{Name}
 use Rattle.occ_engine.proofs.Keeping.{expansion_kept, input_alt_kept, output_alt_kept, seq_alt_kept, skip_alt_kept}
 use Rattle.occ_engine.proofs.Reaching.{Goes, IsReached, and_goes, at_end, goes_on, reached}
 use Rattle.occ_replay_rules.specs.Expansion.{Grants, alt_skip as alt_skip_number, expanding, forward, io_alt, par_expand as par_expand_number, preparing, seq_alt as seq_alt_number, sequencing, wrapping}

@@ -1,9 +1,9 @@
 -- The right sides of the laws that expand a PAR keep names, types, directions and usage where the left sides do.
 use Rattle.std.proofs.Common.{◌≡◌, ℕ, ◌==◌, Bool, true, false, true≢false, ◌&&◌, ◌||◌, List, Option, Some, if◌then◌else◌, refl, ap, sym, ◌∙◌, subst}
 use Rattle.std.proofs.lemmas.Bool.{and_from, and_parts, eqb-true, or_left, or_right}
-use Rattle.occ_script_write.specs.occ_base.declared.event.Dir.TheVariants.{Input, Output}
-use Rattle.occ_script_write.specs.occ_base.declared.width.Width.{Width}
-use Rattle.occ_script_write.specs.occ_base.declared.width.Width.TheVariants.{Bool as TruthValue}
+use Rattle.occ_syntax.specs.occ_base.declared.event.Dir.TheVariants.{Input, Output}
+use Rattle.occ_syntax.specs.occ_base.declared.width.Width.{Width}
+use Rattle.occ_syntax.specs.occ_base.declared.width.Width.TheVariants.{Bool as TruthValue}
 use Rattle.occ_syntax.specs.declared.expr.Op.TheVariants.{And}
 use Rattle.occ_script_write.proofs.from_meaning.Facts.{agreed, and_four}
 use Rattle.occ_script_write.specs.occ_meaning.Parallel.{one, two}

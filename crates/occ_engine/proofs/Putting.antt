@@ -1,6 +1,6 @@
 -- A part put in: when it may be, and what move that is.
 use Rattle.std.proofs.Common.{◌≡◌, ℕ, true, List, Some, sym, ap, subst, ◌∙◌}
-use Rattle.occ_script_write.specs.occ_base.declared.names.Name.{Name}
+use Rattle.occ_syntax.specs.occ_base.declared.names.Name.{Name}
 use Rattle.occ_replay_rules.specs.Moves.{IsAdmitted}
 use Rattle.occ_script_write.proofs.from_meaning.Places.{part_keeps, put_scope, put_there}
 use Rattle.occ_script_write.specs.occ_meaning.Context.{environment_at, part_at, put}

@@ -1,57 +1,20 @@
--- Laws have numbers from 1 to 63, and steps that are moves have laws.
-use Rattle.std.proofs.Common.{◌≡◌, ℕ, zero, suc, ◌==◌, ◌≤◌, nat_le, arith, Bool, true, false, MatchBool, List, [], ◌∷◌, refl, sym, subst}
+-- Steps that are moves have laws of the table.
+use Rattle.std.proofs.Common.{◌≡◌, List, [], ◌∷◌}
 use Rattle.std.specs.List.{AllByRecursion}
-use Rattle.std.proofs.lemmas.Bool.{eqb-true, leb-true}
-use Rattle.occ_script_write.specs.occ_base.declared.names.Name.{Name}
+use Rattle.occ_syntax.specs.occ_base.declared.names.Name.{Name}
 use Rattle.occ_engine.specs.Moved.{moves_of}
 use Rattle.occ_engine.specs.Outcomes.{IsLed, IsOutcome, IsTabled}
 use Rattle.occ_engine.specs.declared.outcome.Outcome.{Outcome}
 use Rattle.occ_replay_rules.proofs.Moving.{follows_moves}
+use Rattle.occ_replay_rules.proofs.Numbers.{joined_number}
 use Rattle.occ_replay_rules.specs.Moves.{IsMove, Move, Moves, and_move}
 use Rattle.occ_replay_rules.specs.Orders.{Order}
-use Rattle.occ_script_write.specs.occ_law.Scope.{ScopeSides}
-use Rattle.occ_script_write.specs.occ_law.RuleTable.{SIDES}
 use Rattle.occ_script_write.specs.occ_meaning.Context.{put}
-use Rattle.occ_replay_rules.specs.Steps.{Joins}
-use Rattle.occ_script_write.specs.occ_script_lines.declared.direction.Direction.{Direction}
-use Rattle.occ_script_write.specs.occ_script_lines.declared.direction.Direction.TheVariants as direction
 use Rattle.occ_script_write.specs.declared.writing.Done.{Done}
 use Rattle.occ_syntax.specs.declared.scope.Kind.{Kind}
 use Rattle.occ_syntax.specs.declared.scope.Program.{Program}
 use Rattle.occ_syntax.specs.Tree.{Tree}
 use Rattle.occ_syntax.specs.View.{tree}
-
-by_case : (b : Bool) {P Q R : Type 0} → (b ≡ true → P → R) → (b ≡ false → Q → R) → MatchBool b P Q → R
-by_case true f g h = f refl h
-by_case false f g h = g refl h
-
--- a number that is one of the table, or else another one of it
-or_else : (n k : ℕ) (X Y : Type 0) → k ≤ 63 → (Y → n ≤ 63) → MatchBool (n == k) X Y → n ≤ 63
-or_else n k X Y h f = by_case (n == k) (λ e x. subst (λ m. m ≤ 63) (sym (eqb-true n k e)) h) (λ e y. f y)
-
-scope_high : (n : ℕ) (S : List (Name × Kind)) (ks : List ℕ) (l r : Tree) → ScopeSides n S ks l r → n ≤ 63
-scope_high n S ks l r =
-    or_else n 46 _ _ (omega arith) (or_else n 47 _ _ (omega arith) (or_else n 48 _ _ (omega arith) (or_else n 49 _ _ (omega arith) (or_else n 50 _ _ (omega arith)
-    (or_else n 51 _ _ (omega arith) (or_else n 52 _ _ (omega arith) (or_else n 53 _ _ (omega arith) (or_else n 54 _ _ (omega arith) (or_else n 55 _ _ (omega arith)
-    (or_else n 56 _ _ (omega arith) (or_else n 57 _ _ (omega arith) (or_else n 58 _ _ (omega arith) (or_else n 59 _ _ (omega arith) (or_else n 60 _ _ (omega arith)
-    (or_else n 61 _ _ (omega arith) (or_else n 62 _ _ (omega arith) (or_else n 63 _ _ (omega arith) (λ z. absurd z))))))))))))))))))
-
-below : (n k : ℕ) → k ≤ 63 → nat_le n k ≡ true → n ≤ 63
-below n k h e = let l = leb-true n k e in omega arith
-
-high : (n : ℕ) (S : List (Name × Kind)) (ks : List ℕ) (l r : Tree) → SIDES n S ks l r → n ≤ 63
-high n S ks l r =
-    by_case (nat_le n 15) (λ e x. below n 15 (omega arith) e) (λ e. by_case (nat_le n 36) (λ f x. below n 36 (omega arith) f)
-    (λ f. by_case (nat_le n 45) (λ g x. below n 45 (omega arith) g) (λ g. scope_high n S ks l r)))
-
-low : (n : ℕ) (S : List (Name × Kind)) (ks : List ℕ) (l r : Tree) → SIDES n S ks l r → 1 ≤ n
-low zero S ks l r h = absurd h
-low (suc n) S ks l r h = omega arith
-
--- a law that joins two parts is one of the table
-joined_number : (dir : Direction) (n : ℕ) (S : List (Name × Kind)) (old new : Tree) → Joins dir n S old new → (1 ≤ n) × (n ≤ 63)
-joined_number direction.Forward n S old new j = (low n S j.place old new j.sides, high n S j.place old new j.sides)
-joined_number direction.Backward n S old new j = (low n S j.place new old j.sides, high n S j.place new old j.sides)
 
 -- of moves one by one
 pub first_move : (S : List (Name × Kind)) (p q : Tree) (move : Move) (moves : List Move) → Moves S p (move ∷ moves) q → IsMove S p move × Moves S (put move.path p move.part) moves q

@@ -2,7 +2,7 @@
 use Rattle.std.proofs.Common.{◌≡◌, ◌∙◌, ℕ, true, List, [], ◌∷◌, ◌++◌, Option, Some, None, refl, sym, ap, subst}
 use Rattle.std.proofs.lemmas.Option.{same_Some}
 use Rattle.std.specs.Option.{option_and_then, option_map, unwrap_or}
-use Rattle.occ_script_write.specs.occ_base.declared.names.Name.{Name}
+use Rattle.occ_syntax.specs.occ_base.declared.names.Name.{Name}
 use Rattle.occ_replay_rules.specs.Expansion.{Grants, and_wish, no_wish}
 use Rattle.occ_replay_rules.specs.Moves.{IsApplied, IsGranted, Move, Wish}
 use Rattle.occ_script_write.proofs.from_meaning.Facts.{none_not_some, some_is}

@@ -1,6 +1,6 @@
 -- An order that is followed by a move, or can't be.
 use Rattle.std.proofs.Common.{◌≡◌, List, Option, None, Some, sym, ap, subst, ◌∙◌}
-use Rattle.occ_script_write.specs.occ_base.declared.names.Name.{Name}
+use Rattle.occ_syntax.specs.occ_base.declared.names.Name.{Name}
 use Rattle.occ_engine.specs.declared.fault.Stopped.{Stopped}
 use Rattle.occ_engine.specs.declared.fault.Stopped.TheVariants as stopped
 use Rattle.occ_engine.specs.declared.moving.Moved.{Moved}

@@ -1,7 +1,7 @@
 -- What a law makes of a part, as the code answers.
 use Rattle.std.specs.Prelude.{ℕ, List, Option, None, Some}
 use Rattle.std.specs.Borrow.{Bor}
-use Rattle.occ_script_write.specs.occ_base.declared.names.Name.{Name}
+use Rattle.occ_syntax.specs.occ_base.declared.names.Name.{Name}
 use Rattle.occ_engine.specs.declared.fault.ApplyFault.{ApplyFault}
 use Rattle.occ_engine.specs.declared.fault.ApplyFault.TheVariants as fault
 use Rattle.occ_replay_rules.specs.Moves.{IsApplied}

@@ -1,6 +1,6 @@
 -- Wishes granted one after the other, and what an expansion comes to.
 use Rattle.std.specs.Prelude.{ℕ, ◌≡◌, List, ◌∷◌, ◌++◌, None, Some}
-use Rattle.occ_script_write.specs.occ_base.declared.names.Name.{Name}
+use Rattle.occ_syntax.specs.occ_base.declared.names.Name.{Name}
 use Rattle.occ_engine.specs.declared.fault.EngineFault.{EngineFault}
 use Rattle.occ_engine.specs.declared.fault.EngineFault.TheVariants as fault
 use Rattle.occ_engine.specs.declared.fault.Stopped.{Stopped}

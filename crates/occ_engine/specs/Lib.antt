@@ -7,7 +7,7 @@ pub mod Wishes
 pub mod Granted
 pub mod Followed
 unfoldable pub use Rattle.occ_syntax.specs.View.{tree}
-pub use Rattle.occ_script_write.specs.occ_base as occ_base
+pub use Rattle.occ_syntax.specs.occ_base as occ_base
 pub use Rattle.occ_script_write.specs.occ_bits as occ_bits
 pub use Rattle.occ_script_write.specs.occ_law as occ_law
 pub use Rattle.occ_script_write.specs.occ_lex as occ_lex

@@ -1,6 +1,6 @@
 -- The part of an order in the scope at its path.
 use Rattle.std.specs.Prelude.{◌≡◌, List, None}
-use Rattle.occ_script_write.specs.occ_base.declared.names.Name.{Name}
+use Rattle.occ_syntax.specs.occ_base.declared.names.Name.{Name}
 use Rattle.occ_engine.specs.declared.fault.Stopped.{Stopped}
 use Rattle.occ_engine.specs.declared.fault.Stopped.TheVariants as stopped
 use Rattle.occ_script.specs.occ_parse_part.Parts.{Part}

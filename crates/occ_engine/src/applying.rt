@@ -10,8 +10,8 @@ ghost use Rattle.occ_syntax.specs.View.{tree};
 
 use crate::ApplyFault;
 use occ_law_any::{direct, holds};
-use occ_script_write::{Direction, LawId, Memory, Store};
-use occ_syntax::{Proc, Scope};
+use occ_script_write::{Direction, LawId, Store};
+use occ_syntax::{Memory, Proc, Scope};
 use std::alloc::Global;
 
 /// Whether a law joins an old part and a new one, in a direction.

@@ -8,8 +8,8 @@ ghost use Rattle.occ_syntax.specs.View.{tree};
 ghost use Rattle.occ_law_any.specs.occ_usage.Accepted.{KeepsRules};
 
 use occ_law_any::keeps_exchanged;
-use occ_script_write::{Memory, Path, line_tokens, replace};
-use occ_syntax::{Proc, Program, Scope};
+use occ_script_write::{Path, line_tokens, replace};
+use occ_syntax::{Memory, Proc, Program, Scope};
 use std::alloc::Global;
 
 /// The most tokens that a line of a text may have.

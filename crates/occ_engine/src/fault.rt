@@ -1,4 +1,4 @@
-use occ_script_write::Memory;
+use occ_syntax::Memory;
 use thiserror::Error;
 
 /// Why a law makes nothing of a part.

@@ -12,8 +12,8 @@ use crate::ApplyFault;
 use crate::applying::{apply, joins};
 use crate::exchange::{Exchange, exchanged};
 use crate::fault::Stopped;
-use occ_script_write::{Direction, Done, LawId, Memory, Path, Store, at};
-use occ_syntax::{Proc, Program, Scope};
+use occ_script_write::{Direction, Done, LawId, Path, Store, at};
+use occ_syntax::{Memory, Proc, Program, Scope};
 use std::alloc::Global;
 
 /// A law used at a path, and the scope there.

@@ -1,5 +1,5 @@
-use occ_script_write::{Done, List};
-use occ_syntax::Program;
+use occ_script_write::Done;
+use occ_syntax::{List, Program};
 
 /// Steps that were taken, in order.
 pub type Dones = List<Done>;

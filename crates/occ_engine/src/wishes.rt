@@ -3,22 +3,14 @@
 ghost use Rattle.std.specs.Prelude.{◌≡◌, ◌∷◌, ◌++◌, [], IfOk, OnOk};
 ghost use Rattle.occ_engine.specs.Wishes.{IsPair, pair_of, two_in, wishes_of, wrapped_tree};
 ghost use Rattle.occ_replay_rules.specs.Expansion.{expanding, forward, preparing, sequencing, wrapping};
-ghost use Rattle.occ_syntax.specs.Tree.{alt, seq};
-ghost use Rattle.occ_syntax.specs.View.{branches, in_alternatives, tree, trees};
+ghost use Rattle.occ_syntax.specs.Tree.{seq};
+ghost use Rattle.occ_syntax.specs.View.{tree, trees};
+ghost use Rattle.occ_script_write.specs.occ_law.Numbers.{number};
 
-use occ_law_any::{Form, opened};
-use occ_script_write::{Direction, LawId, List, Memory, Path};
-use occ_syntax::{Alternatives, Expr, Guard, Proc, Wait};
+use occ_law_any::{Form, alt_of, opened};
+use occ_script_write::{Direction, Law, LawId, Path};
+use occ_syntax::{Alternatives, Expr, Guard, List, Memory, Proc, Wait};
 use std::alloc::Global;
-
-/// The laws that an expansion uses.
-const SEQ_ALT: LawId = LawId(13);
-
-const IO_ALT: LawId = LawId(15);
-
-const ALT_SKIP: LawId = LawId(30);
-
-const PAR_EXPAND: LawId = LawId(45);
 
 /// A law to be used at a path, and the part that is wanted there, if one is.
 #[derive(Drop)]
@@ -71,23 +63,15 @@ fn below(alloc: Global, path: &Path, place: u32) -> Result<Path, Memory>
 }
 
 /// Asks for the direct result of a law at a path.
-fn push_forward(wishes: &mut List<Wish>, law: LawId, path: Path) -> Result<(), Memory>
-    ensures { OnOk result (wishes_of wishes.new ≡ wishes_of wishes.old ++ forward law.0 path ∷ []) }
+fn push_forward(wishes: &mut List<Wish>, law: Law, path: Path) -> Result<(), Memory>
+    ensures { OnOk result (wishes_of wishes.new ≡ wishes_of wishes.old ++ forward (number law) path ∷ []) }
 {
     wishes.push(Wish {
-        law,
+        law: law.id(),
         dir: Direction::Forward,
         path,
         wanted: None,
     })
-}
-
-/// The ALT of alternatives.
-#[tactic(auto, unfolding(crate::specs::tree))]
-fn alt_of(alternatives: Alternatives) -> Proc
-    ensures { tree result ≡ alt (branches (in_alternatives alternatives)) }
-{
-    Proc::Alt(alternatives)
 }
 
 /// A process as an ALT that goes on with it at once.
@@ -114,7 +98,7 @@ fn push_wrapping(
 {
     let wanted = wrapped(alloc, part.copy(alloc)?)?;
     wishes.push(Wish {
-        law: ALT_SKIP,
+        law: Law::AltSkip.id(),
         dir: Direction::Backward,
         path: path.copy(alloc)?,
         wanted: Some(wanted),
@@ -125,7 +109,7 @@ fn push_wrapping(
 fn push_choice(alloc: Global, wishes: &mut List<Wish>, path: &Path) -> Result<(), Memory>
     ensures { OnOk result (wishes_of wishes.new ≡ wishes_of wishes.old ++ forward 13 path.now ∷ []) }
 {
-    push_forward(wishes, SEQ_ALT, path.copy(alloc)?)
+    push_forward(wishes, Law::SeqAlt, path.copy(alloc)?)
 }
 
 /// Asks for a SEQ that begins with an input or an output to be made an ALT.
@@ -133,7 +117,7 @@ fn push_begun(alloc: Global, wishes: &mut List<Wish>, path: &Path) -> Result<(),
     ensures { OnOk result (wishes_of wishes.new
         ≡ wishes_of wishes.old ++ forward 15 (path.now ++ 0 ∷ []) ∷ forward 13 path.now ∷ []) }
 {
-    push_forward(wishes, IO_ALT, below(alloc, path, 0)?)?;
+    push_forward(wishes, Law::IoAlt, below(alloc, path, 0)?)?;
     push_choice(alloc, wishes, path)
 }
 
@@ -175,7 +159,7 @@ fn push_preparing(
     match opened(part) {
         Form::Alt(_) => Ok(()),
         Form::Input(_, _) | Form::Output(_, _) => {
-            push_forward(wishes, IO_ALT, path.copy(alloc)?)
+            push_forward(wishes, Law::IoAlt, path.copy(alloc)?)
         }
         Form::Seq(parts) => push_sequencing(alloc, wishes, path, part, parts),
         Form::Skip | Form::Stop => push_wrapping(alloc, wishes, path, part),
@@ -197,6 +181,6 @@ pub(crate) fn expanding(
     let mut wishes = List::new(alloc);
     push_preparing(alloc, &mut wishes, &below(alloc, path, 0)?, first)?;
     push_preparing(alloc, &mut wishes, &below(alloc, path, 1)?, second)?;
-    push_forward(&mut wishes, PAR_EXPAND, path.copy(alloc)?)?;
+    push_forward(&mut wishes, Law::ParExpand, path.copy(alloc)?)?;
     Ok(wishes)
 }

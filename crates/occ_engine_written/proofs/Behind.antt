@@ -10,13 +10,13 @@ use Rattle.occ_script_table.specs.occ_script_back.Joined.{AreNamedSteps, AreWrit
 use Rattle.occ_engine_written.specs.Front.{AreWrittenBehind, with_texts}
 use Rattle.occ_engine_written.proofs.Front.{in_front}
 use Rattle.occ_engine_written.proofs.NumberedGrown.{grown_places, texts_grown, texts_there}
-use Rattle.occ_script_table.specs.occ_script_write.declared.writing.Done.{Done}
-use Rattle.occ_script_table.specs.occ_script_write.Text.{line, script_text, step_words, steps_text, text_of_program}
+use Rattle.occ_engine_known.specs.occ_script_write.declared.writing.Done.{Done}
+use Rattle.occ_engine_known.specs.occ_script_write.Text.{line, script_text, step_words, steps_text, text_of_program}
 use Rattle.occ_script_table.specs.occ_script_back.Reads.{IsStepWell}
 use Rattle.occ_script_table.specs.occ_script_back.Whole.{AreWrittenWell}
 use Rattle.occ_script_table.proofs.from_script_back.Staying.{part_known, part_stays, program_stays}
-use Rattle.occ_renamed.specs.occ_syntax.declared.scope.Program.{Program}
-use Rattle.occ_renamed.specs.occ_syntax.View.{tree}
+use Rattle.occ_engine_known.specs.occ_syntax.declared.scope.Program.{Program}
+use Rattle.occ_engine_known.specs.occ_syntax.View.{tree}
 
 -- moves that are written are written well
 abbrev pub AreGood : Type 0

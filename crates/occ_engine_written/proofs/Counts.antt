@@ -1,16 +1,16 @@
 -- How large a program is doesn't rest on its names.
 use Rattle.std.proofs.Common.{◌≡◌, ℕ, ◌+◌, max, ◌&&◌, is_none, List, [], ◌∷◌, length, refl, ap, ap₂, ◌∙◌, suc}
-use Rattle.occ_renamed.specs.occ_base.declared.names.Name.{Name}
-use Rattle.occ_renamed.specs.occ_base.Width.{bits_of}
+use Rattle.occ_engine_known.specs.occ_base.declared.names.Name.{Name}
+use Rattle.occ_engine_known.specs.occ_base.Width.{bits_of}
 use Rattle.occ_renamed.proofs.States.{environment_under}
 use Rattle.occ_renamed.specs.Scopes.{scope_renamed}
 use Rattle.occ_renamed.proofs.from_meaning.Renaming.{IsExchange}
 use Rattle.occ_renamed.specs.occ_meaning.Rename.{all_renamed, branches_renamed, cases_renamed, renamed}
-use Rattle.occ_renamed.specs.occ_syntax.Counts.{bits_of_kind, bits_of_scope, controls, controls_of_all, controls_of_branches, controls_of_cases, most_bits, most_bits_of_all, most_bits_of_branches, most_bits_of_cases}
-use Rattle.occ_renamed.specs.occ_syntax.declared.scope.Kind.{Kind}
-use Rattle.occ_renamed.specs.occ_syntax.Scopes.{Environment, environment}
-use Rattle.occ_renamed.specs.occ_syntax.Tree.{Branches, Cases, Tree, Trees, alt, and_branch, and_case, and_tree, assign, connect, declare, no_branch, no_case, no_tree, par, receive, select, send, seq, skip, stop}
-use Rattle.occ_renamed.specs.occ_syntax.Types.{can_declare, is_width, scope_kept, width_of_kind}
+use Rattle.occ_engine_known.specs.occ_syntax.Counts.{bits_of_kind, bits_of_scope, controls, controls_of_all, controls_of_branches, controls_of_cases, most_bits, most_bits_of_all, most_bits_of_branches, most_bits_of_cases}
+use Rattle.occ_engine_known.specs.occ_syntax.declared.scope.Kind.{Kind}
+use Rattle.occ_engine_known.specs.occ_syntax.Scopes.{Environment, environment}
+use Rattle.occ_engine_known.specs.occ_syntax.Tree.{Branches, Cases, Tree, Trees, alt, and_branch, and_case, and_tree, assign, connect, declare, no_branch, no_case, no_tree, par, receive, select, send, seq, skip, stop}
+use Rattle.occ_engine_known.specs.occ_syntax.Types.{can_declare, is_width, scope_kept, width_of_kind}
 
 mutual
   pub controls_under : (f : ℕ → ℕ) (p : Tree) → controls (renamed p f) ≡ controls p

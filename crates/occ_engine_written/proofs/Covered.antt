@@ -3,9 +3,9 @@ use Rattle.std.proofs.Common.{◌≡◌, ⊎_elim, ℕ, zero, suc, ◌+◌, ◌<
 use Rattle.std.specs.List.{AllByRecursion, list_all}
 use Rattle.std.proofs.lemmas.Bool.{and_parts, ltb-true}
 use Rattle.std.proofs.lemmas.Option.{slice_get-get_or}
-use Rattle.occ_renamed.specs.occ_base.declared.names.Name.{Name}
-use Rattle.occ_renamed.specs.occ_base.Names.{IsDistinct, with_text}
-use Rattle.occ_renamed.proofs.from_base.Naming.{naming}
+use Rattle.occ_engine_known.specs.occ_base.declared.names.Name.{Name}
+use Rattle.occ_engine_known.specs.occ_base.Names.{IsDistinct, with_text}
+use Rattle.occ_engine_known.proofs.from_base.Naming.{naming}
 use Rattle.occ_renamed.specs.occ_lex.declared.token.Line.{Line}
 use Rattle.occ_renamed.specs.occ_lex.declared.token.Token.{Token}
 use Rattle.occ_renamed.specs.occ_lex.declared.token.TokenKind.{TokenKind}
@@ -34,9 +34,9 @@ use Rattle.occ_engine_written.proofs.Behind.{AreGood, moves_stay, text_stays}
 use Rattle.occ_engine_written.proofs.Front.{one_text}
 use Rattle.occ_engine_written.proofs.NumberedGrown.{grown_places, one_from, texts_extend, texts_grown, texts_there}
 use Rattle.occ_engine_written.proofs.Tables.{text_at, within_of}
-use Rattle.occ_script_table.specs.occ_script_write.declared.writing.Done.{Done}
-use Rattle.occ_script_table.specs.occ_script_write.Text.{script_text}
-use Rattle.occ_renamed.specs.occ_syntax.declared.scope.Program.{Program}
+use Rattle.occ_engine_known.specs.occ_script_write.declared.writing.Done.{Done}
+use Rattle.occ_engine_known.specs.occ_script_write.Text.{script_text}
+use Rattle.occ_engine_known.specs.occ_syntax.declared.scope.Program.{Program}
 
 abbrev Table : Type 0
 Table = List (List ℕ)

@@ -2,7 +2,7 @@
 use Rattle.std.proofs.Common.{◌≡◌, ⊎_elim, ℕ, zero, suc, ◌<◌, ◌≤◌, List, [], ◌∷◌, ◌++◌, length, Option, Some, None, slice_get, refl, sym, ap, subst, ◌∙◌, arith}
 use Rattle.std.proofs.lemmas.Bool.{cases_lt}
 use Rattle.std.proofs.lemmas.List.{length-map}
-use Rattle.occ_renamed.specs.occ_base.Names.{IsDistinct}
+use Rattle.occ_engine_known.specs.occ_base.Names.{IsDistinct}
 use Rattle.occ_renamed.specs.occ_meaning.Rename.{exchanging}
 use Rattle.occ_renamed.specs.occ_parse_rules.Places.{Place}
 use Rattle.occ_renamed.specs.occ_print.Spelled.{name_text}
@@ -12,9 +12,9 @@ use Rattle.occ_engine_written.specs.Front.{AllStandIn, AreWrittenBehind}
 use Rattle.occ_engine_written.specs.Renamed.{done_renamed, program_renamed, steps_renamed}
 use Rattle.occ_engine_written.proofs.Staying.{moves_exchanged, text_exchanged}
 use Rattle.occ_engine_written.proofs.Tables.{exchanged_length, exchanged_other, exchanged_second, exchanged_within, renumbered, text_at, there, within_of}
-use Rattle.occ_script_table.specs.occ_script_write.declared.writing.Done.{Done}
-use Rattle.occ_script_table.specs.occ_script_write.Text.{script_text}
-use Rattle.occ_renamed.specs.occ_syntax.declared.scope.Program.{Program}
+use Rattle.occ_engine_known.specs.occ_script_write.declared.writing.Done.{Done}
+use Rattle.occ_engine_known.specs.occ_script_write.Text.{script_text}
+use Rattle.occ_engine_known.specs.occ_syntax.declared.scope.Program.{Program}
 
 pub one_text : (s t : List ℕ) (o : Option (List ℕ)) → o ≡ Some s → o ≡ Some t → s ≡ t
 one_text s t o a b = let e : Some s ≡ Some t = sym a ∙ b in cc

@@ -2,7 +2,7 @@
 use Rattle.std.proofs.Common.{◌≡◌, ℕ, ◌≤◌, true, nat_le, List, [], ◌∷◌, length, refl, sym, subst}
 use Rattle.std.specs.List.{AllByRecursion}
 use Rattle.std.proofs.lemmas.Bool.{le-leb}
-use Rattle.occ_renamed.specs.occ_base.Names.{with_text}
+use Rattle.occ_engine_known.specs.occ_base.Names.{with_text}
 use Rattle.occ_engine_known.specs.occ_engine.Moved.{moves_of}
 use Rattle.occ_renamed.specs.occ_replay_rules.Moves.{Moves}
 use Rattle.occ_engine_written.specs.First.{AreWritten, IsFirstProgram}
@@ -16,10 +16,10 @@ use Rattle.occ_script_table.specs.occ_print_back.Placed.{IsTable}
 use Rattle.occ_script_table.specs.occ_script_back.Tables.{Grows}
 use Rattle.occ_script_table.specs.occ_script_back.Joined.{AreNamedSteps}
 use Rattle.occ_script_table.proofs.Named.{as_it_is, name_grown, one_behind}
-use Rattle.occ_script_table.specs.occ_script_write.declared.writing.Done.{Done}
-use Rattle.occ_script_table.specs.occ_script_write.Text.{IsWritable}
-use Rattle.occ_renamed.specs.occ_syntax.declared.scope.Program.{Program}
-use Rattle.occ_renamed.specs.occ_syntax.View.{tree}
+use Rattle.occ_engine_known.specs.occ_script_write.declared.writing.Done.{Done}
+use Rattle.occ_engine_known.specs.occ_script_write.Text.{IsWritable}
+use Rattle.occ_engine_known.specs.occ_syntax.declared.scope.Program.{Program}
+use Rattle.occ_engine_known.specs.occ_syntax.View.{tree}
 
 -- a table of places with names of the language behind it is one
 grown_by : (names : Table) (P : ℕ → Place) → IsTable names P → (texts : List (List ℕ)) → AllByRecursion IsNameText texts → Grows names P (with_texts names texts)

@@ -1,14 +1,14 @@
 -- What is known of moves whose script is read with the table that it was printed from.
 use Rattle.std.proofs.Common.{ℕ, ◌≤◌, List, length}
 use Rattle.occ_renamed.specs.occ_parse_rules.Places.{Place}
-use Rattle.occ_script_table.specs.occ_script.Refusals.{IsScriptFault}
-use Rattle.occ_script_table.specs.occ_script.Scripts.{IsScript}
-use Rattle.occ_script_table.specs.occ_script.declared.fault.ScriptFault.{ScriptFault}
-use Rattle.occ_script_table.specs.occ_script.declared.script.Script.{Script}
+use Rattle.occ_engine_known.specs.occ_script.Refusals.{IsScriptFault}
+use Rattle.occ_engine_known.specs.occ_script.Scripts.{IsScript}
+use Rattle.occ_engine_known.specs.occ_script.declared.fault.ScriptFault.{ScriptFault}
+use Rattle.occ_engine_known.specs.occ_script.declared.script.Script.{Script}
 use Rattle.occ_script_table.specs.occ_script_back.Joined.{AreWrittenMoves, IsJoined}
-use Rattle.occ_script_table.specs.occ_script_write.declared.writing.Done.{Done}
-use Rattle.occ_script_table.specs.occ_script_write.Text.{script_text}
-use Rattle.occ_renamed.specs.occ_syntax.declared.scope.Program.{Program}
+use Rattle.occ_engine_known.specs.occ_script_write.declared.writing.Done.{Done}
+use Rattle.occ_engine_known.specs.occ_script_write.Text.{script_text}
+use Rattle.occ_engine_known.specs.occ_syntax.declared.scope.Program.{Program}
 
 -- what is known of moves that are read with the table that they were printed from
 abbrev pub AreJoined : Type 0

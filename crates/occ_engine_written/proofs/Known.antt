@@ -1,8 +1,8 @@
 -- The names of a program that was read are those of the table that reading left, and it keeps types.
 use Rattle.std.proofs.Common.{◌≡◌, ℕ, true, List, [], refl, sym, subst, ◌∙◌}
 use Rattle.std.proofs.lemmas.List.{append-nil}
-use Rattle.occ_renamed.specs.occ_base.Names.{IsDistinct}
-use Rattle.occ_renamed.specs.occ_base.declared.names.Name.{Name}
+use Rattle.occ_engine_known.specs.occ_base.Names.{IsDistinct}
+use Rattle.occ_engine_known.specs.occ_base.declared.names.Name.{Name}
 use Rattle.occ_engine_written.proofs.Typed.{AreKept, kept_from}
 use Rattle.occ_renamed.specs.occ_lex.Symbols.{Extends}
 use Rattle.occ_renamed.proofs.from_lex.Interned.{extends_trans}
@@ -23,10 +23,10 @@ use Rattle.occ_renamed.proofs.from_parse_unroll.Elements.{places_extend}
 use Rattle.occ_script_table.proofs.Below.{program_low}
 use Rattle.occ_script_table.proofs.Numbers.{AreSame, IsSame, back_of, front_of, params_same, process_of_lines}
 use Rattle.occ_script_table.proofs.Settled.{places_same}
-use Rattle.occ_renamed.specs.occ_syntax.declared.scope.Kind.{Kind}
-use Rattle.occ_renamed.specs.occ_syntax.declared.scope.Program.{Program}
-use Rattle.occ_renamed.specs.occ_syntax.Tree.{Tree}
-use Rattle.occ_renamed.specs.occ_syntax.View.{tree}
+use Rattle.occ_engine_known.specs.occ_syntax.declared.scope.Kind.{Kind}
+use Rattle.occ_engine_known.specs.occ_syntax.declared.scope.Program.{Program}
+use Rattle.occ_engine_known.specs.occ_syntax.Tree.{Tree}
+use Rattle.occ_engine_known.specs.occ_syntax.View.{tree}
 use Rattle.occ_renamed.specs.occ_usage.Accepted.{IsTyped}
 
 -- what a text reads as, wherever its parts lie in memory

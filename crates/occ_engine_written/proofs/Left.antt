@@ -7,7 +7,7 @@ use Rattle.occ_script_table.specs.Tables.{HasPlaces}
 use Rattle.occ_script_table.proofs.Left.{orders_left, script_left}
 use Rattle.occ_script_table.proofs.Named.{no_names as none_there}
 use Rattle.occ_script_table.proofs.Programs.{program_left}
-use Rattle.occ_renamed.specs.occ_syntax.View.{tree}
+use Rattle.occ_engine_known.specs.occ_syntax.View.{tree}
 
 -- any places, for a table that has no name
 nowhere : ℕ → Place

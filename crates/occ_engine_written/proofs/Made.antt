@@ -1,6 +1,6 @@
 -- What orders and expansions make is written moves.
 use Rattle.std.proofs.Common.{◌≡◌, ℕ, ◌≤◌, true, List, [], ◌∷◌, length, None, refl}
-use Rattle.occ_renamed.specs.occ_base.declared.names.Name.{Name}
+use Rattle.occ_engine_known.specs.occ_base.declared.names.Name.{Name}
 use Rattle.occ_engine_known.specs.occ_engine.Moved.{moves_of, orders_of}
 use Rattle.occ_engine_known.specs.Known.{LeadToKnown, MovesAreKnown, NamesAreBelow}
 use Rattle.occ_renamed.specs.occ_replay_rules.Expansion.{IsExpanded}
@@ -22,17 +22,17 @@ use Rattle.occ_script_table.specs.occ_print_back.Back.{deepest}
 use Rattle.occ_script_table.specs.occ_print_back.Placed.{IsTable}
 use Rattle.occ_script_table.specs.occ_print_back.Program.{IsPrintable}
 use Rattle.occ_script_table.specs.occ_script_back.Tables.{Grows}
-use Rattle.occ_script_table.specs.occ_script.declared.script.Order.{Order as Read}
-use Rattle.occ_script_table.specs.occ_script.Orders.{IsOrders}
+use Rattle.occ_engine_known.specs.occ_script.declared.script.Order.{Order as Read}
+use Rattle.occ_engine_known.specs.occ_script.Orders.{IsOrders}
 use Rattle.occ_script_table.specs.occ_script_back.Joined.{AreNamedSteps}
-use Rattle.occ_script_table.specs.occ_script_write.declared.writing.Done.{Done}
-use Rattle.occ_renamed.specs.occ_syntax.declared.scope.Kind.{Kind}
-use Rattle.occ_renamed.specs.occ_syntax.declared.scope.Program.{Program}
-use Rattle.occ_renamed.specs.occ_syntax.Scopes.{environment}
-use Rattle.occ_renamed.specs.occ_syntax.Tree.{Tree}
-use Rattle.occ_renamed.specs.occ_syntax.Types.{scope_kept}
-use Rattle.occ_renamed.specs.occ_syntax.Usage.{Keeps}
-use Rattle.occ_renamed.specs.occ_syntax.View.{tree}
+use Rattle.occ_engine_known.specs.occ_script_write.declared.writing.Done.{Done}
+use Rattle.occ_engine_known.specs.occ_syntax.declared.scope.Kind.{Kind}
+use Rattle.occ_engine_known.specs.occ_syntax.declared.scope.Program.{Program}
+use Rattle.occ_engine_known.specs.occ_syntax.Scopes.{environment}
+use Rattle.occ_engine_known.specs.occ_syntax.Tree.{Tree}
+use Rattle.occ_engine_known.specs.occ_syntax.Types.{scope_kept}
+use Rattle.occ_engine_known.specs.occ_syntax.Usage.{Keeps}
+use Rattle.occ_engine_known.specs.occ_syntax.View.{tree}
 use Rattle.occ_script_table.specs.occ_script_back.Said.{IsShortPath}
 
 -- ---- the laws that this stands on

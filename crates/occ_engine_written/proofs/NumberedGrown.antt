@@ -2,8 +2,8 @@
 use Rattle.std.proofs.Common.{◌≡◌, ◌⊎◌, inl, inr, ⊎_elim, ℕ, zero, suc, ◌+◌, ◌<◌, ◌≤◌, Bool, true, false, nat_lt, nat_le, if◌then◌else◌, List, [], ◌∷◌, length, length-append, Option, Some, None, slice_get, refl, sym, ap, subst, ◌∙◌, arith}
 use Rattle.std.proofs.lemmas.Bool.{cases_lt, lt-ltb, ltb-false, ltb-true}
 use Rattle.std.proofs.lemmas.Option.{slice_get_within}
-use Rattle.occ_renamed.specs.occ_base.Names.{IsDistinct, place_of, with_text}
-use Rattle.occ_renamed.proofs.from_base.Naming.{naming, place-le, with_new, with_there}
+use Rattle.occ_engine_known.specs.occ_base.Names.{IsDistinct, place_of, with_text}
+use Rattle.occ_engine_known.proofs.from_base.Naming.{naming, place-le, with_new, with_there}
 use Rattle.occ_renamed.specs.occ_lex.Spelling.{kind_of}
 use Rattle.occ_renamed.specs.occ_lex.Symbols.{Extends}
 use Rattle.occ_renamed.proofs.from_lex.Interned.{extends_same, extends_text, extends_trans, longer}

@@ -1,13 +1,13 @@
 -- Names under an exchange of numbers below n stay below n.
 use Rattle.std.proofs.Common.{ℕ, ◌<◌, List, [], ◌∷◌}
 use Rattle.std.specs.List.{AllByRecursion}
-use Rattle.occ_renamed.specs.occ_base.declared.names.Name.{Name}
+use Rattle.occ_engine_known.specs.occ_base.declared.names.Name.{Name}
 use Rattle.occ_renamed.specs.Scopes.{scope_renamed}
 use Rattle.occ_renamed.specs.occ_meaning.Rename.{all_renamed, branches_renamed, cases_renamed, renamed, renamed_exp, renamed_exps, renamed_names, renamed_waiting}
 use Rattle.occ_renamed.specs.occ_parse_forms.Lines.{IsMarked}
 use Rattle.occ_renamed.specs.occ_print.Known.{BranchesAreKnown, CasesAreKnown, ExpIsKnown, PartIsKnown, PartsAreKnown, WaitingIsKnown}
-use Rattle.occ_renamed.specs.occ_syntax.declared.scope.Kind.{Kind}
-use Rattle.occ_renamed.specs.occ_syntax.Tree.{Branches, Cases, Exp, Tree, Trees, Waiting, alt, and_branch, and_case, and_tree, assign, complement, connect, declare, input, negation, no_branch, no_case, no_tree, numeral, operation, output, par, ready, receive, select, send, seq, skip, stop, truth, variable}
+use Rattle.occ_engine_known.specs.occ_syntax.declared.scope.Kind.{Kind}
+use Rattle.occ_engine_known.specs.occ_syntax.Tree.{Branches, Cases, Exp, Tree, Trees, Waiting, alt, and_branch, and_case, and_tree, assign, complement, connect, declare, input, negation, no_branch, no_case, no_tree, numeral, operation, output, par, ready, receive, select, send, seq, skip, stop, truth, variable}
 
 module _ (f : ℕ → ℕ) (n : ℕ) (within : (x : ℕ) → x < n → f x < n) where
   exp_known : (e : Exp) → ExpIsKnown n e → ExpIsKnown n (renamed_exp f e)

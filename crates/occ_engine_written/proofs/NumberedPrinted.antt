@@ -1,6 +1,6 @@
 -- Written moves join where their script is read with an empty table.
 use Rattle.std.proofs.Common.{ℕ, ◌≤◌, List, [], ◌++◌, length, refl, sym, subst, ◌∙◌}
-use Rattle.occ_renamed.specs.occ_base.declared.names.Name.{Name}
+use Rattle.occ_engine_known.specs.occ_base.declared.names.Name.{Name}
 use Rattle.occ_renamed.specs.occ_lex.Rows.{reading_of}
 use Rattle.occ_renamed.specs.occ_lex.Symbols.{Extends}
 use Rattle.occ_renamed.proofs.from_lex.Interned.{extends_all, extends_same, extends_trans}
@@ -10,13 +10,13 @@ use Rattle.occ_renamed.specs.occ_parse_rules.Places.{Place}
 use Rattle.occ_script_table.specs.occ_script_back.Back.{PartReadsBack}
 use Rattle.occ_script_table.specs.occ_script_back.Part.{IsPrintablePart, PartIsNarrow}
 use Rattle.occ_script_table.specs.occ_script_back.Tables.{IsGrown}
-use Rattle.occ_script_table.specs.occ_script.declared.fault.ScriptFault.{ScriptFault}
-use Rattle.occ_script_table.specs.occ_script.declared.script.Script.{Script}
-use Rattle.occ_script_table.specs.occ_script.declared.script.Step.{Step}
-use Rattle.occ_script_table.specs.occ_script.Lines.{named_in}
-use Rattle.occ_script_table.specs.occ_script.Refusals.{IsBadEnd, IsNoDerivation, IsScriptFault, IsUnformed, another_word, bad_head, behind_head, behind_source, behind_step, in_from, in_source, in_step, in_target, in_to, no_line, no_source, no_target, too_long, unformed}
-use Rattle.occ_script_table.specs.occ_script.Scripts.{IsFormed, IsProgram, IsScript}
-use Rattle.occ_script_table.proofs.from_script.Once.{IsOnce}
+use Rattle.occ_engine_known.specs.occ_script.declared.fault.ScriptFault.{ScriptFault}
+use Rattle.occ_engine_known.specs.occ_script.declared.script.Script.{Script}
+use Rattle.occ_engine_known.specs.occ_script.declared.script.Step.{Step}
+use Rattle.occ_engine_known.specs.occ_script.Lines.{named_in}
+use Rattle.occ_engine_known.specs.occ_script.Refusals.{IsBadEnd, IsNoDerivation, IsScriptFault, IsUnformed, another_word, bad_head, behind_head, behind_source, behind_step, in_from, in_source, in_step, in_target, in_to, no_line, no_source, no_target, too_long, unformed}
+use Rattle.occ_engine_known.specs.occ_script.Scripts.{IsFormed, IsProgram, IsScript}
+use Rattle.occ_engine_known.proofs.from_script.Once.{IsOnce}
 use Rattle.occ_script_table.proofs.Scripts.{derivation_refused, end_refused, formed_again, program_grows, script_again, script_refused, unformed_refused}
 use Rattle.occ_script_table.specs.occ_script_back.Joined.{AreWrittenMoves, IsJoined}
 use Rattle.occ_renamed.specs.occ_script_lines.Sections.{Section, last_line_of}
@@ -25,12 +25,12 @@ use Rattle.occ_engine_written.proofs.Behind.{AreGood}
 use Rattle.occ_engine_written.proofs.Covered.{IsCovered, nowhere}
 use Rattle.occ_engine_written.proofs.Joining.{AreJoined, AreKept}
 use Rattle.occ_engine_written.proofs.Reaching.{behind_covered, formed_covered, named_covered, names_covered, part_covered, program_covered}
-use Rattle.occ_script_table.specs.occ_script_write.declared.writing.Done.{Done}
-use Rattle.occ_script_table.specs.occ_script_write.Text.{script_text}
+use Rattle.occ_engine_known.specs.occ_script_write.declared.writing.Done.{Done}
+use Rattle.occ_engine_known.specs.occ_script_write.Text.{script_text}
 use Rattle.occ_script_table.proofs.from_script_back.Formed.{IsFormedOf, formed_is, source, source_back, target_back}
-use Rattle.occ_renamed.specs.occ_syntax.declared.scope.Kind.{Kind}
-use Rattle.occ_renamed.specs.occ_syntax.declared.scope.Program.{Program}
-use Rattle.occ_renamed.specs.occ_syntax.Tree.{Tree}
+use Rattle.occ_engine_known.specs.occ_syntax.declared.scope.Kind.{Kind}
+use Rattle.occ_engine_known.specs.occ_syntax.declared.scope.Program.{Program}
+use Rattle.occ_engine_known.specs.occ_syntax.Tree.{Tree}
 
 abbrev Table : Type 0
 Table = List (List ℕ)

@@ -1,6 +1,6 @@
 -- Parts of programs are printed as texts that read back in the scopes where they stand.
 use Rattle.std.proofs.Common.{◌≡◌, ℕ, true, List, length, Some, sym, subst}
-use Rattle.occ_renamed.specs.occ_base.declared.names.Name.{Name}
+use Rattle.occ_engine_known.specs.occ_base.declared.names.Name.{Name}
 use Rattle.occ_engine_known.specs.Known.{IsKnownPart, NamesAreBelow}
 use Rattle.occ_engine_known.proofs.Keeping.{kept_known}
 use Rattle.occ_engine_known.proofs.Putting.{part_pass, scope_pass}
@@ -17,12 +17,12 @@ use Rattle.occ_script_table.specs.occ_script_back.Back.{PartReadsBack}
 use Rattle.occ_script_table.specs.occ_script_back.Part.{IsPrintablePart, PartIsNarrow}
 use Rattle.occ_renamed.specs.occ_script_lines.Places.{scope_list}
 use Rattle.occ_renamed.proofs.from_script_lines.Scoping.{scopes}
-use Rattle.occ_renamed.specs.occ_syntax.declared.scope.Kind.{Kind}
-use Rattle.occ_renamed.specs.occ_syntax.declared.scope.Program.{Program}
-use Rattle.occ_renamed.specs.occ_syntax.Scopes.{Environment, environment}
-use Rattle.occ_renamed.specs.occ_syntax.Tree.{Tree}
-use Rattle.occ_renamed.specs.occ_syntax.Types.{scope_kept, types_kept}
-use Rattle.occ_renamed.specs.occ_syntax.View.{tree}
+use Rattle.occ_engine_known.specs.occ_syntax.declared.scope.Kind.{Kind}
+use Rattle.occ_engine_known.specs.occ_syntax.declared.scope.Program.{Program}
+use Rattle.occ_engine_known.specs.occ_syntax.Scopes.{Environment, environment}
+use Rattle.occ_engine_known.specs.occ_syntax.Tree.{Tree}
+use Rattle.occ_engine_known.specs.occ_syntax.Types.{scope_kept, types_kept}
+use Rattle.occ_engine_known.specs.occ_syntax.View.{tree}
 
 -- the law of printed parts
 abbrev pub PartLaw : Type 0

@@ -2,7 +2,7 @@
 use Rattle.std.proofs.Common.{◌≡◌, ℕ, ◌<◌, true, false, nat_lt, List, [], ◌∷◌, length, get_or, map, Option, Some, None, refl, sym, ap, subst, ◌∙◌, arith}
 use Rattle.std.specs.List.{AllByRecursion, list_all}
 use Rattle.std.proofs.lemmas.Bool.{and_from, and_parts, lt-ltb, ltb-true}
-use Rattle.occ_renamed.specs.occ_base.declared.names.Name.{Name}
+use Rattle.occ_engine_known.specs.occ_base.declared.names.Name.{Name}
 use Rattle.occ_renamed.specs.occ_lex.Spelling.{is_name}
 use Rattle.occ_renamed.specs.occ_lex.declared.token.TokenKind.TheVariants as token
 use Rattle.occ_renamed.proofs.from_lex.Printing.{spelled}
@@ -33,7 +33,7 @@ use Rattle.occ_renamed.proofs.from_print.Lists.{all-append}
 use Rattle.occ_renamed.specs.occ_print.Spelled.{name_text}
 use Rattle.occ_script_table.specs.occ_print_back.Placed.{IsPlace, IsTable}
 use Rattle.occ_script_table.proofs.from_print_back.Stable.{index_is, numbered}
-use Rattle.occ_renamed.specs.occ_syntax.declared.scope.Kind.{Kind}
+use Rattle.occ_engine_known.specs.occ_syntax.declared.scope.Kind.{Kind}
 
 -- ---- a plain name of a table of places
 

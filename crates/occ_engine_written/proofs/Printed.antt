@@ -1,7 +1,7 @@
 -- A program that was read can be printed, from each table of places that begins with the one that reading left.
 use Rattle.std.proofs.Common.{◌≡◌, ℕ, ◌<◌, true, List, length, None, sym, subst, arith}
 use Rattle.std.specs.List.{AllByRecursion}
-use Rattle.occ_renamed.specs.occ_base.declared.names.Name.{Name}
+use Rattle.occ_engine_known.specs.occ_base.declared.names.Name.{Name}
 use Rattle.occ_engine_known.specs.Known.{IsKnownPart, NamesAreBelow}
 use Rattle.occ_engine_written.proofs.Known.{grown, names_known}
 use Rattle.occ_engine_written.proofs.Plain.{by_itself, header_marked, name_plain}
@@ -14,12 +14,12 @@ use Rattle.occ_renamed.specs.occ_parse_rules.Places.{Place}
 use Rattle.occ_renamed.specs.occ_parse_unroll.Numbers.{number_in}
 use Rattle.occ_script_table.specs.occ_print_back.Placed.{IsTable}
 use Rattle.occ_script_table.specs.occ_print_back.Program.{IsPrintable}
-use Rattle.occ_renamed.specs.occ_syntax.declared.scope.Kind.{Kind}
-use Rattle.occ_renamed.specs.occ_syntax.declared.scope.Program.{Program}
-use Rattle.occ_renamed.specs.occ_syntax.Scopes.{environment}
-use Rattle.occ_renamed.specs.occ_syntax.Tree.{Tree}
-use Rattle.occ_renamed.specs.occ_syntax.Types.{scope_kept, types_kept}
-use Rattle.occ_renamed.specs.occ_syntax.View.{tree}
+use Rattle.occ_engine_known.specs.occ_syntax.declared.scope.Kind.{Kind}
+use Rattle.occ_engine_known.specs.occ_syntax.declared.scope.Program.{Program}
+use Rattle.occ_engine_known.specs.occ_syntax.Scopes.{environment}
+use Rattle.occ_engine_known.specs.occ_syntax.Tree.{Tree}
+use Rattle.occ_engine_known.specs.occ_syntax.Types.{scope_kept, types_kept}
+use Rattle.occ_engine_known.specs.occ_syntax.View.{tree}
 use Rattle.occ_renamed.specs.occ_usage.Accepted.{IsTyped}
 
 abbrev pub Table : Type 0

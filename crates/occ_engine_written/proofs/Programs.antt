@@ -18,9 +18,9 @@ use Rattle.occ_script_table.proofs.from_print_back.Read.{read_within}
 use Rattle.occ_script_table.specs.occ_script_back.Blank.{AreBlankLines}
 use Rattle.occ_script_table.specs.occ_script_back.Limits.{IsWithin}
 use Rattle.occ_script_table.proofs.from_script_back.Behind.{reads_behind}
-use Rattle.occ_script_table.specs.occ_script_write.Text.{text_of_program}
-use Rattle.occ_renamed.specs.occ_syntax.declared.scope.Program.{Program}
-use Rattle.occ_renamed.specs.occ_syntax.View.{tree}
+use Rattle.occ_engine_known.specs.occ_script_write.Text.{text_of_program}
+use Rattle.occ_engine_known.specs.occ_syntax.declared.scope.Program.{Program}
+use Rattle.occ_engine_known.specs.occ_syntax.View.{tree}
 
 module _ (b : Bound) (names all : List (List ℕ)) (program : Program) (is : IsAcceptedText b names program) (e : Extends names all) where
   -- all names are those of the longer table

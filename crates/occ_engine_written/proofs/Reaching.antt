@@ -4,9 +4,9 @@ use Rattle.std.specs.List.{AllByRecursion, list_all}
 use Rattle.std.specs.Prelude.{IfSome}
 use Rattle.std.proofs.lemmas.List.{append-nil}
 use Rattle.std.proofs.Math.ListN.{get_or-append}
-use Rattle.occ_renamed.specs.occ_base.declared.names.Name.{Name}
-use Rattle.occ_renamed.specs.occ_base.Names.{IsDistinct, place_of}
-use Rattle.occ_renamed.proofs.from_base.Naming.{naming}
+use Rattle.occ_engine_known.specs.occ_base.declared.names.Name.{Name}
+use Rattle.occ_engine_known.specs.occ_base.Names.{IsDistinct, place_of}
+use Rattle.occ_engine_known.proofs.from_base.Naming.{naming}
 use Rattle.occ_renamed.specs.occ_lex.Rows.{reading_of}
 use Rattle.occ_renamed.proofs.from_lex.Placing.{reading_placed}
 use Rattle.occ_renamed.specs.occ_lex.Symbols.{Extends}
@@ -27,10 +27,10 @@ use Rattle.occ_renamed.specs.occ_parse_rules.Places.{Place}
 use Rattle.occ_renamed.specs.occ_parse_unroll.Elements.{program_places, with_elements, with_place, with_places}
 use Rattle.occ_renamed.specs.occ_parse_unroll.Numbers.{element_text}
 use Rattle.occ_renamed.proofs.from_parse_unroll.Elements.{places_extend}
-use Rattle.occ_script_table.specs.occ_script.declared.script.Step.{Step}
-use Rattle.occ_script_table.specs.occ_script.Lines.{named_in}
-use Rattle.occ_script_table.specs.occ_script.Scripts.{IsFormed, IsProgram}
-use Rattle.occ_script_table.specs.occ_script.Steps.{AreSteps, IsPartIn, and_step, no_step}
+use Rattle.occ_engine_known.specs.occ_script.declared.script.Step.{Step}
+use Rattle.occ_engine_known.specs.occ_script.Lines.{named_in}
+use Rattle.occ_engine_known.specs.occ_script.Scripts.{IsFormed, IsProgram}
+use Rattle.occ_engine_known.specs.occ_script.Steps.{AreSteps, IsPartIn, and_step, no_step}
 use Rattle.occ_script_table.proofs.Below.{IsLow, program_low}
 use Rattle.occ_script_table.proofs.Reading.{again, laid_again}
 use Rattle.occ_script_table.proofs.Scripts.{lines_there}
@@ -40,7 +40,7 @@ use Rattle.occ_engine_written.proofs.Behind.{AreGood}
 use Rattle.occ_engine_written.proofs.Covered.{IsCovered, arrays_covered, lines_covered}
 use Rattle.occ_engine_written.proofs.Front.{in_front}
 use Rattle.occ_engine_written.proofs.NumberedGrown.{one_from}
-use Rattle.occ_renamed.specs.occ_syntax.declared.scope.Program.{Program}
+use Rattle.occ_engine_known.specs.occ_syntax.declared.scope.Program.{Program}
 
 abbrev Table : Type 0
 Table = List (List ℕ)

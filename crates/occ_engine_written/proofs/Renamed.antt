@@ -1,14 +1,14 @@
 -- The program's own types under other names are seen as their trees under other names.
 use Rattle.std.proofs.Common.{◌≡◌, ℕ, List, [], ◌∷◌, map, refl, ap, ap₂, ◌∙◌}
-use Rattle.occ_renamed.specs.occ_base.declared.names.Name.{Name}
+use Rattle.occ_engine_known.specs.occ_base.declared.names.Name.{Name}
 use Rattle.occ_renamed.specs.occ_meaning.Rename.{all_renamed, branches_renamed, cases_renamed, renamed, renamed_exp, renamed_exps, renamed_names, renamed_waiting}
 use Rattle.occ_engine_written.specs.Renamed.{alternatives_renamed, choices_renamed, expr_renamed, name_renamed, proc_renamed, row_renamed, wait_renamed}
-use Rattle.occ_renamed.specs.occ_syntax.declared.expr.Expr.{Expr, Var, Word, Bool as TruthValue, Not', Flip', Two'}
-use Rattle.occ_renamed.specs.occ_syntax.declared.expr.Wait.{Wait}
-use Rattle.occ_renamed.specs.occ_syntax.declared.expr.Wait.TheVariants.{Skip as Ready, Get, Put}
-use Rattle.occ_renamed.specs.occ_syntax.declared.proc.Proc.{Proc, Skip, Stop, Assign, Input, Output, Seq', Par', If', Alt', Var', Chan', Row_of-Proc, end_of-Proc, more_of-Proc, Row_of-Choices-list-2, end_of-Choices-list-2, more_of-Choices-list-2, Row_of-Alternatives-list-2, end_of-Alternatives-list-2, more_of-Alternatives-list-2}
-use Rattle.occ_renamed.specs.occ_syntax.Tree.{alt, and_branch, and_case, and_tree, assign, complement, connect, declare, negation, operation, output, par, select, send, seq}
-use Rattle.occ_renamed.specs.occ_syntax.View.{exp, exps, numbers, row_branches, row_cases, row_trees, tree, waiting}
+use Rattle.occ_engine_known.specs.occ_syntax.declared.expr.Expr.{Expr, Var, Word, Bool as TruthValue, Not', Flip', Two'}
+use Rattle.occ_engine_known.specs.occ_syntax.declared.expr.Wait.{Wait}
+use Rattle.occ_engine_known.specs.occ_syntax.declared.expr.Wait.TheVariants.{Skip as Ready, Get, Put}
+use Rattle.occ_engine_known.specs.occ_syntax.declared.proc.Proc.{Proc, Skip, Stop, Assign, Input, Output, Seq', Par', If', Alt', Var', Chan', Row_of-Proc, end_of-Proc, more_of-Proc, Row_of-Choices-list-2, end_of-Choices-list-2, more_of-Choices-list-2, Row_of-Alternatives-list-2, end_of-Alternatives-list-2, more_of-Alternatives-list-2}
+use Rattle.occ_engine_known.specs.occ_syntax.Tree.{alt, and_branch, and_case, and_tree, assign, complement, connect, declare, negation, operation, output, par, select, send, seq}
+use Rattle.occ_engine_known.specs.occ_syntax.View.{exp, exps, numbers, row_branches, row_cases, row_trees, tree, waiting}
 
 expr_under : (f : ℕ → ℕ) (e : Expr) → exp (expr_renamed f e) ≡ renamed_exp f (exp e)
 expr_under f (Var name) = refl

@@ -3,7 +3,7 @@ use Rattle.std.proofs.Common.{◌≡◌, ℕ, ◌≤◌, List, [], ◌∷◌, �
 use Rattle.std.specs.List.{AllByRecursion}
 use Rattle.std.specs.Prelude.{codes}
 use Rattle.std.specs.Option.{option_map}
-use Rattle.occ_renamed.specs.occ_base.declared.names.Name.{Name}
+use Rattle.occ_engine_known.specs.occ_base.declared.names.Name.{Name}
 use Rattle.occ_engine_known.specs.occ_engine.Moved.{moves_of, number_of, order_of, orders_of}
 use Rattle.occ_renamed.specs.occ_replay_rules.Expansion.{Grants, IsExpanded, and_wish, expanding, forward, io_alt, no_wish, par_expand, preparing, seq_alt, sequencing, wrapping}
 use Rattle.occ_renamed.specs.occ_replay_rules.Moves.{Move, Wish}
@@ -11,14 +11,14 @@ use Rattle.occ_renamed.specs.occ_replay_rules.Orders.{Follows, Order, and_order,
 use Rattle.occ_engine_written.proofs.Paths.{head_short}
 use Rattle.occ_renamed.specs.occ_law.declared.table.LawId.{LawId}
 use Rattle.occ_renamed.proofs.from_print.Lists.{all-append}
-use Rattle.occ_script_table.specs.occ_script.declared.script.Order.{Order as Read}
-use Rattle.occ_script_table.specs.occ_script.Orders as list
-use Rattle.occ_script_table.specs.occ_script.Steps.{IsLaw}
+use Rattle.occ_engine_known.specs.occ_script.declared.script.Order.{Order as Read}
+use Rattle.occ_engine_known.specs.occ_script.Orders as list
+use Rattle.occ_engine_known.specs.occ_script.Steps.{IsLaw}
 use Rattle.occ_renamed.specs.occ_script_lines.Sections.{Section}
-use Rattle.occ_script_table.specs.occ_script_write.declared.writing.Done.{Done}
+use Rattle.occ_engine_known.specs.occ_script_write.declared.writing.Done.{Done}
 use Rattle.occ_script_table.specs.occ_script_back.Said.{IsSaid, IsShortPath}
-use Rattle.occ_renamed.specs.occ_syntax.declared.scope.Kind.{Kind}
-use Rattle.occ_renamed.specs.occ_syntax.Tree.{Tree, receive, send, seq, alt, Trees, no_tree, and_tree}
+use Rattle.occ_engine_known.specs.occ_syntax.declared.scope.Kind.{Kind}
+use Rattle.occ_engine_known.specs.occ_syntax.Tree.{Tree, receive, send, seq, alt, Trees, no_tree, and_tree}
 
 -- a law of the table and a short path
 record CanBeSaid (law : ℕ) (path : List ℕ) : Type 0 where

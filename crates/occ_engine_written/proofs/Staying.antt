@@ -1,7 +1,7 @@
 -- Written moves stay such where names of the table are exchanged, with the same text.
 use Rattle.std.proofs.Common.{◌≡◌, ℕ, ◌<◌, ◌≤◌, List, [], ◌∷◌, ◌++◌, codes, length, map, max, refl, sym, ap, ap₂, subst, ◌∙◌}
 use Rattle.std.specs.List.{AllByRecursion}
-use Rattle.occ_renamed.specs.occ_base.declared.names.Name.{Name}
+use Rattle.occ_engine_known.specs.occ_base.declared.names.Name.{Name}
 use Rattle.occ_renamed.specs.occ_replay_rules.Moves.{Move, Moves}
 use Rattle.occ_renamed.proofs.Laws.{kept_under}
 use Rattle.occ_renamed.proofs.States.{environment_under}
@@ -27,16 +27,16 @@ use Rattle.occ_renamed.proofs.Moving.{moves_under}
 use Rattle.occ_renamed.proofs.Texts.{part_text_under, program_text_under}
 use Rattle.occ_renamed.specs.Lines.{IsRenumbered, line_renamed}
 use Rattle.occ_renamed.specs.Moves.{moves_renamed}
-use Rattle.occ_script_table.specs.occ_script_write.declared.writing.Done.{Done}
-use Rattle.occ_script_table.specs.occ_script_write.Text.{line, script_text, step_text, step_words, steps_text, text_of_program}
-use Rattle.occ_renamed.specs.occ_syntax.Counts.{bits_of_scope, controls, most_bits}
-use Rattle.occ_renamed.specs.occ_syntax.declared.scope.Kind.{Kind}
-use Rattle.occ_renamed.specs.occ_syntax.declared.scope.Program.{Program}
-use Rattle.occ_renamed.specs.occ_syntax.Scopes.{environment}
-use Rattle.occ_renamed.specs.occ_syntax.Tree.{Tree}
-use Rattle.occ_renamed.specs.occ_syntax.Types.{types_kept}
-use Rattle.occ_renamed.specs.occ_syntax.Usage.{Keeps}
-use Rattle.occ_renamed.specs.occ_syntax.View.{tree}
+use Rattle.occ_engine_known.specs.occ_script_write.declared.writing.Done.{Done}
+use Rattle.occ_engine_known.specs.occ_script_write.Text.{line, script_text, step_text, step_words, steps_text, text_of_program}
+use Rattle.occ_engine_known.specs.occ_syntax.Counts.{bits_of_scope, controls, most_bits}
+use Rattle.occ_engine_known.specs.occ_syntax.declared.scope.Kind.{Kind}
+use Rattle.occ_engine_known.specs.occ_syntax.declared.scope.Program.{Program}
+use Rattle.occ_engine_known.specs.occ_syntax.Scopes.{environment}
+use Rattle.occ_engine_known.specs.occ_syntax.Tree.{Tree}
+use Rattle.occ_engine_known.specs.occ_syntax.Types.{types_kept}
+use Rattle.occ_engine_known.specs.occ_syntax.Usage.{Keeps}
+use Rattle.occ_engine_known.specs.occ_syntax.View.{tree}
 use Rattle.occ_renamed.specs.occ_usage.Accepted.{IsAccepted}
 
 deepest_under : (f : ℕ → ℕ) (ls : List TextLine) → deepest (map (line_renamed f) ls) ≡ deepest ls

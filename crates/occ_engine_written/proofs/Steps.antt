@@ -1,7 +1,7 @@
 -- The parts that steps of scripts put in are printed as texts that read back.
 use Rattle.std.proofs.Common.{◌≡◌, ℕ, ◌≤◌, true, List, [], ◌∷◌, ◌++◌, length, map, sym, subst, arith}
 use Rattle.std.specs.List.{AllByRecursion}
-use Rattle.occ_renamed.specs.occ_base.declared.names.Name.{Name}
+use Rattle.occ_engine_known.specs.occ_base.declared.names.Name.{Name}
 use Rattle.occ_engine_known.specs.Known.{NamesAreBelow}
 use Rattle.occ_engine_known.proofs.Given.{part_low}
 use Rattle.occ_engine_known.proofs.Keeping.{names_still}
@@ -20,20 +20,20 @@ use Rattle.occ_engine_written.specs.Accepted.{IsLeft, IsReached, PartPrintsBack,
 use Rattle.occ_engine_written.proofs.Parts.{PartLaw, reads_back_there}
 use Rattle.occ_script_table.specs.occ_script_back.Part.{PartIsNarrow}
 use Rattle.occ_renamed.specs.occ_replay_rules.Steps.{Derives, Step, and_step, new_part, new_whole, no_step, scope_there}
-use Rattle.occ_script_table.specs.occ_script.declared.script.Script.{Script}
-use Rattle.occ_script_table.specs.occ_script.declared.script.Step.{Step as Read}
-use Rattle.occ_script_table.specs.occ_script.Lines.{named_in}
-use Rattle.occ_script_table.specs.occ_script.Scripts.{IsScript}
-use Rattle.occ_script_table.specs.occ_script.Steps.{AreSteps, IsStep, and_step as and_read, no_step as none_read}
+use Rattle.occ_engine_known.specs.occ_script.declared.script.Script.{Script}
+use Rattle.occ_engine_known.specs.occ_script.declared.script.Step.{Step as Read}
+use Rattle.occ_engine_known.specs.occ_script.Lines.{named_in}
+use Rattle.occ_engine_known.specs.occ_script.Scripts.{IsScript}
+use Rattle.occ_engine_known.specs.occ_script.Steps.{AreSteps, IsStep, and_step as and_read, no_step as none_read}
 use Rattle.occ_script_table.proofs.Scripts.{lines_there, named_grow, program_grows, step_grows}
 use Rattle.occ_script_table.specs.occ_script_back.Joined.{step_of}
 use Rattle.occ_renamed.specs.occ_script_lines.Sections.{Section, reading_in, upto}
-use Rattle.occ_renamed.specs.occ_syntax.declared.scope.Kind.{Kind}
-use Rattle.occ_renamed.specs.occ_syntax.Scopes.{Environment, environment}
-use Rattle.occ_renamed.specs.occ_syntax.Tree.{Tree}
-use Rattle.occ_renamed.specs.occ_syntax.Types.{types_kept}
-use Rattle.occ_renamed.specs.occ_syntax.Usage.{Keeps}
-use Rattle.occ_renamed.specs.occ_syntax.View.{tree}
+use Rattle.occ_engine_known.specs.occ_syntax.declared.scope.Kind.{Kind}
+use Rattle.occ_engine_known.specs.occ_syntax.Scopes.{Environment, environment}
+use Rattle.occ_engine_known.specs.occ_syntax.Tree.{Tree}
+use Rattle.occ_engine_known.specs.occ_syntax.Types.{types_kept}
+use Rattle.occ_engine_known.specs.occ_syntax.Usage.{Keeps}
+use Rattle.occ_engine_known.specs.occ_syntax.View.{tree}
 
 -- ---- the parts that are read declare names of the table
 

@@ -4,7 +4,7 @@ use Rattle.std.proofs.lemmas.Bool.{ne_eqb}
 use Rattle.std.proofs.lemmas.Bool.Decides.{eqb_tells}
 use Rattle.std.proofs.lemmas.List.Edits.{Swapped, length-swap, swapped_from_swap}
 use Rattle.std.proofs.lemmas.Option.{slice_get-get_or, slice_get_cases, unwrap_or-slice_get}
-use Rattle.occ_renamed.specs.occ_base.Names.{IsDistinct}
+use Rattle.occ_engine_known.specs.occ_base.Names.{IsDistinct}
 use Rattle.occ_renamed.specs.occ_lex.Spelling.{kind_of}
 use Rattle.occ_renamed.proofs.from_meaning.Facts.{if_false, if_true}
 use Rattle.occ_renamed.proofs.from_meaning.Renaming.{IsExchange, exchange_is}

@@ -1,8 +1,8 @@
 -- The parameters and the body that a text reads as keep names, types and directions.
 use Rattle.std.proofs.Common.{◌≡◌, true, nat_lt, ◌&&◌, ℕ, List, length, None, sym, ap, subst, ◌∙◌}
 use Rattle.std.proofs.lemmas.Bool.{and_parts}
-use Rattle.occ_renamed.specs.occ_base.Names.{IsDistinct}
-use Rattle.occ_renamed.specs.occ_base.declared.names.Name.{Name}
+use Rattle.occ_engine_known.specs.occ_base.Names.{IsDistinct}
+use Rattle.occ_engine_known.specs.occ_base.declared.names.Name.{Name}
 use Rattle.occ_renamed.specs.occ_lex.Symbols.{Extends}
 use Rattle.occ_renamed.proofs.from_lex.Interned.{extends_trans}
 use Rattle.occ_renamed.proofs.from_parse.Faultless.{below_judged, declared_once, header_judged, lines_of, no_fault}
@@ -29,10 +29,10 @@ use Rattle.occ_renamed.specs.occ_parse_rules.Programs.{param_scope}
 use Rattle.occ_renamed.specs.occ_parse_rules.Sound.{are_placed, are_sound, is_sound}
 use Rattle.occ_renamed.specs.occ_parse_unroll.Elements.{with_places}
 use Rattle.occ_renamed.specs.occ_parse_unroll.Numbers.{number_in}
-use Rattle.occ_renamed.specs.occ_syntax.Scopes.{environment}
-use Rattle.occ_renamed.specs.occ_syntax.Tree.{Tree}
-use Rattle.occ_renamed.specs.occ_syntax.Types.{scope_kept, types_kept}
-use Rattle.occ_renamed.specs.occ_syntax.declared.scope.Kind.{Kind}
+use Rattle.occ_engine_known.specs.occ_syntax.Scopes.{environment}
+use Rattle.occ_engine_known.specs.occ_syntax.Tree.{Tree}
+use Rattle.occ_engine_known.specs.occ_syntax.Types.{scope_kept, types_kept}
+use Rattle.occ_engine_known.specs.occ_syntax.declared.scope.Kind.{Kind}
 
 -- these parameters and this body keep names, types and directions
 pub record AreKept (params : List (Name × Kind)) (body : Tree) : Type 0 where

@@ -1,6 +1,6 @@
 -- Programs that were read and accepted, the parts of them and of scripts, and that their texts read back.
 use Rattle.std.specs.Prelude.{ℕ, ◌≡◌, true, false, List, [], ◌∷◌, ◌++◌, map, Some}
-use Rattle.occ_renamed.specs.occ_base.declared.names.Name.{Name}
+use Rattle.occ_engine_known.specs.occ_base.declared.names.Name.{Name}
 use Rattle.occ_renamed.specs.occ_meaning.Context.{part_at}
 use Rattle.occ_renamed.specs.occ_parse.declared.bound.Bound.{Bound}
 use Rattle.occ_renamed.specs.occ_parse.Limits.{is_limited, is_too_long}
@@ -9,15 +9,15 @@ use Rattle.occ_script_table.specs.occ_print_back.Back.{IsNarrow}
 use Rattle.occ_script_table.specs.occ_print_back.Placed.{IsTable}
 use Rattle.occ_script_table.specs.occ_script_back.Back.{PartReadsBack}
 use Rattle.occ_renamed.specs.occ_replay_rules.Steps.{Derives, IsAcceptable, Step}
-use Rattle.occ_script_table.specs.occ_script.declared.script.Order.{Order}
-use Rattle.occ_script_table.specs.occ_script.declared.script.Script.{Script}
-use Rattle.occ_script_table.specs.occ_script.Orders.{IsOrders}
-use Rattle.occ_script_table.specs.occ_script.Scripts.{IsProgram, IsScript}
+use Rattle.occ_engine_known.specs.occ_script.declared.script.Order.{Order}
+use Rattle.occ_engine_known.specs.occ_script.declared.script.Script.{Script}
+use Rattle.occ_engine_known.specs.occ_script.Orders.{IsOrders}
+use Rattle.occ_engine_known.specs.occ_script.Scripts.{IsProgram, IsScript}
 use Rattle.occ_script_table.specs.occ_script_back.Joined.{step_of}
-use Rattle.occ_renamed.specs.occ_syntax.declared.scope.Kind.{Kind}
-use Rattle.occ_renamed.specs.occ_syntax.declared.scope.Program.{Program}
-use Rattle.occ_renamed.specs.occ_syntax.Tree.{Tree}
-use Rattle.occ_renamed.specs.occ_syntax.View.{tree}
+use Rattle.occ_engine_known.specs.occ_syntax.declared.scope.Kind.{Kind}
+use Rattle.occ_engine_known.specs.occ_syntax.declared.scope.Program.{Program}
+use Rattle.occ_engine_known.specs.occ_syntax.Tree.{Tree}
+use Rattle.occ_engine_known.specs.occ_syntax.View.{tree}
 use Rattle.occ_renamed.specs.occ_usage.Accepted.{IsAccepted}
 
 -- A table of names that reading leaves: none, and the names behind a program, orders or a script that were read with such a table.

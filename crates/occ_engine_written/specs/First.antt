@@ -5,9 +5,9 @@ use Rattle.occ_renamed.specs.occ_parse.declared.bound.Bound.TheVariants as bound
 use Rattle.occ_renamed.specs.occ_parse_rules.Places.{Place}
 use Rattle.occ_script_table.specs.occ_print_back.Back.{IsNarrow}
 use Rattle.occ_script_table.specs.occ_script_back.Joined.{AreWrittenMoves}
-use Rattle.occ_script_table.specs.occ_script_write.declared.writing.Done.{Done}
-use Rattle.occ_renamed.specs.occ_syntax.declared.scope.Program.{Program}
-use Rattle.occ_renamed.specs.occ_syntax.View.{tree}
+use Rattle.occ_engine_known.specs.occ_script_write.declared.writing.Done.{Done}
+use Rattle.occ_engine_known.specs.occ_syntax.declared.scope.Program.{Program}
+use Rattle.occ_engine_known.specs.occ_syntax.View.{tree}
 use Rattle.occ_renamed.specs.occ_usage.Accepted.{IsAccepted}
 
 -- The program was read from a text with an empty table, which has these names now; it is accepted, and no line on which it is printed

@@ -1,11 +1,11 @@
 -- Moves that are written from a table with given texts in front.
 use Rattle.std.specs.Prelude.{ℕ, ◌≡◌, ◌++◌, List, [], ◌∷◌, length, slice_get, Some}
-use Rattle.occ_renamed.specs.occ_base.Names.{with_text}
+use Rattle.occ_engine_known.specs.occ_base.Names.{with_text}
 use Rattle.occ_renamed.specs.occ_parse_rules.Places.{Place}
 use Rattle.occ_script_table.specs.occ_script_back.Joined.{AreWrittenMoves}
-use Rattle.occ_script_table.specs.occ_script_write.declared.writing.Done.{Done}
-use Rattle.occ_script_table.specs.occ_script_write.Text.{script_text}
-use Rattle.occ_renamed.specs.occ_syntax.declared.scope.Program.{Program}
+use Rattle.occ_engine_known.specs.occ_script_write.declared.writing.Done.{Done}
+use Rattle.occ_engine_known.specs.occ_script_write.Text.{script_text}
+use Rattle.occ_engine_known.specs.occ_syntax.declared.scope.Program.{Program}
 
 -- each text of the one table stands somewhere in the other
 abbrev pub AllStandIn : List (List ℕ) → List (List ℕ) → Type 0

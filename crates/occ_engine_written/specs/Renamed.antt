@@ -1,14 +1,14 @@
 -- The program's own types under other names.
 use Rattle.std.specs.Prelude.{ℕ, List, map}
-use Rattle.occ_renamed.specs.occ_base.declared.names.Name.{Name}
+use Rattle.occ_engine_known.specs.occ_base.declared.names.Name.{Name}
 use Rattle.occ_renamed.specs.Scopes.{scope_renamed}
-use Rattle.occ_script_table.specs.occ_script_write.declared.writing.Done.{Done}
-use Rattle.occ_renamed.specs.occ_syntax.declared.expr.Expr.{Expr, Var, Word, Bool as TruthValue, Not', Flip', Two'}
-use Rattle.occ_renamed.specs.occ_syntax.declared.expr.Guard.{Guard}
-use Rattle.occ_renamed.specs.occ_syntax.declared.expr.Wait.{Wait}
-use Rattle.occ_renamed.specs.occ_syntax.declared.expr.Wait.TheVariants.{Skip as Ready, Get, Put}
-use Rattle.occ_renamed.specs.occ_syntax.declared.proc.Proc.{Proc, Skip, Stop, Assign, Input, Output, Seq', Par', If', Alt', Var', Chan', Row_of-Proc, end_of-Proc, more_of-Proc, Row_of-Choices-list-2, end_of-Choices-list-2, more_of-Choices-list-2, Row_of-Alternatives-list-2, end_of-Alternatives-list-2, more_of-Alternatives-list-2}
-use Rattle.occ_renamed.specs.occ_syntax.declared.scope.Program.{Program}
+use Rattle.occ_engine_known.specs.occ_script_write.declared.writing.Done.{Done}
+use Rattle.occ_engine_known.specs.occ_syntax.declared.expr.Expr.{Expr, Var, Word, Bool as TruthValue, Not', Flip', Two'}
+use Rattle.occ_engine_known.specs.occ_syntax.declared.expr.Guard.{Guard}
+use Rattle.occ_engine_known.specs.occ_syntax.declared.expr.Wait.{Wait}
+use Rattle.occ_engine_known.specs.occ_syntax.declared.expr.Wait.TheVariants.{Skip as Ready, Get, Put}
+use Rattle.occ_engine_known.specs.occ_syntax.declared.proc.Proc.{Proc, Skip, Stop, Assign, Input, Output, Seq', Par', If', Alt', Var', Chan', Row_of-Proc, end_of-Proc, more_of-Proc, Row_of-Choices-list-2, end_of-Choices-list-2, more_of-Choices-list-2, Row_of-Alternatives-list-2, end_of-Alternatives-list-2, more_of-Alternatives-list-2}
+use Rattle.occ_engine_known.specs.occ_syntax.declared.scope.Program.{Program}
 
 abbrev pub name_renamed : (ℕ → ℕ) → Name → Name
 name_renamed f name = record { 0 = f name.0 }

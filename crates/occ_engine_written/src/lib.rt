@@ -11,7 +11,7 @@ pub use numbered_moves::{
     written_moves_in_front, written_moves_stay,
 };
 pub use occ_engine_known::{
-    EngineFault, Outcome, expand, expansions_have_known_names, expansions_have_no_fault,
+    Dones, EngineFault, Outcome, expand, expansions_have_known_names, expansions_have_no_fault,
     expansions_have_one_fault, expansions_have_one_outcome, followed_orders_have_known_names,
     followed_orders_have_one_outcome, kept_parts_have_known_names, names_stay_below,
     orders_follow_or_stop, orders_stop_once, read_programs_have_known_names, transform,

@@ -9,13 +9,13 @@ ghost use Rattle.occ_engine_written.specs.Accepted.{IsAcceptedText, IsLeft, IsRe
 ghost use Rattle.occ_script_table.specs.occ_script_back.Part.{PartIsNarrow};
 ghost use Rattle.occ_script_table.specs.occ_script_back.Blank.{AreBlankLines};
 ghost use Rattle.occ_renamed.specs.occ_replay_rules.Steps.{Step, new_part, scope_there};
-ghost use Rattle.occ_script_table.specs.occ_script.Scripts.{IsScript};
-ghost use Rattle.occ_script_table.specs.occ_script.declared.script.Script.{Script};
+ghost use Rattle.occ_engine_known.specs.occ_script.Scripts.{IsScript};
+ghost use Rattle.occ_engine_known.specs.occ_script.declared.script.Script.{Script};
 ghost use Rattle.occ_renamed.specs.occ_script_lines.Places.{scope_list};
-ghost use Rattle.occ_script_table.specs.occ_script_write.Text.{text_of_program};
-ghost use Rattle.occ_renamed.specs.occ_syntax.Tree.{Tree};
-ghost use Rattle.occ_renamed.specs.occ_syntax.View.{tree};
-ghost use Rattle.occ_renamed.specs.occ_syntax.declared.scope.Program.{Program};
+ghost use Rattle.occ_engine_known.specs.occ_script_write.Text.{text_of_program};
+ghost use Rattle.occ_engine_known.specs.occ_syntax.Tree.{Tree};
+ghost use Rattle.occ_engine_known.specs.occ_syntax.View.{tree};
+ghost use Rattle.occ_engine_known.specs.occ_syntax.declared.scope.Program.{Program};
 
 use occ_script_table::printed_parts_read_back;
 

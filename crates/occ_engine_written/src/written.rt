@@ -3,7 +3,7 @@
 
 ghost use Rattle.std.specs.List.{AllByRecursion};
 ghost use Rattle.std.specs.Prelude.{ℕ, ◌≡◌, List, Some, true};
-ghost use Rattle.occ_renamed.specs.occ_base.Names.{IsDistinct};
+ghost use Rattle.occ_engine_known.specs.occ_base.Names.{IsDistinct};
 ghost use Rattle.occ_engine_known.specs.occ_engine.Moved.{moves_of, orders_of};
 ghost use Rattle.occ_renamed.specs.occ_replay_rules.Expansion.{IsExpanded};
 ghost use Rattle.occ_renamed.specs.occ_replay_rules.Moves.{Moves};
@@ -14,14 +14,14 @@ ghost use Rattle.occ_renamed.specs.occ_parse.Known.{NamesAreKnown};
 ghost use Rattle.occ_renamed.specs.occ_parse.declared.bound.Bound.{Bound};
 ghost use Rattle.occ_renamed.specs.occ_parse.Limits.{is_limited};
 ghost use Rattle.occ_renamed.specs.occ_parse.Reading.{IsRead};
-ghost use Rattle.occ_script_table.specs.occ_script.declared.script.Order.{Order};
-ghost use Rattle.occ_script_table.specs.occ_script.Orders.{IsOrders};
+ghost use Rattle.occ_engine_known.specs.occ_script.declared.script.Order.{Order};
+ghost use Rattle.occ_engine_known.specs.occ_script.Orders.{IsOrders};
 ghost use Rattle.occ_renamed.specs.occ_script_lines.Texts.{path_of};
-ghost use Rattle.occ_script_table.specs.occ_script_write.declared.writing.Done.{Done};
-ghost use Rattle.occ_script_table.specs.occ_script_write.Text.{IsWritable};
+ghost use Rattle.occ_engine_known.specs.occ_script_write.declared.writing.Done.{Done};
+ghost use Rattle.occ_engine_known.specs.occ_script_write.Text.{IsWritable};
 ghost use Rattle.occ_script_table.specs.occ_script_back.Said.{IsSaid, IsShortPath};
-ghost use Rattle.occ_renamed.specs.occ_syntax.declared.scope.Program.{Program};
-ghost use Rattle.occ_renamed.specs.occ_syntax.View.{tree};
+ghost use Rattle.occ_engine_known.specs.occ_syntax.declared.scope.Program.{Program};
+ghost use Rattle.occ_engine_known.specs.occ_syntax.View.{tree};
 ghost use Rattle.occ_renamed.specs.occ_usage.Accepted.{IsTyped};
 
 use occ_engine_known::{

@@ -7,7 +7,7 @@ mod nexts;
 
 pub use calls::follow;
 pub use occ_choice::{
-    AcceptSet, Antichain, MapId, Maps, NodeId, Offers, Row, World, accept_join as join, alt, least,
-    prefix_out, without,
+    AcceptSet, Antichain, Both, MapId, Maps, NodeId, Offers, Row, World, accept_join as join, alt,
+    cross, least, prefix_out, without,
 };
-pub use occ_scope::{Shifts, shift_with};
+pub use occ_scope::{Shifts, forget, shift, shift_with};

@@ -14,8 +14,8 @@ use Rattle.occ_print_back.specs.occ_parse_forms.declared.form.Param.{Param}
 use Rattle.occ_print_back.specs.occ_parse_forms.Shape as line
 use Rattle.occ_print_back.specs.occ_parse_rules.Forest.{Forest, and_line, no_line}
 use Rattle.occ_print_back.specs.occ_parse_rules.Places.{numbers_from}
-use Rattle.occ_print_back.specs.occ_syntax.declared.expr.Op.TheVariants as op
-use Rattle.occ_print_back.specs.occ_syntax.declared.scope.Kind.TheVariants.{Chan, Var}
+use Rattle.occ_script.specs.occ_syntax.declared.expr.Op.TheVariants as op
+use Rattle.occ_script.specs.occ_syntax.declared.scope.Kind.TheVariants.{Chan, Var}
 
 -- ---- names
 

@@ -24,8 +24,8 @@ use Rattle.occ_print_back.specs.occ_parse_rules.Programs.{param_scope}
 use Rattle.occ_print_back.specs.occ_parse_unroll.Elements.{with_elements}
 use Rattle.occ_print_back.specs.occ_parse_unroll.Numbers.{number_in}
 use Rattle.occ_print_back.specs.Read.{line_rows}
-use Rattle.occ_print_back.specs.occ_syntax.Tree.{Tree}
-use Rattle.occ_print_back.specs.occ_syntax.declared.scope.Kind.{Kind as Sort}
+use Rattle.occ_script.specs.occ_syntax.Tree.{Tree}
+use Rattle.occ_script.specs.occ_syntax.declared.scope.Kind.{Kind as Sort}
 
 abbrev pub is_name_kind : Option TokenKind → Bool
 is_name_kind (Some token.Name) = true

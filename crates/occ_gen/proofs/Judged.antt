@@ -6,11 +6,11 @@ use Rattle.occ_print_back.specs.occ_parse.declared.bound.Bound.{Bound}
 use Rattle.occ_print_back.specs.occ_parse.declared.bound.Bound.TheVariants as bound
 use Rattle.occ_print_back.specs.occ_parse.declared.fault.ParseFault.{ParseFault}
 use Rattle.occ_print_back.specs.occ_parse.Reading.{IsRead, IsRefused, SameReading}
-use Rattle.occ_print_back.specs.occ_syntax.Tree.{Tree}
-use Rattle.occ_print_back.specs.occ_syntax.Usage.{KeepsUsage}
-use Rattle.occ_print_back.specs.occ_syntax.View.{tree}
-use Rattle.occ_print_back.specs.occ_syntax.declared.scope.Kind.{Kind}
-use Rattle.occ_print_back.specs.occ_syntax.declared.scope.Program.{Program}
+use Rattle.occ_script.specs.occ_syntax.Tree.{Tree}
+use Rattle.occ_script.specs.occ_syntax.Usage.{KeepsUsage}
+use Rattle.occ_script.specs.occ_syntax.View.{tree}
+use Rattle.occ_script.specs.occ_syntax.declared.scope.Kind.{Kind}
+use Rattle.occ_script.specs.occ_syntax.declared.scope.Program.{Program}
 use Rattle.occ_print_back.specs.occ_usage.Accepted.{usage_faults}
 use Rattle.occ_print_back.specs.occ_usage.Faults.{names_of}
 use Rattle.occ_print_back.proofs.from_usage.Law.{keeps_no_fault}

@@ -9,3 +9,4 @@ mod Usage
 mod Checked
 mod Read
 mod Judged
+pub use Rattle.occ_print_back.proofs.from_parse_unroll as from_parse_unroll

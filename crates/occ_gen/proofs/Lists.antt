@@ -20,7 +20,7 @@ use Rattle.occ_print_back.specs.occ_print.Lines.{TextLine}
 use Rattle.occ_print_back.specs.occ_print.Spelled.{name_text}
 use Rattle.occ_print_back.specs.Placed.{AreSayable, IsBegun, IsSayable, IsWord, LinesAreSayable}
 use Rattle.occ_print_back.specs.Read.{line_rows, symbols_read}
-use Rattle.occ_print_back.specs.occ_syntax.Types.{is_width}
+use Rattle.occ_script.specs.occ_syntax.Types.{is_width}
 
 pub none_is : {A : Type 0} (o : Option A) → is_none o ≡ true → o ≡ None
 none_is None h = refl

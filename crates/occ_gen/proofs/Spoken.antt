@@ -12,8 +12,8 @@ use Rattle.occ_print_back.specs.occ_parse_forms.declared.form.Param.{Param}
 use Rattle.occ_print_back.specs.occ_parse_forms.Lines.{AreParams, HasCount, IsForm, IsMarked, IsUnmarked, IsWritten, declared_words, front_words, group_word, list_words, param_front, tail_words, times_words}
 use Rattle.occ_print_back.specs.occ_parse_forms.Shape.{Said, Shape, item, numeral, typed, truth, negation, complement, operation, header, close, receive, send, group, declare, condition}
 use Rattle.occ_print_back.specs.occ_parse_forms.Written.{Operand, between, complemented, constant, item_words, named, number, only, op_word, operand_meant, operand_words, truth_word}
-use Rattle.occ_print_back.specs.occ_syntax.declared.scope.Kind.{Kind}
-use Rattle.occ_print_back.specs.occ_syntax.declared.scope.Kind.TheVariants as kind
+use Rattle.occ_script.specs.occ_syntax.declared.scope.Kind.{Kind}
+use Rattle.occ_script.specs.occ_syntax.declared.scope.Kind.TheVariants as kind
 
 -- ---- expressions without brackets
 

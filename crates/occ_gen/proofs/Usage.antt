@@ -6,8 +6,8 @@ use Rattle.occ_print_back.specs.occ_names.Mentions.{ends_in, mentions, same_end,
 use Rattle.occ_print_back.specs.occ_names.Once.{has, same_number}
 use Rattle.occ_print_back.proofs.from_names.Listed.{IsTest, ends_tested, numbers_tested}
 use Rattle.occ_print_back.proofs.from_names.Members.{ends_are, free_is, written_is}
-use Rattle.occ_print_back.specs.occ_syntax.Tree.{Branches, Cases, Tree, Trees, alt, and_branch, and_case, and_tree, assign, connect, declare, no_branch, no_case, no_tree, par, receive, select, send, seq, skip, stop}
-use Rattle.occ_print_back.specs.occ_syntax.Usage.{AllKeepUsage, AreSeparate, BranchesKeepUsage, CasesKeepUsage, IsSeparate, KeepsUsage}
+use Rattle.occ_script.specs.occ_syntax.Tree.{Branches, Cases, Tree, Trees, alt, and_branch, and_case, and_tree, assign, connect, declare, no_branch, no_case, no_tree, par, receive, select, send, seq, skip, stop}
+use Rattle.occ_script.specs.occ_syntax.Usage.{AllKeepUsage, AreSeparate, BranchesKeepUsage, CasesKeepUsage, IsSeparate, KeepsUsage}
 
 -- no item of one list stands in another
 abbrev apart : {T : Type 0} → (T → T → Bool) → List T → List T → Bool

@@ -8,8 +8,8 @@ ghost use Rattle.occ_gen.specs.Accepted.{IsTextOfAccepted};
 ghost use Rattle.occ_print_back.specs.occ_parse.Reading.{IsRead, IsRefused};
 ghost use Rattle.occ_print_back.specs.occ_parse.declared.bound.Bound.TheVariants as bound;
 ghost use Rattle.occ_print_back.specs.occ_parse.declared.fault.ParseFault.{ParseFault};
-ghost use Rattle.occ_print_back.specs.occ_syntax.View.{tree};
-ghost use Rattle.occ_print_back.specs.occ_syntax.declared.scope.Program.{Program};
+ghost use Rattle.occ_script.specs.occ_syntax.View.{tree};
+ghost use Rattle.occ_script.specs.occ_syntax.declared.scope.Program.{Program};
 ghost use Rattle.occ_print_back.specs.occ_usage.Accepted.{usage_faults};
 
 use occ_print_back::one_reading;

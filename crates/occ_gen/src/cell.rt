@@ -4,16 +4,15 @@ ghost use Rattle.occ_gen.specs.Programs.{cell, channel as channel_of, lines_text
 use crate::Shape;
 use crate::line::push_line;
 use itoa::Buffer;
-use occ_script::Memory;
+use occ_script::{Memory, push_number};
 use std::alloc::Global;
 
 /// The channel from a stage to the next.
 pub fn channel(alloc: Global, stage: u64) -> Result<Vec<u8>, Memory>
     ensures { IfOk result (λ name. name.items ≡ channel_of stage) }
 {
-    let mut buffer = Buffer::new();
     let mut name = Vec::from_slice(alloc, b"c")?;
-    name.extend_from_slice(buffer.format(stage).as_bytes())?;
+    push_number(&mut name, stage)?;
     Ok(name)
 }
 

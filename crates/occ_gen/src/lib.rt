@@ -14,6 +14,7 @@ pub use accepted::{generated_programs_are_accepted, generated_programs_are_never
 pub use fault::GenFault;
 pub use occ_print_back::{
     Bound, ParseFault, Text, Which, line_tokens, one_reading, parse, print, print_part,
+    read_programs_print_within_levels,
 };
 pub use occ_script::{Memory, Path, script_lines_path};
 pub use program::generate;

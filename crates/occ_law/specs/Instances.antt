@@ -15,6 +15,11 @@ sizes Whole = []
 sizes (Behind k) = k ∷ []
 sizes (Between j k) = j ∷ k ∷ []
 
+-- the size of the only list; or there isn't one list
+abbrev pub IsSize : List ℕ → Option ℕ → Type 0
+IsSize ks None = (k : ℕ) → ks ≡ k ∷ [] → ⊥
+IsSize ks (Some k) = ks ≡ k ∷ []
+
 -- The right side of the one instance of two sides at a place; or there is no instance.
 abbrev pub IsOnly : (Tree → Tree → Type 0) → Tree → Option Proc → Type 0
 IsOnly D l None = (r : Tree) → D l r → ⊥

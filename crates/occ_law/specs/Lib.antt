@@ -1,4 +1,5 @@
 pub mod Table
+pub mod Numbers
 pub mod Lists
 pub mod States
 pub mod Sequence

@@ -5,11 +5,13 @@
 mod law;
 mod place;
 mod table;
+mod variants;
 
 pub use law::{
     a_kept_right_side_names_the_input, a_last_stop_leaves, a_skip_leaves_first,
     empty_seq_is_not_stop, empty_seq_is_skip, no_condition_cuts_nothing,
 };
-pub use occ_bits::{List, Memory, Name as BaseName, Store, Width, equal_under, named_bits};
+pub use occ_bits::{Store, equal_under, named_bits};
 pub use place::Place;
 pub use table::{Cases, LawId, TABLE, find, name, names_are_distinct};
+pub use variants::{Changes, Family, Law};

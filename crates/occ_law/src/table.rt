@@ -2,6 +2,8 @@ ghost use Rattle.std.specs.Prelude.{◌≡◌, ◌<◌, ◌≤◌, ◌↔◌, �
 ghost use Rattle.occ_law.specs.declared.table.LawId.{LawId};
 ghost use Rattle.occ_law.specs.Table.{IsNamed, law_names};
 
+use crate::variants::{Changes, Family, Law, Row};
+
 /// So many names of laws, in the order of their numbers.
 #[derive(Clone, Copy)]
 pub struct Cases<const N: usize> {
@@ -12,74 +14,100 @@ pub struct Cases<const N: usize> {
 #[derive(Clone, Copy, Debug, PartialEq, Eq, PartialOrd, Ord, Hash)]
 pub struct LawId(pub u8);
 
+/// The table of the laws in the order of their numbers: a law, its name, its family, and where it changes a part.
+macro_rules! laws {
+    ($column:ident) => {
+        [
+            $column!(SeqNone, "seq-none", Seq, Whole),
+            $column!(SeqOne, "seq-one", Seq, Whole),
+            $column!(SeqFlat, "seq-flat", Seq, Behind),
+            $column!(SeqSkip, "seq-skip", Seq, Behind),
+            $column!(SeqStop, "seq-stop", Seq, Behind),
+            $column!(AssignId, "assign-id", Seq, Whole),
+            $column!(AssignOrder, "assign-order", Seq, Whole),
+            $column!(AssignPad, "assign-pad", Seq, Whole),
+            $column!(AssignJoin, "assign-join", Seq, Whole),
+            $column!(AssignIf, "assign-if", Seq, Whole),
+            $column!(AssignAlt, "assign-alt", Seq, Whole),
+            $column!(SeqIf, "seq-if", Seq, Whole),
+            $column!(SeqAlt, "seq-alt", Seq, Whole),
+            $column!(Expr, "expr", Seq, Whole),
+            $column!(IoAlt, "io-alt", Seq, Whole),
+            $column!(IfNone, "if-none", If, Whole),
+            $column!(IfFalse, "if-false", If, Behind),
+            $column!(IfTrue, "if-true", If, Whole),
+            $column!(IfElseStop, "if-else-stop", If, Behind),
+            $column!(IfCut, "if-cut", If, Behind),
+            $column!(IfNest, "if-nest", If, Behind),
+            $column!(IfSwap, "if-swap", If, Behind),
+            $column!(IfMerge, "if-merge", If, Behind),
+            $column!(IfCopy, "if-copy", If, Whole),
+            $column!(IfUnder, "if-under", If, Behind),
+            $column!(AltNone, "alt-none", Alt, Whole),
+            $column!(AltOrder, "alt-order", Alt, Whole),
+            $column!(AltFalse, "alt-false", Alt, Behind),
+            $column!(AltTwice, "alt-twice", Alt, Between),
+            $column!(AltSkip, "alt-skip", Alt, Whole),
+            $column!(AltCase, "alt-case", Alt, Behind),
+            $column!(AltFlat, "alt-flat", Alt, Behind),
+            $column!(AltSplit, "alt-split", Alt, Behind),
+            $column!(AltSame, "alt-same", Alt, Between),
+            $column!(AltSlide, "alt-slide", Alt, Behind),
+            $column!(AltLeast, "alt-least", Alt, Whole),
+            $column!(ParNone, "par-none", Par, Whole),
+            $column!(ParOne, "par-one", Par, Whole),
+            $column!(ParFlat, "par-flat", Par, Behind),
+            $column!(ParOrder, "par-order", Par, Whole),
+            $column!(ParSkip, "par-skip", Par, Behind),
+            $column!(ParStop, "par-stop", Par, Whole),
+            $column!(ParAssign, "par-assign", Par, Whole),
+            $column!(ParIf, "par-if", Par, Whole),
+            $column!(ParExpand, "par-expand", Par, Whole),
+            $column!(VarUnused, "var-unused", Scope, Whole),
+            $column!(VarRename, "var-rename", Scope, Whole),
+            $column!(VarSwap, "var-swap", Scope, Whole),
+            $column!(VarFirst, "var-first", Scope, Whole),
+            $column!(VarLast, "var-last", Scope, Whole),
+            $column!(VarIf, "var-if", Scope, Whole),
+            $column!(VarAlt, "var-alt", Scope, Whole),
+            $column!(VarPar, "var-par", Scope, Whole),
+            $column!(VarAny, "var-any", Scope, Whole),
+            $column!(VarAssign, "var-assign", Scope, Whole),
+            $column!(VarEnd, "var-end", Scope, Whole),
+            $column!(ChanUnused, "chan-unused", Scope, Whole),
+            $column!(ChanRename, "chan-rename", Scope, Whole),
+            $column!(ChanSwap, "chan-swap", Scope, Whole),
+            $column!(ChanSeq, "chan-seq", Scope, Whole),
+            $column!(ChanIf, "chan-if", Scope, Whole),
+            $column!(ChanAlt, "chan-alt", Scope, Whole),
+            $column!(ChanPar, "chan-par", Scope, Whole),
+        ]
+    };
+}
+
+macro_rules! name_of {
+    ($law:ident, $name:expr, $family:ident, $changes:ident) => {
+        $name
+    };
+}
+
+macro_rules! row_of {
+    ($law:ident, $name:expr, $family:ident, $changes:ident) => {
+        Row {
+            law: Law::$law,
+            family: Family::$family,
+            changes: Changes::$changes,
+        }
+    };
+}
+
 /// The names of all laws.
 pub const TABLE: Cases<63> = Cases {
-    names: [
-        "seq-none",
-        "seq-one",
-        "seq-flat",
-        "seq-skip",
-        "seq-stop",
-        "assign-id",
-        "assign-order",
-        "assign-pad",
-        "assign-join",
-        "assign-if",
-        "assign-alt",
-        "seq-if",
-        "seq-alt",
-        "expr",
-        "io-alt",
-        "if-none",
-        "if-false",
-        "if-true",
-        "if-else-stop",
-        "if-cut",
-        "if-nest",
-        "if-swap",
-        "if-merge",
-        "if-copy",
-        "if-under",
-        "alt-none",
-        "alt-order",
-        "alt-false",
-        "alt-twice",
-        "alt-skip",
-        "alt-case",
-        "alt-flat",
-        "alt-split",
-        "alt-same",
-        "alt-slide",
-        "alt-least",
-        "par-none",
-        "par-one",
-        "par-flat",
-        "par-order",
-        "par-skip",
-        "par-stop",
-        "par-assign",
-        "par-if",
-        "par-expand",
-        "var-unused",
-        "var-rename",
-        "var-swap",
-        "var-first",
-        "var-last",
-        "var-if",
-        "var-alt",
-        "var-par",
-        "var-any",
-        "var-assign",
-        "var-end",
-        "chan-unused",
-        "chan-rename",
-        "chan-swap",
-        "chan-seq",
-        "chan-if",
-        "chan-alt",
-        "chan-par",
-    ],
+    names: laws!(name_of),
 };
+
+/// What the table says of each law beside its name.
+pub(crate) const ROWS: [Row; 63] = laws!(row_of);
 
 /// The law of that name; None exactly where the table doesn't have the name. It takes no memory.
 pub fn find(name: &[u8]) -> Option<LawId>

@@ -59,16 +59,6 @@ pub none_there : (l : List (Guard × Proc)) → length l ≡ 0 → branches l �
 none_there [] h = refl
 none_there (x ∷ l) h = absurd (omega (arith, h))
 
--- two lists are the same where one has nothing behind the other
-pub same_where_none : (xs ys : Branches) (rest : List (Guard × Proc)) (b : Bool) → ys ≡ all_branches xs (branches rest) → (IsTrue b ↔ (length rest ≡ 0)) → IsTrue b ↔ (xs ≡ ys)
-same_where_none xs ys rest b e test = (
-  (λ h. sym (e ∙ ap (all_branches xs) (none_there rest (test.0 h)) ∙ all_branches-none xs)),
-  (λ g. test.1 (branches_none rest (behind_one_front xs (branches rest) no_branch (sym e ∙ sym g ∙ sym (all_branches-none xs))))),
-)
-
-pub never_same : (xs ys : Branches) → ((hs : Branches) → ys ≡ all_branches xs hs → ⊥) → xs ≡ ys → ⊥
-never_same xs ys never e = never no_branch (sym e ∙ sym (all_branches-none xs))
-
 -- a list is two others where what stands behind the first of them is the second
 pub joined_where : (gs whole found rest : Branches) (b : Bool) → whole ≡ all_branches gs found → (IsTrue b ↔ (found ≡ rest)) → IsTrue b ↔ (whole ≡ all_branches gs rest)
 joined_where gs whole found rest b e test =

@@ -1,6 +1,6 @@
 -- alt-false by the branch that the right side lacks.
 use Rattle.std.proofs.Common.{◌≡◌, ◌↔◌, ℕ, true, List, [], ◌∷◌, ap, sym, ◌∙◌, subst}
-use Rattle.occ_law_shape.specs.occ_base.declared.names.Name.{Name}
+use Rattle.occ_syntax.specs.occ_base.declared.names.Name.{Name}
 use Rattle.occ_syntax.specs.declared.scope.Kind.{Kind}
 use Rattle.occ_syntax.specs.Scopes.{Environment, environment}
 use Rattle.occ_syntax.specs.Tree.{Exp, Waiting, Tree, alt, Branches, and_branch}

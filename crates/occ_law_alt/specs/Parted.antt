@@ -11,19 +11,10 @@ use Rattle.occ_law_alt.specs.declared.parted.Around.{Around}
 use Rattle.occ_law_alt.specs.declared.parted.Chosen.{Chosen}
 use Rattle.occ_law_alt.specs.declared.parted.Parted.{Parted}
 
--- the one size, or the two; or there aren't so many
-abbrev pub IsSize : List ℕ → Option ℕ → Type 0
-IsSize ks None = (k : ℕ) → ks ≡ k ∷ [] → ⊥
-IsSize ks (Some k) = ks ≡ k ∷ []
-
+-- the two sizes; or there aren't two
 abbrev pub AreSizes : List ℕ → Option (ℕ × ℕ) → Type 0
 AreSizes ks None = (j k : ℕ) → ks ≡ j ∷ k ∷ [] → ⊥
 AreSizes ks (Some found) = ks ≡ found.0 ∷ found.1 ∷ []
-
--- the branches of an ALT; or it is none
-abbrev pub AreBranches : Tree → Option (Bor (List (Guard × Proc))) → Type 0
-AreBranches l None = (gs : Branches) → l ≡ alt gs → ⊥
-AreBranches l (Some found) = l ≡ alt (branches found.now)
 
 -- the first branch, and the others; or there is none
 abbrev pub IsDivided : Branches → Option (Bor (Guard × Proc) × Bor (List (Guard × Proc))) → Type 0

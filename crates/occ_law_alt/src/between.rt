@@ -4,11 +4,11 @@ ghost use Rattle.occ_syntax.specs.View.{exp, tree, waiting};
 ghost use Rattle.occ_law_shape.specs.occ_law.Instances.{IsOnly, sizes};
 ghost use Rattle.occ_law_shape.specs.occ_law.Choice.{AltSame, AltTwice, and_skip};
 
-use crate::made::{alt_of, copied, exchanged, skip_branch};
+use crate::is_event;
+use crate::made::{copied, exchanged, skip_branch};
 use crate::parted::around_at;
-use crate::{is_event, same_branch, same_guard};
-use occ_law_shape::{LawPlace as Place, Memory};
-use occ_syntax::{Alternatives, Guard, Proc};
+use occ_law_shape::{LawPlace as Place, alt_of};
+use occ_syntax::{Alternatives, Guard, Memory, Proc, same_branch, same_guard};
 use std::alloc::Global;
 
 /// ALT(gs, B, hs, B, ks) = ALT(gs, B, hs, ks). The error is out of memory.

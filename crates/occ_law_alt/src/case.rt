@@ -6,10 +6,9 @@ ghost use Rattle.occ_law_shape.specs.Answer.{IsAnswer};
 ghost use Rattle.occ_law_alt.specs.Fronts.{IsHalved};
 ghost use Rattle.occ_law_alt.specs.Places.{CaseAt, CaseHere};
 
-use crate::fronts::{after, same_branches};
-use crate::guards::is_truth;
-use occ_law_shape::{Form, Memory, law_case, opened, same_waits};
-use occ_syntax::{Expr, Guard, Proc, same_expr, same_proc};
+use crate::fronts::after;
+use occ_law_shape::{Form, is_truth, law_case, opened};
+use occ_syntax::{Expr, Guard, Memory, Proc, same_branches, same_expr, same_proc, same_wait};
 
 /// ALT(gs, B, hs) = IF(b ALT(gs, B', hs), TRUE ALT(gs, hs)), where b is the condition of B, and B' is B with the
 /// condition TRUE
@@ -102,6 +101,6 @@ fn is_with_truth(branch: &(Guard, Proc), other: &(Guard, Proc)) -> bool
         × (tree branch.now.1 ≡ tree other.now.1)) }
 {
     is_truth(&branch.0.condition)
-        && same_waits(&branch.0.wait, &other.0.wait)
+        && same_wait(&branch.0.wait, &other.0.wait)
         && same_proc(&branch.1, &other.1)
 }

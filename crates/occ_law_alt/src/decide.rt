@@ -11,8 +11,8 @@ use crate::never::alt_false;
 use crate::order::alt_order;
 use crate::placed::{alt_flat, alt_same, alt_split, alt_twice};
 use crate::simple::{alt_none, alt_skip};
-use occ_law_shape::{LawId, Memory, Store};
-use occ_syntax::{Proc, Scope};
+use occ_law_shape::{Law, LawId, Store};
+use occ_syntax::{Memory, Proc, Scope};
 use std::alloc::Global;
 
 /// Whether two parts are the two sides of a law of ALT in a scope, from alt-none to alt-least. Both parts keep names, types,
@@ -32,17 +32,18 @@ pub fn holds(
     requires right { Keeps (environment scope.now) (tree right.now) }
     ensures { IfOk result (λ answer. IsTrue answer ↔ LAW law.0 scope.now (tree left.now) (tree right.now)) }
 {
-    match law.0 {
-        26 => alt_none(left, right),
-        27 => alt_order(alloc, left, right),
-        28 => alt_false(alloc, store, scope, left, right),
-        29 => alt_twice(left, right),
-        30 => alt_skip(left, right),
-        31 => alt_case(left, right),
-        32 => alt_flat(left, right),
-        33 => alt_split(left, right),
-        34 => alt_same(left, right),
-        35 => alt_slide(left, right),
-        _ => alt_least(left, right),
+    match law.law() {
+        Some(Law::AltNone) => alt_none(left, right),
+        Some(Law::AltOrder) => alt_order(alloc, left, right),
+        Some(Law::AltFalse) => alt_false(alloc, store, scope, left, right),
+        Some(Law::AltTwice) => alt_twice(left, right),
+        Some(Law::AltSkip) => alt_skip(left, right),
+        Some(Law::AltCase) => alt_case(left, right),
+        Some(Law::AltFlat) => alt_flat(left, right),
+        Some(Law::AltSplit) => alt_split(left, right),
+        Some(Law::AltSame) => alt_same(left, right),
+        Some(Law::AltSlide) => alt_slide(left, right),
+        Some(Law::AltLeast) => alt_least(left, right),
+        _ => Ok(false),
     }
 }

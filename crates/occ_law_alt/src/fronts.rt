@@ -1,18 +1,11 @@
 ghost use Rattle.std.specs.Prelude.{◌≡◌, ◌↔◌, IsTrue};
 ghost use Rattle.occ_syntax.specs.View.{exp, waiting, tree, branches};
 ghost use Rattle.occ_law_shape.specs.occ_law.Lists.{all_branches};
-ghost use Rattle.occ_law_alt.specs.Fronts.{BeginsWithAlt, BeginsWithSkip, EndsWithAlt, IsAfter, IsBehind, IsSameBranch};
+ghost use Rattle.occ_law_alt.specs.Fronts.{BeginsWithAlt, BeginsWithSkip, EndsWithAlt, IsAfter, IsBehind};
 
-use crate::guards::{is_skip, same_guard};
+use crate::guards::is_skip;
 use occ_law_shape::{Form, opened};
-use occ_syntax::{Guard, Proc, same_proc};
-
-/// Whether two branches are the same.
-pub fn same_branch(left: &(Guard, Proc), right: &(Guard, Proc)) -> bool
-    ensures { IsTrue result ↔ IsSameBranch left.now right.now }
-{
-    same_guard(&left.0, &right.0) && same_proc(&left.1, &right.1)
-}
+use occ_syntax::{Guard, Proc, same_branch, same_branches};
 
 /// What stands in a list behind its first branch, where that is this one; None exactly where it isn't.
 pub(crate) fn after<'a>(
@@ -47,16 +40,6 @@ pub fn behind<'a>(first: &[(Guard, Proc)], all: &'a [(Guard, Proc)]) -> Option<&
         }
     }
     Some(rest)
-}
-
-/// Whether two lists of branches are the same.
-pub(crate) fn same_branches(left: &[(Guard, Proc)], right: &[(Guard, Proc)]) -> bool
-    ensures { IsTrue result ↔ (branches left.now ≡ branches right.now) }
-{
-    match behind(left, right) {
-        Some(rest) => rest.is_empty(),
-        None => false,
-    }
 }
 
 /// Whether a list is two others, one behind the other.

@@ -3,25 +3,8 @@ ghost use Rattle.occ_syntax.specs.View.{exp, waiting, branches};
 ghost use Rattle.occ_syntax.specs.Tree.{ready, truth};
 ghost use Rattle.occ_law_shape.specs.occ_law.Choice.{are_events as all_wait, are_plain_events as all_wait_plainly, has_skip as some_skips, is_event as waits};
 
-use occ_law_shape::same_waits;
-use occ_syntax::{Expr, Guard, Proc, Wait, same_expr};
-
-/// Whether two guards are the same.
-pub fn same_guard(left: &Guard, right: &Guard) -> bool
-    ensures { IsTrue result ↔ ((exp left.now.condition ≡ exp right.now.condition) × (waiting left.now.wait ≡ waiting right.now.wait)) }
-{
-    same_expr(&left.condition, &right.condition) && same_waits(&left.wait, &right.wait)
-}
-
-/// Whether an expression is TRUE, as it is written.
-pub(crate) fn is_truth(expr: &Expr) -> bool
-    ensures { IsTrue result ↔ (exp expr.now ≡ truth true) }
-{
-    match expr {
-        Expr::Bool(value) => *value,
-        _ => false,
-    }
-}
+use occ_law_shape::is_truth;
+use occ_syntax::{Guard, Proc, Wait};
 
 /// Whether a guard waits for an input or an output.
 pub fn is_event(wait: &Wait) -> bool

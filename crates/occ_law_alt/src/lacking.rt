@@ -2,9 +2,8 @@ ghost use Rattle.std.specs.Prelude.{◌↔◌, IsTrue};
 ghost use Rattle.occ_syntax.specs.View.{exp, waiting, tree, branches};
 ghost use Rattle.occ_law_alt.specs.Lacking.{IsLacking, Lacks};
 
-use crate::fronts::{after, same_branches};
-use crate::guards::same_guard;
-use occ_syntax::{Guard, Proc, same_proc};
+use crate::fronts::after;
+use occ_syntax::{Guard, Proc, same_branches, same_guard, same_proc};
 
 /// The branch that one list lacks of another, where it is that list without one branch; None exactly where it isn't. The
 /// branch is at the first place where the lists differ, since of a row of equal branches any one may be the one that is lacked.

@@ -6,10 +6,10 @@ ghost use Rattle.occ_law_shape.specs.occ_law.Lists.{all_branches};
 ghost use Rattle.occ_law_shape.specs.Answer.{IsAnswer};
 ghost use Rattle.occ_law_alt.specs.Fronts.{IsAltPair};
 
-use crate::fronts::{alt_first, alt_last, behind, is_joined, same_branches};
+use crate::fronts::{alt_first, alt_last, behind, is_joined};
 use crate::guards::{are_events, are_plain_events};
-use occ_law_shape::{Memory, law_case};
-use occ_syntax::{Guard, Proc};
+use occ_law_shape::law_case;
+use occ_syntax::{Guard, Memory, Proc, same_branches};
 
 /// ALT(gs, TRUE & SKIP ALT(gs, hs)) = ALT(gs, hs), where gs has event guards alone
 pub(crate) fn alt_slide(left: &Proc, right: &Proc) -> Result<bool, Memory>

@@ -21,9 +21,9 @@ mod table;
 mod whole;
 
 pub use decide::holds;
-pub use fronts::{alt_first, behind, same_branch, skip_first};
-pub use guards::{are_events, are_plain_events, has_skip, is_event, same_guard};
+pub use fronts::{alt_first, behind, skip_first};
+pub use guards::{are_events, are_plain_events, has_skip, is_event};
 pub use least::alt_pair;
-pub use occ_law_shape::{Form, LawId, LawPlace as Place, Store, opened};
+pub use occ_law_shape::{Changes, Family, Form, LawId, LawPlace as Place, Store, alt_of, opened};
 pub use places::is_plain_event;
 pub use table::right;

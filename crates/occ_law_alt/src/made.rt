@@ -1,26 +1,12 @@
 ghost use Rattle.std.specs.Prelude.{◌≡◌, IfOk, OnOk, true};
-ghost use Rattle.occ_syntax.specs.Tree.{alt, ready, select, truth};
-ghost use Rattle.occ_syntax.specs.View.{branches, cases, exp, in_alternatives, in_choices, tree, waiting};
+ghost use Rattle.occ_syntax.specs.Tree.{alt, ready, truth};
+ghost use Rattle.occ_syntax.specs.View.{branches, exp, in_alternatives, tree, waiting};
 ghost use Rattle.occ_law_shape.specs.occ_law.Lists.{all_branches};
 ghost use Rattle.occ_law_alt.specs.Fronts.{in_front, IsSameBranch};
 
-use occ_law_shape::Memory;
-use occ_syntax::{Alternatives, Choices, Expr, Guard, Proc, Wait};
+use occ_law_shape::alt_of;
+use occ_syntax::{Alternatives, Expr, Guard, Memory, Proc, Wait};
 use std::alloc::Global;
-
-/// The ALT of branches.
-pub(crate) fn alt_of(alternatives: Alternatives) -> Proc
-    ensures { tree result ≡ alt (branches (in_alternatives alternatives)) }
-{
-    Proc::Alt(alternatives)
-}
-
-/// The IF of choices.
-pub(crate) fn if_of(choices: Choices) -> Proc
-    ensures { tree result ≡ select (cases (in_choices choices)) }
-{
-    Proc::If(choices)
-}
 
 /// A branch TRUE & SKIP of a process.
 pub(crate) fn skip_branch(process: Proc) -> (Guard, Proc)

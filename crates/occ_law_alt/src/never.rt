@@ -6,8 +6,8 @@ ghost use Rattle.occ_law_shape.specs.occ_law.Choice.{AltFalse};
 ghost use Rattle.occ_law_shape.specs.Answer.{IsAnswer};
 
 use crate::lacking::lacking;
-use occ_law_shape::{Memory, Store, is_never, law_case};
-use occ_syntax::{Proc, Scope};
+use occ_law_shape::{Store, is_never, law_case};
+use occ_syntax::{Memory, Proc, Scope};
 use std::alloc::Global;
 
 /// ALT(gs, B, hs) = ALT(gs, hs), where the condition of B is FALSE in every state. The error is out of memory.

@@ -5,9 +5,8 @@ ghost use Rattle.occ_law_shape.specs.occ_law.Lists.{BranchesReordered};
 ghost use Rattle.occ_law_shape.specs.Answer.{IsAnswer};
 ghost use Rattle.occ_law_alt.specs.Lacking.{IsCancelled, IsPlaceOf, shown};
 
-use crate::fronts::same_branch;
-use occ_law_shape::{Memory, law_case};
-use occ_syntax::{Guard, Proc};
+use occ_law_shape::law_case;
+use occ_syntax::{Guard, Memory, Proc, same_branch};
 use std::alloc::Global;
 
 /// An ALT = the same branches in any order

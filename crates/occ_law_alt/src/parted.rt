@@ -1,9 +1,8 @@
-ghost use Rattle.std.specs.Prelude.{◌≡◌, ◌↔◌, IsTrue, []};
 ghost use Rattle.occ_syntax.specs.View.{branches, tree};
 ghost use Rattle.occ_law_shape.specs.occ_law.Instances.{sizes};
-ghost use Rattle.occ_law_alt.specs.Parted.{AreBranches, AreSizes, IsAround, IsChosen, IsChosenAt, IsDivided, IsParted, IsPartedAt, IsSize};
+ghost use Rattle.occ_law_alt.specs.Parted.{AreSizes, IsAround, IsChosen, IsChosenAt, IsDivided, IsParted, IsPartedAt};
 
-use occ_law_shape::{Form, LawPlace as Place, opened};
+use occ_law_shape::{LawPlace as Place, branches_of};
 use occ_syntax::{Guard, Proc};
 
 /// The branches of a list in front of a place, and those from it on.
@@ -31,26 +30,6 @@ pub(crate) struct Around<'a> {
     pub(crate) rest: &'a [(Guard, Proc)],
 }
 
-/// Whether a place is the whole part.
-pub(crate) fn is_whole(place: Place) -> bool
-    ensures { IsTrue result ↔ (sizes place ≡ []) }
-{
-    match place {
-        Place::Whole => true,
-        Place::Behind(_) | Place::Between(_, _) => false,
-    }
-}
-
-/// The size of the one list in front of a place; None exactly where there isn't one list.
-fn size_before(place: Place) -> Option<usize>
-    ensures { IsSize (sizes place) result }
-{
-    match place {
-        Place::Behind(size) => Some(size),
-        Place::Whole | Place::Between(_, _) => None,
-    }
-}
-
 /// The sizes of the two lists in front of a place; None exactly where there aren't two.
 fn sizes_before(place: Place) -> Option<(usize, usize)>
     ensures { AreSizes (sizes place) result }
@@ -58,16 +37,6 @@ fn sizes_before(place: Place) -> Option<(usize, usize)>
     match place {
         Place::Between(front, middle) => Some((front, middle)),
         Place::Whole | Place::Behind(_) => None,
-    }
-}
-
-/// The branches of an ALT; None exactly where the process isn't one.
-pub(crate) fn branches_of(part: &Proc) -> Option<&[(Guard, Proc)]>
-    ensures { AreBranches (tree part.now) result }
-{
-    match opened(part) {
-        Form::Alt(alternatives) => Some(alternatives),
-        _ => None,
     }
 }
 
@@ -113,7 +82,7 @@ pub(crate) fn divided(alternatives: &[(Guard, Proc)]) -> Option<(&(Guard, Proc),
 pub(crate) fn parted_at(part: &Proc, place: Place) -> Option<Parted<'_>>
     ensures { IsPartedAt (sizes place) (tree part.now) result }
 {
-    let size = size_before(place)?;
+    let size = place.size_before()?;
     let alternatives = branches_of(part)?;
     parted_behind(alternatives, size)
 }
@@ -122,7 +91,7 @@ pub(crate) fn parted_at(part: &Proc, place: Place) -> Option<Parted<'_>>
 pub(crate) fn chosen_at(part: &Proc, place: Place) -> Option<Chosen<'_>>
     ensures { IsChosenAt (sizes place) (tree part.now) result }
 {
-    let size = size_before(place)?;
+    let size = place.size_before()?;
     let alternatives = branches_of(part)?;
     chosen_behind(alternatives, size)
 }

@@ -5,8 +5,8 @@ ghost use Rattle.occ_law_shape.specs.Answer.{IsAnswer};
 
 use crate::places::{Flat, Same, Split, Twice};
 use crate::search::somewhere;
-use occ_law_shape::{Memory, law_case};
-use occ_syntax::Proc;
+use occ_law_shape::law_case;
+use occ_syntax::{Memory, Proc};
 
 /// ALT(gs, TRUE & SKIP ALT(hs), ks) = ALT(gs, hs, ks), where hs has a branch with the guard TRUE & SKIP
 pub(crate) fn alt_flat(left: &Proc, right: &Proc) -> Result<bool, Memory>

@@ -5,12 +5,12 @@ ghost use Rattle.occ_law_shape.specs.occ_law.Choice.{is_event as waits};
 ghost use Rattle.occ_law_alt.specs.Fronts.{IsChoice, IsSkipPair};
 ghost use Rattle.occ_law_alt.specs.Places.{FlatHere, IsChosen, IsSplit, SameHere, SplitHere, TwiceHere};
 
-use crate::fronts::{after, alt_first, is_joined, same_branches, skip_first};
-use crate::guards::{has_skip, is_event, is_truth, same_guard};
+use crate::fronts::{after, alt_first, is_joined, skip_first};
+use crate::guards::{has_skip, is_event};
 use crate::lacking::lacks;
 use crate::search::BranchPlace;
-use occ_law_shape::{Form, opened};
-use occ_syntax::{Guard, Proc, same_proc};
+use occ_law_shape::{Form, is_truth, opened};
+use occ_syntax::{Guard, Proc, same_branches, same_guard, same_proc};
 
 /// An ALT in an ALT, whose branches take its place.
 #[derive(Clone, Copy)]

@@ -8,11 +8,11 @@ ghost use Rattle.occ_law_shape.specs.occ_law.Choice.{AltCase, AltFalse, AltFlat,
 ghost use Rattle.occ_law_shape.specs.occ_law.Lists.{all_branches};
 ghost use Rattle.occ_law_alt.specs.Fronts.{in_front};
 
-use crate::made::{alt_of_copies, around, copied, if_of, joined, linked, skip_branch};
+use crate::made::{alt_of_copies, around, copied, joined, linked, skip_branch};
 use crate::parted::{chosen_at, divided, parted_at};
-use crate::{alt_first, are_events, behind, has_skip, is_plain_event, same_guard};
-use occ_law_shape::{LawPlace as Place, Memory, Store, is_never};
-use occ_syntax::{Choices, Expr, Guard, Proc, Scope};
+use crate::{alt_first, are_events, behind, has_skip, is_plain_event};
+use occ_law_shape::{LawPlace as Place, Store, if_of, is_never};
+use occ_syntax::{Choices, Expr, Guard, Memory, Proc, Scope, same_guard};
 use std::alloc::Global;
 
 /// ALT(gs, B, hs) = ALT(gs, hs), where the condition of B is FALSE in every state. The error is out of memory.

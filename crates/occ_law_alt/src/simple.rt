@@ -4,8 +4,8 @@ ghost use Rattle.occ_law_shape.specs.occ_law.Choice.{AltNone, AltSkip};
 ghost use Rattle.occ_law_shape.specs.Answer.{IsAnswer};
 
 use crate::fronts::skip_first;
-use occ_law_shape::{Memory, law_case, shape};
-use occ_syntax::{Proc, same_proc};
+use occ_law_shape::{law_case, shape};
+use occ_syntax::{Memory, Proc, same_proc};
 
 /// ALT() = STOP
 pub(crate) fn alt_none(left: &Proc, right: &Proc) -> Result<bool, Memory>

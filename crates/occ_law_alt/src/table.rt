@@ -8,8 +8,8 @@ ghost use Rattle.occ_law_shape.specs.occ_law.Instances.{IsInstance};
 use crate::between::{alt_same, alt_twice};
 use crate::right_placed::{alt_case, alt_false, alt_flat, alt_slide, alt_split};
 use crate::whole::{alt_least, alt_none, alt_skip};
-use occ_law_shape::{LawId, LawPlace as Place, Memory, Store};
-use occ_syntax::{Proc, Scope};
+use occ_law_shape::{Law, LawId, LawPlace as Place, Store};
+use occ_syntax::{Memory, Proc, Scope};
 use std::alloc::Global;
 
 /// What a law of ALT, from alt-none to alt-least, makes of a part at a place, where it holds there: the right side whose left
@@ -30,17 +30,18 @@ pub fn right(
     requires left { Keeps (environment scope.now) (tree left.now) }
     ensures { IfOk result (IsInstance law.0 scope.now (tree left.now) place) }
 {
-    match law.0 {
-        26 => alt_none(left, place),
-        27 => Ok(None),
-        28 => alt_false(alloc, store, scope, left, place),
-        29 => alt_twice(alloc, left, place),
-        30 => alt_skip(alloc, left, place),
-        31 => alt_case(alloc, left, place),
-        32 => alt_flat(alloc, left, place),
-        33 => alt_split(alloc, left, place),
-        34 => alt_same(alloc, left, place),
-        35 => alt_slide(alloc, left, place),
-        _ => alt_least(alloc, left, place),
+    match law.law() {
+        Some(Law::AltNone) => alt_none(left, place),
+        Some(Law::AltOrder) => Ok(None),
+        Some(Law::AltFalse) => alt_false(alloc, store, scope, left, place),
+        Some(Law::AltTwice) => alt_twice(alloc, left, place),
+        Some(Law::AltSkip) => alt_skip(alloc, left, place),
+        Some(Law::AltCase) => alt_case(alloc, left, place),
+        Some(Law::AltFlat) => alt_flat(alloc, left, place),
+        Some(Law::AltSplit) => alt_split(alloc, left, place),
+        Some(Law::AltSame) => alt_same(alloc, left, place),
+        Some(Law::AltSlide) => alt_slide(alloc, left, place),
+        Some(Law::AltLeast) => alt_least(alloc, left, place),
+        _ => Ok(None),
     }
 }

@@ -6,17 +6,16 @@ ghost use Rattle.occ_law_shape.specs.occ_law.Choice.{AltLeast, AltNone, AltSkip,
 ghost use Rattle.occ_law_shape.specs.occ_law.Lists.{all_branches};
 
 use crate::made::{alt_of_copies, around, skip_branch};
-use crate::parted::{branches_of, is_whole};
 use crate::{alt_pair, are_plain_events, behind, skip_first};
-use occ_law_shape::{LawPlace as Place, Memory};
-use occ_syntax::{Guard, Proc};
+use occ_law_shape::{LawPlace as Place, branches_of};
+use occ_syntax::{Guard, Memory, Proc};
 use std::alloc::Global;
 
 /// ALT() = STOP
 pub(crate) fn alt_none(left: &Proc, place: Place) -> Result<Option<Proc>, Memory>
     ensures { IfOk result (IsOnly (AltNone (sizes place)) (tree left.now)) }
 {
-    if !is_whole(place) {
+    if !place.is_whole() {
         return Ok(None);
     }
     let Some(alternatives) = branches_of(left) else {
@@ -32,7 +31,7 @@ pub(crate) fn alt_none(left: &Proc, place: Place) -> Result<Option<Proc>, Memory
 pub(crate) fn alt_skip(alloc: Global, left: &Proc, place: Place) -> Result<Option<Proc>, Memory>
     ensures { IfOk result (IsOnly (AltSkip (sizes place)) (tree left.now)) }
 {
-    if !is_whole(place) {
+    if !place.is_whole() {
         return Ok(None);
     }
     let Some(alternatives) = branches_of(left) else {
@@ -52,7 +51,7 @@ pub(crate) fn alt_skip(alloc: Global, left: &Proc, place: Place) -> Result<Optio
 pub(crate) fn alt_least(alloc: Global, left: &Proc, place: Place) -> Result<Option<Proc>, Memory>
     ensures { IfOk result (IsOnly (AltLeast (sizes place)) (tree left.now)) }
 {
-    if !is_whole(place) {
+    if !place.is_whole() {
         return Ok(None);
     }
     let Some(alternatives) = branches_of(left) else {

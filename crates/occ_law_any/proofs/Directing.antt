@@ -2,15 +2,16 @@
 use Rattle.std.proofs.Common.{◌≡◌, ◌∙◌, ℕ, ◌<◌, ◌≤◌, ◌==◌, ◌&&◌, ◌||◌, ◌+◌, ◌⊎◌, inl, inr, arith, Bool, true, false, nat_lt, List, [], ◌∷◌, Option, None, Some, Result, IfOk, refl, sym, ap, subst}
 use Rattle.std.proofs.lemmas.Bool.{eqb-true, ltb-false, ltb-true}
 use Rattle.std.proofs.lemmas.Result.{IfOk-weaker}
-use Rattle.occ_usage.specs.occ_base.declared.memory.Memory.{Memory}
-use Rattle.occ_usage.specs.occ_base.declared.names.Name.{Name}
+use Rattle.occ_syntax.specs.occ_base.declared.memory.Memory.{Memory}
+use Rattle.occ_syntax.specs.occ_base.declared.names.Name.{Name}
 use Rattle.occ_law_alt.specs.occ_law.declared.place.Place.TheVariants.{Whole}
 use Rattle.occ_law_alt.specs.occ_law.RuleTable.{IsChange, is_before}
 use Rattle.occ_syntax.specs.declared.proc.Proc.{Proc}
 use Rattle.occ_syntax.specs.declared.scope.Kind.{Kind}
 use Rattle.occ_syntax.specs.Tree.{Tree}
 use Rattle.occ_law_any.specs.Changes.{IsChangeAt, IsDirectResult, IsFirstBehind, IsFirstBetween, IsFirstMore, IsUnchanged}
-use Rattle.occ_law_any.specs.Places.{breadth_of, lists_of}
+use Rattle.occ_law_alt.specs.occ_law.Numbers.{lists_of}
+use Rattle.occ_law_any.specs.Places.{breadth_of}
 use Rattle.occ_law_any.proofs.Placing.{IsPlaced, placed}
 
 -- a number below the next one is below this one, or it is this one

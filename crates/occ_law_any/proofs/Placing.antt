@@ -1,9 +1,8 @@
 -- The place of each law's instances: so many lists in front of it as the law's number tells, none longer than the part's.
-use Rattle.std.proofs.Common.{◌≡◌, ◌∙◌, ℕ, zero, suc, ◌==◌, ◌≤◌, arith, Bool, true, false, true≢false, MatchBool, List, [], ◌∷◌, nat_le, if◌then◌else◌, refl, sym, subst}
+use Rattle.std.proofs.Common.{◌≡◌, ◌∙◌, ℕ, zero, suc, ◌==◌, ◌≤◌, arith, Bool, true, false, true≢false, MatchBool, List, [], ◌∷◌, nat_le, refl, sym, subst}
 use Rattle.std.proofs.lemmas.Bool.{eqb-true}
-use Rattle.occ_usage.specs.occ_base.declared.names.Name.{Name}
+use Rattle.occ_syntax.specs.occ_base.declared.names.Name.{Name}
 use Rattle.occ_syntax.specs.declared.scope.Kind.{Kind}
-use Rattle.occ_syntax.specs.Names.{is_in}
 use Rattle.occ_syntax.specs.Scopes.{Environment, environment}
 use Rattle.occ_syntax.specs.Tree.{Branches, Cases, Exp, Tree, Trees, Waiting, and_branch, and_case, and_tree, no_branch, no_case, no_tree}
 use Rattle.occ_usage.specs.occ_meaning.Parallel.{all_of}
@@ -20,7 +19,8 @@ use Rattle.occ_law_alt.specs.occ_law.Parallel.{ParOne, ParOrder, ParSkip, ParSto
 use Rattle.occ_law_alt.specs.occ_law.Scope.{chan_alt, chan_if, chan_par, chan_rename, chan_seq, chan_swap, chan_unused, ChanAlt, ChanIf, ChanPar, ChanRename, ChanSeq, ChanSwap, ChanUnused, ScopeSides}
 use Rattle.occ_law_alt.specs.occ_law.Scope.{swap_variables, swap_with_channel, var_alt, var_any, var_assign, var_end, var_first, var_if, var_last, var_par, var_rename, var_unused, VarAlt, VarAny}
 use Rattle.occ_law_alt.specs.occ_law.Scope.{VarAssign, VarEnd, VarFirst, VarIf, VarLast, VarPar, VarRename, VarSwap, VarUnused}
-use Rattle.occ_law_any.specs.Places.{breadth_of, lists_of}
+use Rattle.occ_law_alt.specs.occ_law.Numbers.{lists_of}
+use Rattle.occ_law_any.specs.Places.{breadth_of}
 
 -- that many lists stand in front of a place, each no longer than the list of the part
 abbrev pub IsPlaced : ℕ → Tree → List ℕ → Type 0
@@ -340,12 +340,3 @@ pub placed : (n : ℕ) (S : List (Name × Kind)) (ks : List ℕ) (l r : Tree) �
 placed n S ks l r =
     by_case (has_direct n) (λ e. by_case (n == 52) (λ f x. subst (λ m. IsPlaced (lists_of m) l ks) (sym (eqb-true n 52 f)) (var_alt_placed ks l r x)) (λ other. sides_placed n S ks l r other))
     (λ e z. absurd z)
-
--- no law has more than two lists in front of its place
-pub at_most_two : (n : ℕ) → lists_of n ≤ 2
-at_most_two n = by_tests (is_in (29 ∷ 34 ∷ []) n) (is_in (3 ∷ 4 ∷ 5 ∷ 17 ∷ 19 ∷ 20 ∷ 21 ∷ 22 ∷ 23 ∷ 25 ∷ 28 ∷ 31 ∷ 32 ∷ 33 ∷ 35 ∷ 39 ∷ 41 ∷ []) n)
-  where
-    by_tests : (a b : Bool) → (if a then 2 else if b then 1 else 0) ≤ 2
-    by_tests true b = omega arith
-    by_tests false true = omega arith
-    by_tests false false = omega arith

@@ -1,6 +1,6 @@
 -- What is found where a law is asked of a part: at one place, at all places, and as its direct result.
 use Rattle.std.specs.Prelude.{ℕ, ◌≡◌, ◌<◌, ◌≤◌, List, [], ◌∷◌, Option, None, Some}
-use Rattle.occ_usage.specs.occ_base.declared.names.Name.{Name}
+use Rattle.occ_syntax.specs.occ_base.declared.names.Name.{Name}
 use Rattle.occ_law_alt.specs.occ_law.declared.place.Place.{Place}
 use Rattle.occ_law_alt.specs.occ_law.Instances.{sizes}
 use Rattle.occ_law_alt.specs.occ_law.RuleTable.{IsChange, IsDirect}

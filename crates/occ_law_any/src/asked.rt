@@ -2,7 +2,7 @@
 
 ghost use Rattle.std.specs.Prelude.{◌≡◌, IfOk, true};
 ghost use Rattle.occ_law_any.specs.Changes.{IsChangeAt, IsKept};
-ghost use Rattle.occ_law_any.specs.Places.{breadth_of, lists_of};
+ghost use Rattle.occ_law_any.specs.Places.{breadth_of};
 ghost use Rattle.occ_syntax.specs.Scopes.{environment};
 ghost use Rattle.occ_syntax.specs.Types.{scope_kept};
 ghost use Rattle.occ_syntax.specs.Usage.{Keeps};
@@ -10,8 +10,8 @@ ghost use Rattle.occ_syntax.specs.View.{tree};
 
 use crate::right;
 use occ_law_alt::{Form, LawId, Place, Store, opened};
-use occ_syntax::{Proc, Program, Scope, same_proc};
-use occ_usage::{Memory, Name, keeps};
+use occ_syntax::{Memory, Name, Proc, Program, Scope, same_proc};
+use occ_usage::keeps;
 use std::alloc::Global;
 
 /// A law asked of a part in a scope.
@@ -20,20 +20,6 @@ pub(crate) struct Asked<'a> {
     pub(crate) law: LawId,
     pub(crate) scope: &'a Scope,
     pub(crate) left: &'a Proc,
-}
-
-/// How many lists stand in front of the place at which a law changes a part.
-pub(crate) fn lists(law: LawId) -> usize
-    ensures { result ≡ lists_of law.0 }
-{
-    match law.0 {
-        29 | 34 => 2,
-        3 | 4 | 5 => 1,
-        17 | 19 | 20 | 21 | 22 | 23 | 25 => 1,
-        28 | 31 | 32 | 33 | 35 => 1,
-        39 | 41 => 1,
-        _ => 0,
-    }
 }
 
 /// How many items the list of a part has.

@@ -8,10 +8,9 @@ ghost use Rattle.occ_syntax.specs.Types.{scope_kept};
 ghost use Rattle.occ_syntax.specs.Usage.{Keeps};
 ghost use Rattle.occ_syntax.specs.View.{tree};
 
-use crate::asked::{Asked, breadth, change_at, lists};
-use occ_law_alt::{LawId, Place, Store};
-use occ_syntax::{Proc, Scope};
-use occ_usage::Memory;
+use crate::asked::{Asked, breadth, change_at};
+use occ_law_alt::{Changes, LawId, Place, Store};
+use occ_syntax::{Memory, Proc, Scope};
 use std::alloc::Global;
 
 /// The first change behind some items.
@@ -86,10 +85,13 @@ pub fn direct(
     requires left { Keeps (environment scope.now) (tree left.now) }
     ensures { IfOk result (IsDirectResult law.0 scope.now (tree left.now)) }
 {
+    let Some(known) = law.law() else {
+        return Ok(None);
+    };
     let asked = Asked { law, scope, left };
-    match lists(law) {
-        0 => change_at(alloc, store, &asked, Place::Whole),
-        1 => first_behind(alloc, store, &asked, breadth(left)),
-        _ => first_between(alloc, store, &asked, breadth(left)),
+    match known.changes() {
+        Changes::Whole => change_at(alloc, store, &asked, Place::Whole),
+        Changes::Behind => first_behind(alloc, store, &asked, breadth(left)),
+        Changes::Between => first_between(alloc, store, &asked, breadth(left)),
     }
 }

@@ -7,9 +7,8 @@ ghost use Rattle.occ_syntax.specs.Types.{scope_kept};
 ghost use Rattle.occ_syntax.specs.Usage.{Keeps};
 ghost use Rattle.occ_syntax.specs.View.{tree};
 
-use occ_law_alt::{LawId, Store};
-use occ_syntax::{Proc, Scope};
-use occ_usage::Memory;
+use occ_law_alt::{Family, LawId, Store};
+use occ_syntax::{Memory, Proc, Scope};
 use std::alloc::Global;
 
 /// Whether two parts are the two sides of the law of that number in a scope, the left one first. Both parts keep names, types,
@@ -28,12 +27,14 @@ pub fn holds(
     requires right { Keeps (environment scope.now) (tree right.now) }
     ensures { IfOk result (λ answer. IsTrue answer ↔ LAW law.0 scope.now (tree left.now) (tree right.now)) }
 {
-    match law.0 {
-        1..=15 => occ_law_right::law_seq_holds(alloc, store, law, scope, left, right),
-        16..=25 => occ_law_if::holds(alloc, store, law, scope, left, right),
-        26..=36 => occ_law_alt::holds(alloc, store, law, scope, left, right),
-        37..=45 => occ_law_par::holds(alloc, store, law, scope, left, right),
-        46..=63 => occ_law_right::holds(alloc, store, law, scope, left, right),
-        _ => Ok(false),
+    let Some(known) = law.law() else {
+        return Ok(false);
+    };
+    match known.family() {
+        Family::Seq => occ_law_right::law_seq_holds(alloc, store, law, scope, left, right),
+        Family::If => occ_law_if::holds(alloc, store, law, scope, left, right),
+        Family::Alt => occ_law_alt::holds(alloc, store, law, scope, left, right),
+        Family::Par => occ_law_par::holds(alloc, store, law, scope, left, right),
+        Family::Scope => occ_law_right::holds(alloc, store, law, scope, left, right),
     }
 }

@@ -8,6 +8,6 @@ mod right_sides;
 
 pub use first::direct;
 pub use holding::holds;
-pub use occ_law_alt::{Form, opened};
+pub use occ_law_alt::{Form, alt_of, opened};
 pub use occ_usage::{Accepted, UsageFault, check, keeps_exchanged};
 pub use right_sides::right;

@@ -7,9 +7,8 @@ ghost use Rattle.occ_syntax.specs.Types.{scope_kept};
 ghost use Rattle.occ_syntax.specs.Usage.{Keeps};
 ghost use Rattle.occ_syntax.specs.View.{tree};
 
-use occ_law_alt::{LawId, Place, Store};
-use occ_syntax::{Proc, Scope};
-use occ_usage::Memory;
+use occ_law_alt::{Family, LawId, Place, Store};
+use occ_syntax::{Memory, Proc, Scope};
 use std::alloc::Global;
 
 /// What a law makes of a part at a place, where it holds there: the right side whose left side is the part. None exactly where
@@ -27,18 +26,14 @@ pub fn right(
     requires left { Keeps (environment scope.now) (tree left.now) }
     ensures { IfOk result (IsInstance law.0 scope.now (tree left.now) place) }
 {
-    if law.0 == 0 || law.0 > 63 {
+    let Some(known) = law.law() else {
         return Ok(None);
-    }
-    if law.0 <= 15 {
-        occ_law_right::sequence_right(alloc, law, scope, left, place)
-    } else if law.0 <= 25 {
-        occ_law_if::right(alloc, store, law, scope, left, place)
-    } else if law.0 <= 36 {
-        occ_law_alt::right(alloc, store, law, scope, left, place)
-    } else if law.0 <= 45 {
-        occ_law_par::right(alloc, store, law, scope, left, place)
-    } else {
-        occ_law_right::scope_right(alloc, law, scope, left, place)
+    };
+    match known.family() {
+        Family::Seq => occ_law_right::sequence_right(alloc, law, scope, left, place),
+        Family::If => occ_law_if::right(alloc, store, law, scope, left, place),
+        Family::Alt => occ_law_alt::right(alloc, store, law, scope, left, place),
+        Family::Par => occ_law_par::right(alloc, store, law, scope, left, place),
+        Family::Scope => occ_law_right::scope_right(alloc, law, scope, left, place),
     }
 }

@@ -1,5 +1,5 @@
 -- Lists of choices taken apart: at the front, and behind the choices of another list.
-use Rattle.std.proofs.Common.{◌≡◌, ◌↔◌, Bool, IsTrue, List, [], ◌∷◌, length, arith, refl, ap, sym, ◌∙◌}
+use Rattle.std.proofs.Common.{◌≡◌, ◌↔◌, List, [], ◌∷◌, length, arith, refl, ap, sym, ◌∙◌}
 use Rattle.occ_syntax.specs.declared.expr.Expr.{Expr}
 use Rattle.occ_syntax.specs.declared.proc.Proc.{Proc}
 use Rattle.occ_syntax.specs.Tree.{Exp, Tree, Cases, no_case, and_case}
@@ -69,16 +69,6 @@ behind_ends first all xs ys b p cs e f same r k =
 
 pub behind_whole : (first all xs ys : Cases) → xs ≡ no_case → ((r : Cases) → (ys ≡ all_cases xs r) ↔ (all ≡ all_cases first r)) → all ≡ all_cases first ys
 behind_whole first all xs ys e same = (same ys).0 (ap (λ z. all_cases z ys) (sym e))
-
--- two lists are the same where one has nothing behind the other
-pub same_where_none : (xs ys : Cases) (rest : List (Expr × Proc)) (b : Bool) → ys ≡ all_cases xs (cases rest) → (IsTrue b ↔ (length rest ≡ 0)) → IsTrue b ↔ (xs ≡ ys)
-same_where_none xs ys rest b e test = (
-  (λ h. sym (e ∙ ap (all_cases xs) (cases_none rest (test.0 h)) ∙ all_cases-none xs)),
-  (λ g. test.1 (none_of_cases rest (rests_are xs (cases rest) no_case (sym e ∙ sym g ∙ sym (all_cases-none xs))))),
-)
-
-pub never_same : (xs ys : Cases) → ((r : Cases) → ys ≡ all_cases xs r → ⊥) → xs ≡ ys → ⊥
-never_same xs ys never e = never no_case (sym e ∙ sym (all_cases-none xs))
 
 -- ---- copies
 

@@ -1,6 +1,6 @@
 -- What if-false, if-nest, if-swap and if-merge change at a place: the law, and its test there.
 use Rattle.std.proofs.Common.{◌≡◌, ℕ, ◌↔◌, Bool, IsTrue, true, List, [], ◌∷◌, refl, ap, sym, ◌∙◌, subst}
-use Rattle.occ_law_shape.specs.occ_base.declared.names.Name.{Name}
+use Rattle.occ_syntax.specs.occ_base.declared.names.Name.{Name}
 use Rattle.occ_syntax.specs.declared.expr.Op.TheVariants.{And, Or}
 use Rattle.occ_syntax.specs.declared.scope.Kind.{Kind}
 use Rattle.occ_syntax.specs.Scopes.{Environment, environment}

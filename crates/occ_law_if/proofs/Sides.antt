@@ -1,6 +1,6 @@
 -- if-none, if-true, if-else-stop, if-cut and if-copy by what stands in the lists.
 use Rattle.std.proofs.Common.{◌≡◌, ℕ, ◌↔◌, Bool, IsTrue, true, List, [], ◌∷◌, length, refl, ap, sym, ◌∙◌, subst}
-use Rattle.occ_law_shape.specs.occ_base.declared.names.Name.{Name}
+use Rattle.occ_syntax.specs.occ_base.declared.names.Name.{Name}
 use Rattle.occ_syntax.specs.declared.expr.Expr.{Expr}
 use Rattle.occ_syntax.specs.declared.proc.Proc.{Proc}
 use Rattle.occ_syntax.specs.declared.scope.Kind.{Kind}

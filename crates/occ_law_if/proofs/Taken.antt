@@ -1,6 +1,6 @@
 -- if-under as a change at a place, and its test there.
 use Rattle.std.proofs.Common.{◌≡◌, ℕ, ◌↔◌, Bool, IsTrue, List, [], ◌∷◌, refl, sym, ◌∙◌, subst}
-use Rattle.occ_law_shape.specs.occ_base.declared.names.Name.{Name}
+use Rattle.occ_syntax.specs.occ_base.declared.names.Name.{Name}
 use Rattle.occ_syntax.specs.declared.scope.Kind.{Kind}
 use Rattle.occ_syntax.specs.Tree.{Exp, Tree, assign, seq, select, alt, Trees, and_tree, Cases, no_case, and_case}
 use Rattle.occ_law_shape.specs.occ_law.Choice.{IfUnder, under_assignment, under_seq, under_alt}

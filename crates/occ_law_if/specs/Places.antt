@@ -1,6 +1,6 @@
 -- Two lists of choices that are equal up to a place, and what if-false, if-nest, if-swap, if-merge and if-under change there.
 use Rattle.std.specs.Prelude.{List, [], ◌∷◌}
-use Rattle.occ_law_shape.specs.occ_base.declared.names.Name.{Name}
+use Rattle.occ_syntax.specs.occ_base.declared.names.Name.{Name}
 use Rattle.occ_syntax.specs.declared.expr.Op.TheVariants.{Or}
 use Rattle.occ_syntax.specs.declared.scope.Kind.{Kind}
 use Rattle.occ_syntax.specs.Scopes.{environment}

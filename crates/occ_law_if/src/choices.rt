@@ -74,16 +74,6 @@ pub(crate) fn behind<'a>(
     Some(rest)
 }
 
-/// Whether two lists of choices are the same.
-pub(crate) fn same_choices(left: &[(Expr, Proc)], right: &[(Expr, Proc)]) -> bool
-    ensures { IsTrue result ↔ (cases left.now ≡ cases right.now) }
-{
-    match behind(left, right) {
-        Some(rest) => rest.is_empty(),
-        None => false,
-    }
-}
-
 /// Whether all choices have one process.
 pub(crate) fn are_copies(choices: &[(Expr, Proc)], part: &Proc) -> bool
     ensures { IsTrue result ↔ (cases choices.now ≡ copies (conditions (cases choices.now)) (tree part.now)) }

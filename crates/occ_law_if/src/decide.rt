@@ -8,8 +8,8 @@ ghost use Rattle.occ_law_shape.specs.occ_law.RuleTable.{LAW};
 use crate::placed::{if_false, if_merge, if_nest, if_swap};
 use crate::simple::{if_copy, if_cut, if_else_stop, if_none, if_true};
 use crate::under::if_under;
-use occ_law_shape::{LawId, Memory, Store};
-use occ_syntax::{Proc, Scope};
+use occ_law_shape::{Law, LawId, Store};
+use occ_syntax::{Memory, Proc, Scope};
 use std::alloc::Global;
 
 /// Whether two parts are the two sides of a law of IF in a scope, from if-none to if-under. Both parts keep names, types,
@@ -29,16 +29,17 @@ pub fn holds(
     requires right { Keeps (environment scope.now) (tree right.now) }
     ensures { IfOk result (λ answer. IsTrue answer ↔ LAW law.0 scope.now (tree left.now) (tree right.now)) }
 {
-    match law.0 {
-        16 => if_none(left, right),
-        17 => if_false(alloc, store, scope, left, right),
-        18 => if_true(alloc, store, scope, left, right),
-        19 => if_else_stop(left, right),
-        20 => if_cut(alloc, store, scope, left, right),
-        21 => if_nest(alloc, store, left, right),
-        22 => if_swap(alloc, store, scope, left, right),
-        23 => if_merge(alloc, store, left, right),
-        24 => if_copy(alloc, store, scope, left, right),
-        _ => if_under(alloc, store, scope, left, right),
+    match law.law() {
+        Some(Law::IfNone) => if_none(left, right),
+        Some(Law::IfFalse) => if_false(alloc, store, scope, left, right),
+        Some(Law::IfTrue) => if_true(alloc, store, scope, left, right),
+        Some(Law::IfElseStop) => if_else_stop(left, right),
+        Some(Law::IfCut) => if_cut(alloc, store, scope, left, right),
+        Some(Law::IfNest) => if_nest(alloc, store, left, right),
+        Some(Law::IfSwap) => if_swap(alloc, store, scope, left, right),
+        Some(Law::IfMerge) => if_merge(alloc, store, left, right),
+        Some(Law::IfCopy) => if_copy(alloc, store, scope, left, right),
+        Some(Law::IfUnder) => if_under(alloc, store, scope, left, right),
+        _ => Ok(false),
     }
 }

@@ -1,29 +1,13 @@
 ghost use Rattle.std.specs.Prelude.{◌≡◌, IfOk, OnOk};
-ghost use Rattle.occ_syntax.specs.Tree.{and_case, operation, select};
+ghost use Rattle.occ_syntax.specs.Tree.{and_case, select};
 ghost use Rattle.occ_syntax.specs.View.{cases, exp, in_choices, tree};
 ghost use Rattle.occ_law_shape.specs.occ_law.Choice.{each_case_under};
 ghost use Rattle.occ_law_shape.specs.occ_law.Lists.{all_cases};
 ghost use Rattle.occ_law_if.specs.Made.{IsPut};
 
-use occ_law_shape::Memory;
-use occ_syntax::{Choices, Expr, Op, Proc};
+use occ_law_shape::{if_of, operated};
+use occ_syntax::{Choices, Expr, Memory, Op, Proc};
 use std::alloc::Global;
-
-/// The expression of an operator between copies of two operands.
-pub(crate) fn operated(alloc: Global, op: Op, left: &Expr, right: &Expr) -> Result<Expr, Memory>
-    ensures { IfOk result (λ whole. exp whole ≡ operation op (exp left.now) (exp right.now)) }
-{
-    let first = Box::new(alloc, left.copy(alloc)?)?;
-    let second = Box::new(alloc, right.copy(alloc)?)?;
-    Ok(Expr::Two(op, first, second))
-}
-
-/// The IF of choices.
-pub(crate) fn if_of(choices: Choices) -> Proc
-    ensures { tree result ≡ select (cases (in_choices choices)) }
-{
-    Proc::If(choices)
-}
 
 /// Adds a choice.
 pub(crate) fn add(made: &mut Choices, condition: Expr, process: Proc) -> Result<(), Memory>

@@ -10,11 +10,10 @@ ghost use Rattle.occ_law_shape.specs.Answer.{IsAnswer};
 ghost use Rattle.occ_law_if.specs.Fronts.{IsBehindUnder, IsLedBy};
 ghost use Rattle.occ_law_if.specs.Places.{FalseHere, MergeHere, NestHere, SwapHere, no_false_at_end, no_merge_at_end, no_nest_at_end, no_swap_at_end};
 
-use crate::choices::{Front, divided, is_operation, led, same_choices};
+use crate::choices::{Front, divided, is_operation, led};
 use crate::places::{ChoicePlace, Here, somewhere};
-use crate::simple::is_stop;
-use occ_law_shape::{Form, Memory, Store, exclude_each_other, is_never, law_case, opened};
-use occ_syntax::{Expr, Op, Proc, Scope, same_expr, same_proc};
+use occ_law_shape::{Form, Store, exclude_each_other, is_never, is_stop, law_case, opened};
+use occ_syntax::{Expr, Memory, Op, Proc, Scope, same_choices, same_expr, same_proc};
 use std::alloc::Global;
 
 /// A choice that is never taken, which leaves. Of equal ones in a row any one may leave.

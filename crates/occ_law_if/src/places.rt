@@ -4,8 +4,8 @@ ghost use Rattle.occ_syntax.specs.View.{cases, exp, tree};
 ghost use Rattle.occ_law_shape.specs.occ_law.Lists.{all_cases};
 ghost use Rattle.occ_law_if.specs.Places.{Somewhere};
 
-use occ_law_shape::{Memory, Store};
-use occ_syntax::{Expr, Proc, same_expr, same_proc};
+use occ_law_shape::Store;
+use occ_syntax::{Expr, Memory, Proc, same_expr, same_proc};
 use std::alloc::Global;
 
 /// A place of two lists of choices: what stands before it in both, and from it on in each.

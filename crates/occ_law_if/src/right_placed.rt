@@ -2,17 +2,19 @@ ghost use Rattle.std.specs.Prelude.{◌≡◌, ◌↔◌, IfOk, IsTrue, true};
 ghost use Rattle.occ_syntax.specs.Scopes.{environment};
 ghost use Rattle.occ_syntax.specs.Tree.{and_case, no_case, stop, truth};
 ghost use Rattle.occ_syntax.specs.Types.{scope_kept, types_kept};
-ghost use Rattle.occ_syntax.specs.View.{exp, tree};
+ghost use Rattle.occ_syntax.specs.View.{tree};
 ghost use Rattle.occ_law_shape.specs.occ_law.Instances.{IsOnly, sizes};
 ghost use Rattle.occ_law_shape.specs.occ_law.Choice.{IfCut, IfElseStop, IfFalse, IfMerge, IfNest, IfSwap};
 ghost use Rattle.occ_law_if.specs.Chosen.{in_front};
 
-use crate::chosen::{Front, choices_of, chosen, divided, parted};
-use crate::made::{add, add_copy, add_under, copied, finished, if_of, operated};
+use crate::choices::{Front, divided};
+use crate::chosen::{chosen, parted};
+use crate::made::{add, add_copy, add_under, copied, finished};
 use occ_law_shape::{
-    Form, LawPlace as Place, Memory, Store, exclude_each_other, is_exhaustive, is_never, opened,
+    LawPlace as Place, Store, choices_of, exclude_each_other, if_of, is_exhaustive, is_never,
+    is_stop, is_truth, operated,
 };
-use occ_syntax::{Expr, Op, Proc, Scope, same_proc};
+use occ_syntax::{Memory, Op, Proc, Scope, same_proc};
 use std::alloc::Global;
 
 /// IF(cs, b P, ds) = IF(cs, ds), where b is FALSE in every state
@@ -63,26 +65,6 @@ fn is_else_stop(first: &Front<'_>) -> bool
         return false;
     }
     is_stop(first.process)
-}
-
-/// Whether a condition is written as TRUE.
-fn is_truth(condition: &Expr) -> bool
-    ensures { IsTrue result ↔ (exp condition.now ≡ truth true) }
-{
-    match condition {
-        Expr::Bool(truth) => *truth,
-        _ => false,
-    }
-}
-
-/// Whether a process is STOP.
-fn is_stop(part: &Proc) -> bool
-    ensures { IsTrue result ↔ (tree part.now ≡ stop) }
-{
-    match opened(part) {
-        Form::Stop => true,
-        _ => false,
-    }
 }
 
 /// IF(cs, ds) = IF(cs), where in every state some condition of cs is TRUE

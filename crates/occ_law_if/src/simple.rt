@@ -2,13 +2,13 @@ ghost use Rattle.std.specs.Prelude.{◌≡◌, ◌↔◌, IfOk, IsTrue, true};
 ghost use Rattle.occ_syntax.specs.Scopes.{environment};
 ghost use Rattle.occ_syntax.specs.Tree.{and_case, no_case, stop, truth};
 ghost use Rattle.occ_syntax.specs.Types.{scope_kept, types_kept};
-ghost use Rattle.occ_syntax.specs.View.{cases, exp, tree};
+ghost use Rattle.occ_syntax.specs.View.{cases, tree};
 ghost use Rattle.occ_law_shape.specs.occ_law.Choice.{IfCopy, IfCut, IfElseStop, IfNone, IfTrue};
 ghost use Rattle.occ_law_shape.specs.Answer.{IsAnswer};
 
 use crate::choices::{are_copies, behind, divided};
-use occ_law_shape::{Form, Memory, Store, is_always, is_exhaustive, law_case, opened, shape};
-use occ_syntax::{Expr, Proc, Scope, same_proc};
+use occ_law_shape::{Store, is_always, is_exhaustive, is_stop, is_truth, law_case, shape};
+use occ_syntax::{Expr, Memory, Proc, Scope, same_proc};
 use std::alloc::Global;
 
 /// IF() = STOP
@@ -66,25 +66,6 @@ fn is_else_stop(choices: &[(Expr, Proc)]) -> bool
             is_stop(first.process)
         }
         None => false,
-    }
-}
-
-fn is_truth(condition: &Expr) -> bool
-    ensures { IsTrue result ↔ (exp condition.now ≡ truth true) }
-{
-    match condition {
-        Expr::Bool(truth) => *truth,
-        _ => false,
-    }
-}
-
-/// Whether a process is STOP.
-pub(crate) fn is_stop(part: &Proc) -> bool
-    ensures { IsTrue result ↔ (tree part.now ≡ stop) }
-{
-    match opened(part) {
-        Form::Stop => true,
-        _ => false,
     }
 }
 

@@ -7,8 +7,8 @@ ghost use Rattle.occ_law_shape.specs.occ_law.Instances.{IsInstance};
 
 use crate::right_placed::{if_cut, if_else_stop, if_false, if_merge, if_nest, if_swap};
 use crate::whole::{if_none, if_true};
-use occ_law_shape::{LawId, LawPlace as Place, Memory, Store};
-use occ_syntax::{Proc, Scope};
+use occ_law_shape::{Law, LawId, LawPlace as Place, Store};
+use occ_syntax::{Memory, Proc, Scope};
 use std::alloc::Global;
 
 /// What a law of IF, from if-none to if-under, makes of a part at a place, where it holds there: the right side whose left side
@@ -30,15 +30,15 @@ pub fn right(
     requires left { Keeps (environment scope.now) (tree left.now) }
     ensures { IfOk result (IsInstance law.0 scope.now (tree left.now) place) }
 {
-    match law.0 {
-        16 => Ok(if_none(left, place)),
-        17 => if_false(alloc, store, scope, left, place),
-        18 => if_true(alloc, store, scope, left, place),
-        19 => if_else_stop(alloc, left, place),
-        20 => if_cut(alloc, store, scope, left, place),
-        21 => if_nest(alloc, left, place),
-        22 => if_swap(alloc, store, scope, left, place),
-        23 => if_merge(alloc, left, place),
+    match law.law() {
+        Some(Law::IfNone) => Ok(if_none(left, place)),
+        Some(Law::IfFalse) => if_false(alloc, store, scope, left, place),
+        Some(Law::IfTrue) => if_true(alloc, store, scope, left, place),
+        Some(Law::IfElseStop) => if_else_stop(alloc, left, place),
+        Some(Law::IfCut) => if_cut(alloc, store, scope, left, place),
+        Some(Law::IfNest) => if_nest(alloc, left, place),
+        Some(Law::IfSwap) => if_swap(alloc, store, scope, left, place),
+        Some(Law::IfMerge) => if_merge(alloc, left, place),
         _ => Ok(None),
     }
 }

@@ -8,13 +8,12 @@ ghost use Rattle.occ_law_shape.specs.Answer.{IsAnswer};
 ghost use Rattle.occ_law_if.specs.Places.{UnderHere, no_under_at_end};
 ghost use Rattle.occ_law_if.specs.Processes.{AssignmentsEqual, ProcessesEqual};
 
-use crate::choices::{divided, same_choices};
+use crate::choices::divided;
 use crate::places::{ChoicePlace, Here, somewhere};
 use occ_law_shape::{
-    Equality, Form, Memory, Store, Where, branches_equal, each_equal, law_case, opened, same_names,
-    same_procs, shape,
+    Equality, Form, Store, Where, branches_equal, each_equal, law_case, opened, shape,
 };
-use occ_syntax::{Proc, Scope, same_expr};
+use occ_syntax::{Memory, Proc, Scope, same_choices, same_expr, same_names, same_procs};
 use std::alloc::Global;
 
 /// A choice whose process changes in expressions alone, which are equal where the choice is taken.

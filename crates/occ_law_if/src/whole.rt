@@ -5,16 +5,16 @@ ghost use Rattle.occ_syntax.specs.View.{tree};
 ghost use Rattle.occ_law_shape.specs.occ_law.Instances.{IsOnly, sizes};
 ghost use Rattle.occ_law_shape.specs.occ_law.Choice.{IfNone, IfTrue};
 
-use crate::chosen::{choices_of, chosen, is_whole};
-use occ_law_shape::{LawPlace as Place, Memory, Store, is_always};
-use occ_syntax::{Proc, Scope};
+use crate::chosen::chosen;
+use occ_law_shape::{LawPlace as Place, Store, choices_of, is_always};
+use occ_syntax::{Memory, Proc, Scope};
 use std::alloc::Global;
 
 /// IF() = STOP
 pub(crate) fn if_none(left: &Proc, place: Place) -> Option<Proc>
     ensures { IsOnly (IfNone (sizes place)) (tree left.now) result }
 {
-    if !is_whole(place) {
+    if !place.is_whole() {
         return None;
     }
     let choices = choices_of(left)?;
@@ -36,7 +36,7 @@ pub(crate) fn if_true(
     requires left { types_kept (tree left.now) (environment scope.now) ≡ true }
     ensures { IfOk result (IsOnly (IfTrue scope.now (sizes place)) (tree left.now)) }
 {
-    if !is_whole(place) {
+    if !place.is_whole() {
         return Ok(None);
     }
     let Some(at) = chosen(left, Place::Behind(0)) else {

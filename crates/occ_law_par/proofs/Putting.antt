@@ -4,11 +4,10 @@ use Rattle.occ_syntax.specs.declared.expr.Expr.{Expr}
 use Rattle.occ_syntax.specs.declared.expr.Guard.{Guard}
 use Rattle.occ_syntax.specs.declared.proc.Proc.{Proc, Skip}
 use Rattle.occ_syntax.specs.Tree.{Exp, Waiting, Tree, skip, seq, par, Trees, no_tree, and_tree, Cases, no_case, and_case, Branches, no_branch, and_branch}
-use Rattle.occ_syntax.specs.View.{branches, cases, exp, tree, trees, waiting}
+use Rattle.occ_syntax.specs.View.{branches, cases, exp, tree, waiting}
 use Rattle.occ_law_shape.specs.occ_meaning.Parallel.{all_of, two}
 use Rattle.occ_law_shape.specs.occ_law.Lists.{all_branches, all_cases}
 use Rattle.occ_law_shape.specs.occ_law.Parallel.{each_case_beside, first_goes, meetings, second_goes}
-use Rattle.occ_law_shape.proofs.Parts.{all_of-none}
 use Rattle.occ_law_par.specs.Made.{IsPut}
 
 -- ---- parts
@@ -16,19 +15,6 @@ use Rattle.occ_law_par.specs.Made.{IsPut}
 all_of-all : (ps qs rs : Trees) → all_of (all_of ps qs) rs ≡ all_of ps (all_of qs rs)
 all_of-all no_tree qs rs = refl
 all_of-all (and_tree p ps) qs rs = ap (and_tree p) (all_of-all ps qs rs)
-
--- one more of a list of parts
-pub parts_step : (xs ys : List Proc) (x : Proc) (p : Tree) (before all now rest : Trees) → ys ≡ xs ++ x ∷ [] → tree x ≡ p → now ≡ and_tree p rest
-    → all_of (trees xs) now ≡ all_of before all → all_of (trees ys) rest ≡ all_of before all
-parts_step xs ys x p before all now rest e f g so_far =
-    ap (λ z. all_of (trees z) rest) e ∙ at_end xs ∙ ap (λ z. all_of (trees xs) (and_tree z rest)) f ∙ ap (all_of (trees xs)) (sym g) ∙ so_far
-  where
-    at_end : (list : List Proc) → all_of (trees (list ++ x ∷ [])) rest ≡ all_of (trees list) (and_tree (tree x) rest)
-    at_end [] = refl
-    at_end (y ∷ ys) = ap (and_tree (tree y)) (at_end ys)
-
-pub parts_whole : (made before all rest : Trees) → rest ≡ no_tree → all_of made rest ≡ all_of before all → made ≡ all_of before all
-parts_whole made before all rest e so_far = sym (all_of-none made) ∙ ap (all_of made) (sym e) ∙ so_far
 
 -- ---- choices
 

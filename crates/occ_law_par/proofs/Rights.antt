@@ -1,7 +1,7 @@
 -- The one instance of each law of PAR at a place.
 use Rattle.std.proofs.Common.{◌≡◌, ℕ, true, ◌&&◌, List, [], ◌∷◌, refl, ap, sym, ◌∙◌, subst}
 use Rattle.std.proofs.lemmas.Bool.{and_parts}
-use Rattle.occ_law_shape.specs.occ_base.declared.names.Name.{Name}
+use Rattle.occ_syntax.specs.occ_base.declared.names.Name.{Name}
 use Rattle.occ_syntax.specs.declared.scope.Kind.{Kind}
 use Rattle.occ_syntax.specs.Scopes.{Environment, environment}
 use Rattle.occ_syntax.specs.Tree.{Exp, Tree, skip, stop, assign, seq, par, select, alt, Trees, no_tree, and_tree, Cases, Branches}

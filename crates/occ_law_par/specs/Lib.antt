@@ -1,4 +1,3 @@
-pub mod Choices
 pub mod Expand
 pub mod Order
 pub mod Pairs

@@ -1,7 +1,7 @@
 -- Lists of branches that grow at their end, and what two guards pass.
 use Rattle.std.specs.Prelude.{◌≡◌, Option, None, Some}
 use Rattle.std.specs.Borrow.{Bor}
-use Rattle.occ_law_shape.specs.occ_base.declared.names.Name.{Name}
+use Rattle.occ_syntax.specs.occ_base.declared.names.Name.{Name}
 use Rattle.occ_syntax.specs.declared.expr.Expr.{Expr}
 use Rattle.occ_syntax.specs.declared.expr.Op.TheVariants.{And}
 use Rattle.occ_syntax.specs.Tree.{Exp, operation, Waiting, ready, Tree, Branches, and_branch}

@@ -1,35 +1,13 @@
--- The parts that a PAR has, as a whole, before a place, at it and behind it; the lists of an IF and of an ALT.
+-- The parts that a PAR has, as a whole, before a place, at it and behind it.
 use Rattle.std.specs.Prelude.{ℕ, ◌≡◌, List, [], ◌∷◌, Option, None, Some}
 use Rattle.std.specs.Borrow.{Bor}
-use Rattle.occ_syntax.specs.declared.expr.Expr.{Expr}
-use Rattle.occ_syntax.specs.declared.expr.Guard.{Guard}
 use Rattle.occ_syntax.specs.declared.proc.Proc.{Proc}
-use Rattle.occ_syntax.specs.Tree.{Exp, Tree, assign, seq, par, select, alt, Trees, and_tree, Cases, Branches}
-use Rattle.occ_syntax.specs.View.{branches, cases, tree, trees}
+use Rattle.occ_syntax.specs.Tree.{Exp, Tree, assign, seq, par, Trees, and_tree}
+use Rattle.occ_syntax.specs.View.{tree, trees}
 use Rattle.occ_law_shape.specs.occ_meaning.Parallel.{all_of, two}
 use Rattle.occ_law_shape.specs.occ_law.Lists.{size}
-use Rattle.occ_law_par.specs.declared.right_parts.Here.{Here}
 use Rattle.occ_law_par.specs.declared.right_parts.Start.{Start}
-
--- the parts of a PAR; or it isn't one
-abbrev pub AreWithin : Tree → Option (Bor (List Proc)) → Type 0
-AreWithin l None = (ps : Trees) → l ≡ par ps → ⊥
-AreWithin l (Some found) = l ≡ par (trees found.now)
-
--- the choices of an IF; or it isn't one
-abbrev pub AreChoices : Tree → Option (Bor (List (Expr × Proc))) → Type 0
-AreChoices l None = (cs : Cases) → l ≡ select cs → ⊥
-AreChoices l (Some found) = l ≡ select (cases found.now)
-
--- the branches of an ALT; or it isn't one
-abbrev pub AreBranches : Tree → Option (Bor (List (Guard × Proc))) → Type 0
-AreBranches l None = (gs : Branches) → l ≡ alt gs → ⊥
-AreBranches l (Some found) = l ≡ alt (branches found.now)
-
--- the parts of a SEQ; or it isn't one
-abbrev pub AreInTurn : Tree → Option (Bor (List Proc)) → Type 0
-AreInTurn l None = (ps : Trees) → l ≡ seq ps → ⊥
-AreInTurn l (Some found) = l ≡ seq (trees found.now)
+use Rattle.occ_law_shape.specs.declared.lists.Here.{Here}
 
 -- a SEQ that begins with an assignment
 pub record Begins (l a : Tree) (ps : Trees) : Type 0 where
@@ -42,11 +20,6 @@ pub record Begins (l a : Tree) (ps : Trees) : Type 0 where
 abbrev pub IsBegun : Tree → Option Start → Type 0
 IsBegun l None = (xs : List ℕ) (es : List Exp) (ps : Trees) → l ≡ seq (and_tree (assign xs es) ps) → ⊥
 IsBegun l (Some found) = Begins l (tree found.assignment.now) (trees found.rest.now)
-
--- the size of the only list; or there isn't one list
-abbrev pub IsSize : List ℕ → Option ℕ → Type 0
-IsSize ks None = (k : ℕ) → ks ≡ k ∷ [] → ⊥
-IsSize ks (Some size) = ks ≡ size ∷ []
 
 -- a PAR of these parts changes as a whole
 pub record IsWhole (ks : List ℕ) (l : Tree) (ps : Trees) : Type 0 where

@@ -6,8 +6,8 @@ ghost use Rattle.occ_law_shape.specs.occ_law.Parallel.{ParAssign};
 ghost use Rattle.occ_law_shape.specs.Answer.{IsAnswer};
 
 use crate::pairs::{two_in_par, two_in_seq};
-use occ_law_shape::{Form, behind, opened, same_procs};
-use occ_syntax::{Proc, same_proc};
+use occ_law_shape::{Form, behind, opened};
+use occ_syntax::{Proc, same_proc, same_procs};
 use std::slice;
 
 /// PAR(SEQ(xs := es, Ps), Q) = SEQ(xs := es, PAR(SEQ(Ps), Q))

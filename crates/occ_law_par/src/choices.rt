@@ -5,12 +5,11 @@ ghost use Rattle.occ_syntax.specs.Usage.{Keeps};
 ghost use Rattle.occ_syntax.specs.View.{tree};
 ghost use Rattle.occ_law_shape.specs.occ_law.Parallel.{ParIf};
 ghost use Rattle.occ_law_shape.specs.Answer.{IsAnswer};
-ghost use Rattle.occ_law_par.specs.Choices.{IsIf};
 
 use crate::pairs::two_in_par;
 use crate::running::Beside;
-use occ_law_shape::{Form, Memory, Store, are_choice_pieces, is_exhaustive, opened};
-use occ_syntax::{Expr, Proc, Scope};
+use occ_law_shape::{Store, are_choice_pieces, choices_of, is_exhaustive};
+use occ_syntax::{Memory, Proc, Scope};
 use std::alloc::Global;
 
 /// PAR(IF(b1 P1, .., bn Pn), Q) = IF(b1 PAR(P1, Q), .., bn PAR(Pn, Q)), where in every state some condition is TRUE
@@ -39,14 +38,4 @@ pub(crate) fn par_if(
         return Ok(false);
     }
     is_exhaustive(alloc, store, scope, choices)
-}
-
-/// The choices of an IF; None exactly where the process isn't one.
-fn choices_of(part: &Proc) -> Option<&[(Expr, Proc)]>
-    ensures { IsIf (tree part.now) result }
-{
-    match opened(part) {
-        Form::If(choices) => Some(choices),
-        _ => None,
-    }
 }

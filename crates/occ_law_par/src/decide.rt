@@ -10,8 +10,8 @@ use crate::choices::par_if;
 use crate::expand::par_expand;
 use crate::order::par_order;
 use crate::parts::{par_flat, par_none, par_one, par_skip, par_stop};
-use occ_law_shape::{LawId, Memory, Store};
-use occ_syntax::{Proc, Scope};
+use occ_law_shape::{Law, LawId, Store};
+use occ_syntax::{Memory, Proc, Scope};
 use std::alloc::Global;
 
 /// Whether two parts are the two sides of a law of PAR, par-none to par-expand, in a scope. Both parts keep names, types,
@@ -32,15 +32,16 @@ pub fn holds(
     requires right { Keeps (environment scope.now) (tree right.now) }
     ensures { IfOk result (λ answer. IsTrue answer ↔ LAW law.0 scope.now (tree left.now) (tree right.now)) }
 {
-    match law.0 {
-        37 => par_none(left, right),
-        38 => par_one(left, right),
-        39 => par_flat(left, right),
-        40 => par_order(alloc, left, right),
-        41 => par_skip(left, right),
-        42 => par_stop(left, right),
-        43 => Ok(par_assign(left, right)),
-        44 => par_if(alloc, store, scope, left, right),
-        _ => Ok(par_expand(left, right)),
+    match law.law() {
+        Some(Law::ParNone) => par_none(left, right),
+        Some(Law::ParOne) => par_one(left, right),
+        Some(Law::ParFlat) => par_flat(left, right),
+        Some(Law::ParOrder) => par_order(alloc, left, right),
+        Some(Law::ParSkip) => par_skip(left, right),
+        Some(Law::ParStop) => par_stop(left, right),
+        Some(Law::ParAssign) => Ok(par_assign(left, right)),
+        Some(Law::ParIf) => par_if(alloc, store, scope, left, right),
+        Some(Law::ParExpand) => Ok(par_expand(left, right)),
+        _ => Ok(false),
     }
 }

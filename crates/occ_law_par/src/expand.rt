@@ -8,8 +8,8 @@ ghost use Rattle.occ_law_par.specs.Expand.{IsAlt, IsRest, each_beside, run_besid
 use crate::meet::are_meetings;
 use crate::pairs::two_in_par;
 use crate::running::{Beside, runs_beside};
-use occ_law_shape::{Form, opened, same_waits};
-use occ_syntax::{Guard, Proc, same_expr};
+use occ_law_shape::{Form, opened};
+use occ_syntax::{Guard, Proc, same_expr, same_wait};
 
 /// PAR(L, M), both ALTs = the ALT of the branches of L, each process with M behind it; the branches of M, each process
 /// with L before it; and for each branch of L those in which it communicates with a branch of M
@@ -81,7 +81,7 @@ fn behind_branch<'a>(
     if !same_expr(&other.0.condition, &branch.0.condition) {
         return None;
     }
-    if !same_waits(&other.0.wait, &branch.0.wait) {
+    if !same_wait(&other.0.wait, &branch.0.wait) {
         return None;
     }
     if !runs_beside(beside, &branch.1, &other.1) {

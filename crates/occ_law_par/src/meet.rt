@@ -6,8 +6,8 @@ ghost use Rattle.occ_law_shape.specs.occ_law.Parallel.{both_go, meeting, meeting
 ghost use Rattle.occ_law_par.specs.Expand.{IsPassed, IsRest};
 
 use crate::pairs::{is_par_of, two_in_seq};
-use occ_law_shape::{Form, Name, opened, same_expressions, same_names};
-use occ_syntax::{Expr, Guard, Op, Proc, Wait, same_expr};
+use occ_law_shape::{Form, opened};
+use occ_syntax::{Expr, Guard, Name, Op, Proc, Wait, same_expr, same_exprs, same_names};
 use std::slice;
 
 /// Whether branches are those in which each branch of one list meets each of another.
@@ -139,8 +139,7 @@ fn passes(part: &Proc, var: Name, value: &Expr) -> bool
 {
     match opened(part) {
         Form::Assign(vars, values) => {
-            same_names(vars, slice::from_ref(&var))
-                && same_expressions(values, slice::from_ref(value))
+            same_names(vars, slice::from_ref(&var)) && same_exprs(values, slice::from_ref(value))
         }
         _ => false,
     }

@@ -5,8 +5,8 @@ ghost use Rattle.occ_law_shape.specs.occ_law.Parallel.{ParOrder};
 ghost use Rattle.occ_law_shape.specs.Answer.{IsAnswer};
 ghost use Rattle.occ_law_par.specs.Order.{IsCancelled, IsPlaced, referred};
 
-use occ_law_shape::{Memory, law_case};
-use occ_syntax::{Proc, same_proc};
+use occ_law_shape::law_case;
+use occ_syntax::{Memory, Proc, same_proc};
 use std::alloc::Global;
 
 /// a PAR = the same parts in any order

@@ -1,5 +1,5 @@
 ghost use Rattle.std.specs.Prelude.{◌≡◌, ◌↔◌, IsTrue};
-ghost use Rattle.occ_syntax.specs.Tree.{par, seq, stop};
+ghost use Rattle.occ_syntax.specs.Tree.{par, seq};
 ghost use Rattle.occ_syntax.specs.View.{tree};
 ghost use Rattle.occ_law_shape.specs.occ_meaning.Parallel.{two};
 ghost use Rattle.occ_law_par.specs.Pairs.{IsTwoIn};
@@ -34,15 +34,5 @@ pub(crate) fn is_par_of(whole: &Proc, first: &Proc, second: &Proc) -> bool
     match two_in_par(whole) {
         Some((left, right)) => same_proc(left, first) && same_proc(right, second),
         None => false,
-    }
-}
-
-/// Whether a process is STOP.
-pub(crate) fn is_stop(part: &Proc) -> bool
-    ensures { IsTrue result ↔ (tree part.now ≡ stop) }
-{
-    match opened(part) {
-        Form::Stop => true,
-        _ => false,
     }
 }

@@ -5,10 +5,9 @@ ghost use Rattle.occ_law_shape.specs.occ_meaning.Parallel.{two};
 ghost use Rattle.occ_law_shape.specs.occ_law.Parallel.{ParFlat, ParNone, ParOne, ParSkip, ParStop};
 ghost use Rattle.occ_law_shape.specs.Answer.{IsAnswer};
 
-use crate::pairs::is_stop;
 use crate::places::Leaving;
-use occ_law_shape::{Memory, law_case, only, pair, same_procs, shape, somewhere};
-use occ_syntax::{Proc, same_proc};
+use occ_law_shape::{is_stop, law_case, only, pair, shape, somewhere};
+use occ_syntax::{Memory, Proc, same_proc, same_procs};
 
 /// PAR() = SKIP
 pub(crate) fn par_none(left: &Proc, right: &Proc) -> Result<bool, Memory>

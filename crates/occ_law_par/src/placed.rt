@@ -3,10 +3,9 @@ ghost use Rattle.occ_syntax.specs.View.{tree};
 ghost use Rattle.occ_law_shape.specs.occ_law.Instances.{IsOnly, sizes};
 ghost use Rattle.occ_law_shape.specs.occ_law.Parallel.{ParFlat, ParSkip};
 
-use crate::made::{add_copies, par_of};
-use crate::right_parts::{chosen, is_skip, parts_within};
-use occ_law_shape::{LawPlace as Place, Memory};
-use occ_syntax::{Proc, Procs};
+use crate::right_parts::chosen;
+use occ_law_shape::{LawPlace as Place, add_copies, is_skip, par_of, parts_in_par};
+use occ_syntax::{Memory, Proc, Procs};
 use std::alloc::Global;
 
 /// PAR(Ps, PAR(Qs), Rs) = PAR(Ps, Qs, Rs)
@@ -16,7 +15,7 @@ pub(crate) fn par_flat(alloc: Global, left: &Proc, place: Place) -> Result<Optio
     let Some(at) = chosen(left, place) else {
         return Ok(None);
     };
-    let Some(inner) = parts_within(at.part) else {
+    let Some(inner) = parts_in_par(at.part) else {
         return Ok(None);
     };
     let mut made = Procs::new(alloc);

@@ -1,8 +1,8 @@
 ghost use Rattle.occ_syntax.specs.View.{tree};
 ghost use Rattle.occ_law_par.specs.Places.{GoesHere, IsReplaced, nothing_goes_at_end};
 
-use occ_law_shape::{Form, Place, behind, opened, same_procs};
-use occ_syntax::Proc;
+use occ_law_shape::{Form, Place, behind, opened};
+use occ_syntax::{Proc, same_procs};
 
 /// A part of a list that goes, and what takes its place.
 #[derive(Clone, Copy)]

@@ -6,10 +6,10 @@ ghost use Rattle.occ_law_shape.specs.occ_law.Lists.{all_branches};
 ghost use Rattle.occ_law_shape.specs.occ_law.Parallel.{ParExpand, first_goes, meeting, meetings, meetings_of, second_goes};
 ghost use Rattle.occ_law_par.specs.Made.{IsPassed, IsPut};
 
-use crate::made::{alt_of, beside, conjunction, passing};
-use crate::right_parts::{branches_of, two_of};
-use occ_law_shape::{LawPlace as Place, Memory, Name};
-use occ_syntax::{Alternatives, Expr, Guard, Proc, Wait};
+use crate::made::{beside, passing};
+use crate::right_parts::two_of;
+use occ_law_shape::{LawPlace as Place, alt_of, branches_of, operated};
+use occ_syntax::{Alternatives, Expr, Guard, Memory, Name, Op, Proc, Wait};
 use std::alloc::Global;
 
 /// PAR(L, M), both ALTs = the ALT of the branches of L, each process with M behind it; the branches of M, each process
@@ -150,7 +150,7 @@ fn add_meeting(
     let Some((var, value)) = passed(&first.0.wait, &second.0.wait) else {
         return Ok(());
     };
-    let condition = conjunction(alloc, &first.0.condition, &second.0.condition)?;
+    let condition = operated(alloc, Op::And, &first.0.condition, &second.0.condition)?;
     let guard = Guard {
         condition,
         wait: Wait::Skip,

@@ -3,8 +3,8 @@ ghost use Rattle.occ_syntax.specs.View.{tree};
 ghost use Rattle.occ_law_par.specs.Expand.{run_beside};
 
 use crate::pairs::is_par_of;
-use occ_law_shape::{ChoicePiece, Memory};
-use occ_syntax::{Expr, Proc, same_expr};
+use occ_law_shape::ChoicePiece;
+use occ_syntax::{Expr, Memory, Proc, same_expr};
 use std::alloc::Global;
 
 /// What runs beside a process in a PAR.

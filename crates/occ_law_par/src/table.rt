@@ -8,8 +8,8 @@ ghost use Rattle.occ_law_shape.specs.occ_law.Instances.{IsInstance};
 use crate::placed::{par_flat, par_skip};
 use crate::right_expand::par_expand;
 use crate::whole::{par_assign, par_if, par_none, par_one, par_stop};
-use occ_law_shape::{LawId, LawPlace as Place, Memory, Store};
-use occ_syntax::{Proc, Scope};
+use occ_law_shape::{Law, LawId, LawPlace as Place, Store};
+use occ_syntax::{Memory, Proc, Scope};
 use std::alloc::Global;
 
 /// What a law of PAR, from par-none to par-expand, makes of a part at a place, where it holds there: the right side whose left
@@ -31,15 +31,16 @@ pub fn right(
     requires left { Keeps (environment scope.now) (tree left.now) }
     ensures { IfOk result (IsInstance law.0 scope.now (tree left.now) place) }
 {
-    match law.0 {
-        37 => Ok(par_none(left, place)),
-        38 => par_one(alloc, left, place),
-        39 => par_flat(alloc, left, place),
-        40 => Ok(None),
-        41 => par_skip(alloc, left, place),
-        42 => par_stop(alloc, left, place),
-        43 => par_assign(alloc, left, place),
-        44 => par_if(alloc, store, scope, left, place),
-        _ => par_expand(alloc, left, place),
+    match law.law() {
+        Some(Law::ParNone) => Ok(par_none(left, place)),
+        Some(Law::ParOne) => par_one(alloc, left, place),
+        Some(Law::ParFlat) => par_flat(alloc, left, place),
+        Some(Law::ParOrder) => Ok(None),
+        Some(Law::ParSkip) => par_skip(alloc, left, place),
+        Some(Law::ParStop) => par_stop(alloc, left, place),
+        Some(Law::ParAssign) => par_assign(alloc, left, place),
+        Some(Law::ParIf) => par_if(alloc, store, scope, left, place),
+        Some(Law::ParExpand) => par_expand(alloc, left, place),
+        _ => Ok(None),
     }
 }

@@ -5,10 +5,13 @@ ghost use Rattle.occ_syntax.specs.View.{tree};
 ghost use Rattle.occ_law_shape.specs.occ_law.Instances.{IsOnly, sizes};
 ghost use Rattle.occ_law_shape.specs.occ_law.Parallel.{ParAssign, ParIf, ParNone, ParOne, ParStop};
 
-use crate::made::{add_copies, beside, choices_beside, if_of, in_turn, seq_of};
-use crate::right_parts::{begun, choices_of, is_stop, parts_of, two_of};
-use occ_law_shape::{LawPlace as Place, Memory, Store, is_exhaustive, only};
-use occ_syntax::{Proc, Procs, Scope};
+use crate::made::{beside, choices_beside};
+use crate::right_parts::{begun, parts_of, two_of};
+use occ_law_shape::{
+    LawPlace as Place, Store, add_copies, choices_of, if_of, in_turn, is_exhaustive, is_stop, only,
+    seq_of,
+};
+use occ_syntax::{Memory, Proc, Procs, Scope};
 use std::alloc::Global;
 
 /// PAR() = SKIP

@@ -3,10 +3,10 @@ use Rattle.std.proofs.Common.{◌≡◌, ℕ, ◌^◌, ◌<◌, ◌≤◌, arith
 use Rattle.std.proofs.lemmas.Bool.{and_parts, leb-true}
 use Rattle.std.proofs.Math.Nat.{pow-le-pow_right}
 use Rattle.std.specs.Prelude.{nat_le}
-use Rattle.occ_law_scope.specs.occ_base.declared.names.Name.{Name}
-use Rattle.occ_law_scope.specs.occ_base.declared.width.Width.{Width}
-use Rattle.occ_law_scope.specs.occ_base.declared.width.Width.TheVariants.{Bool as TruthValue, Word}
-use Rattle.occ_law_scope.specs.occ_base.Width.{bits_of}
+use Rattle.occ_syntax.specs.occ_base.declared.names.Name.{Name}
+use Rattle.occ_syntax.specs.occ_base.declared.width.Width.{Width}
+use Rattle.occ_syntax.specs.occ_base.declared.width.Width.TheVariants.{Bool as TruthValue, Word}
+use Rattle.occ_syntax.specs.occ_base.Width.{bits_of}
 use Rattle.occ_law_seq.specs.occ_law.Lists.{assignment}
 use Rattle.occ_syntax.specs.declared.expr.Expr.{Expr}
 use Rattle.occ_syntax.specs.Tree.{Exp, assign, skip}

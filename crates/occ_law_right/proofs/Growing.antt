@@ -7,7 +7,6 @@ use Rattle.occ_syntax.specs.Tree.{Exp, Waiting, Tree, Trees, no_tree, and_tree, 
 use Rattle.occ_syntax.specs.View.{branches, cases, exp, tree, trees, waiting}
 use Rattle.occ_law_scope.specs.occ_meaning.Parallel.{all_of, one}
 use Rattle.occ_law_seq.specs.occ_law.Lists.{all_branches, all_cases}
-use Rattle.occ_law_seq.proofs.from_law_shape.Parts.{all_of-none}
 
 -- ---- parts
 
@@ -22,14 +21,6 @@ at_end (y ∷ xs) x = ap (and_tree (tree y)) (at_end xs x)
 -- one part more
 pub part_added : (before after : List Proc) (x : Proc) → after ≡ before ++ x ∷ [] → trees after ≡ all_of (trees before) (one (tree x))
 part_added before after x e = ap trees e ∙ at_end before x
-
--- a part is added, and that much less is left
-pub part_step : (whole now after xs : Trees) (p q : Tree) (ps : Trees) → xs ≡ and_tree p ps → q ≡ p → after ≡ all_of now (one q) → all_of now xs ≡ whole → all_of after ps ≡ whole
-part_step whole now after xs p q ps e f g so_far =
-    ap (λ z. all_of z ps) g ∙ joined_again now (one q) ps ∙ ap (λ z. all_of now (and_tree z ps)) f ∙ ap (all_of now) (sym e) ∙ so_far
-
-pub parts_done : (whole now xs : Trees) → xs ≡ no_tree → all_of now xs ≡ whole → now ≡ whole
-parts_done whole now xs e so_far = sym (all_of-none now) ∙ ap (all_of now) (sym e) ∙ so_far
 
 -- ---- choices
 

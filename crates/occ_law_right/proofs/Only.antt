@@ -1,7 +1,7 @@
 -- The one right side of a law, known by the left side.
 use Rattle.std.proofs.Common.{◌≡◌, Option, None, Some, Result, IfOk, sym, ◌∙◌, subst}
 use Rattle.std.proofs.lemmas.Result.{IfOk-weaker}
-use Rattle.occ_law_scope.specs.occ_base.declared.memory.Memory.{Memory}
+use Rattle.occ_syntax.specs.occ_base.declared.memory.Memory.{Memory}
 use Rattle.occ_law_seq.specs.occ_law.Instances.{IsOnly}
 use Rattle.occ_law_right.specs.Where.{IsWhere}
 use Rattle.occ_syntax.specs.declared.proc.Proc.{Proc}

@@ -2,8 +2,8 @@
 use Rattle.std.proofs.Common.{◌≡◌, ℕ, ◌≤◌, ◌==◌, arith, Bool, true, false, List, ◌∷◌, Option, Result, IfOk, refl, sym, subst}
 use Rattle.std.proofs.lemmas.Bool.{lt-leb}
 use Rattle.std.specs.Prelude.{MatchBool, nat_le}
-use Rattle.occ_law_scope.specs.occ_base.declared.memory.Memory.{Memory}
-use Rattle.occ_law_scope.specs.occ_base.declared.names.Name.{Name}
+use Rattle.occ_syntax.specs.occ_base.declared.memory.Memory.{Memory}
+use Rattle.occ_syntax.specs.occ_base.declared.names.Name.{Name}
 use Rattle.occ_law_seq.specs.occ_law.declared.place.Place.TheVariants.{Whole}
 use Rattle.occ_law_seq.specs.occ_law.Instances.{IsInstance}
 use Rattle.occ_law_seq.specs.occ_law.Scope.{ScopeSides, VarAlt}

@@ -1,7 +1,7 @@
 -- The laws of declared names: what they make of a left side that is known.
 use Rattle.std.proofs.Common.{◌≡◌, ℕ, false, List, [], Option, None, Some, Result, IfOk, refl, ap, sym, ◌∙◌}
-use Rattle.occ_law_scope.specs.occ_base.declared.memory.Memory.{Memory}
-use Rattle.occ_law_scope.specs.occ_base.declared.width.Width.{Width}
+use Rattle.occ_syntax.specs.occ_base.declared.memory.Memory.{Memory}
+use Rattle.occ_syntax.specs.occ_base.declared.width.Width.{Width}
 use Rattle.occ_law_seq.specs.occ_law.Instances.{IsOnly}
 use Rattle.occ_law_right.proofs.Only.{only_some, only_under, only_where}
 use Rattle.occ_law_right.specs.Where.{InFirst, in_first, IsWhere}

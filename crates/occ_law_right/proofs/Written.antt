@@ -1,8 +1,8 @@
 -- Lists that grow by an item at their end, with what is still to be written behind them: the whole stays the same.
 use Rattle.std.proofs.Common.{◌≡◌, ℕ, ◌+◌, ◌<◌, ◌≤◌, true, false, if◌then◌else◌, List, [], ◌∷◌, ◌++◌, length, map, get_or, drop, refl, ap, sym, ◌∙◌}
 use Rattle.std.proofs.lemmas.List.{append-nil, at_drop_all, at_drop_more}
-use Rattle.occ_law_scope.specs.occ_base.declared.names.Name.{Name}
-use Rattle.occ_law_scope.specs.occ_base.declared.width.Width.{Width}
+use Rattle.occ_syntax.specs.occ_base.declared.names.Name.{Name}
+use Rattle.occ_syntax.specs.occ_base.declared.width.Width.{Width}
 use Rattle.occ_law_seq.specs.occ_law.Lists.{all_branches, all_cases, names_without}
 use Rattle.occ_law_seq.specs.occ_law.Scope.{is_on, without_channel}
 use Rattle.occ_law_seq.specs.occ_law_shape.Pieces.{each_choice}

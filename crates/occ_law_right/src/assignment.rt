@@ -3,19 +3,17 @@ ghost use Rattle.occ_syntax.specs.View.{tree};
 ghost use Rattle.occ_law_seq.specs.occ_law.Instances.{IsOnly, sizes};
 ghost use Rattle.occ_law_seq.specs.occ_law.Sequence.{AssignId, AssignJoin};
 
-use crate::chosen::is_whole;
 use crate::made::{assignment_of, copied_names};
 use crate::put_in::put_in_all;
-use occ_law_scope::Memory;
-use occ_law_seq::{Pairs, Place, are_variables, assigned_first, same_names};
-use occ_syntax::Proc;
+use occ_law_seq::{Pairs, Place, are_variables, assigned_first};
+use occ_syntax::{Memory, Proc, same_names};
 use std::alloc::Global;
 
 /// xs := xs = SKIP
 pub(crate) fn assign_id(left: &Proc, place: Place) -> Option<Proc>
     ensures { IsOnly (AssignId (sizes place)) (tree left.now) result }
 {
-    if !is_whole(place) {
+    if !place.is_whole() {
         return None;
     }
     let pairs = Pairs::of(left)?;
@@ -29,7 +27,7 @@ pub(crate) fn assign_id(left: &Proc, place: Place) -> Option<Proc>
 pub(crate) fn assign_join(alloc: Global, left: &Proc, place: Place) -> Result<Option<Proc>, Memory>
     ensures { IfOk result (IsOnly (AssignJoin (sizes place)) (tree left.now)) }
 {
-    if !is_whole(place) {
+    if !place.is_whole() {
         return Ok(None);
     }
     let Some((pairs, second)) = assigned_first(left) else {

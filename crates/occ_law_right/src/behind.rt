@@ -4,24 +4,23 @@ ghost use Rattle.occ_syntax.specs.Tree.{seq};
 ghost use Rattle.occ_law_scope.specs.occ_meaning.Parallel.{two};
 ghost use Rattle.occ_law_scope.specs.occ_meaning.Substitution.{substituted};
 ghost use Rattle.occ_law_seq.specs.occ_law.Instances.{IsOnly, sizes};
-ghost use Rattle.occ_law_seq.specs.occ_law.Sequence.{AssignAlt, AssignIf};
-ghost use Rattle.occ_law_seq.specs.occ_law.Sequence.{assigned_behind, each_assigned, each_guard_assigned, substituted_waiting};
+ghost use Rattle.occ_law_seq.specs.occ_law.Sequence.{AssignAlt, AssignIf, assigned_behind, each_assigned, each_guard_assigned, substituted_waiting};
 ghost use Rattle.occ_law_seq.specs.Assignment.{assigned_then};
 
-use crate::chosen::{alternatives_of, choices_of, is_whole};
 use crate::kept::made_up_for;
-use crate::made::{add_branch, add_choice, alt_of, assigned, if_of, in_turn};
+use crate::made::{add_branch, add_choice, assigned};
 use crate::put_in::{put_in, put_in_wait};
-use occ_law_scope::Memory;
-use occ_law_seq::{Pairs, Place, assigned_first, spare_all};
-use occ_syntax::{Alternatives, Choices, Expr, Guard, Proc};
+use occ_law_seq::{
+    Pairs, Place, alt_of, assigned_first, branches_of, choices_of, if_of, in_turn, spare_all,
+};
+use occ_syntax::{Alternatives, Choices, Expr, Guard, Memory, Proc};
 use std::alloc::Global;
 
 /// SEQ(xs := es, IF(b1 P1, .., bn Pn)) = IF(b1[es/xs] SEQ(xs := es, P1), .., bn[es/xs] SEQ(xs := es, Pn))
 pub(crate) fn assign_if(alloc: Global, left: &Proc, place: Place) -> Result<Option<Proc>, Memory>
     ensures { IfOk result (IsOnly (AssignIf (sizes place)) (tree left.now)) }
 {
-    if !is_whole(place) {
+    if !place.is_whole() {
         return Ok(None);
     }
     let Some((pairs, second)) = assigned_first(left) else {
@@ -68,13 +67,13 @@ fn led(alloc: Global, pairs: &Pairs<'_>, part: &Proc) -> Result<Proc, Memory>
 pub(crate) fn assign_alt(alloc: Global, left: &Proc, place: Place) -> Result<Option<Proc>, Memory>
     ensures { IfOk result (IsOnly (AssignAlt (sizes place)) (tree left.now)) }
 {
-    if !is_whole(place) {
+    if !place.is_whole() {
         return Ok(None);
     }
     let Some((pairs, second)) = assigned_first(left) else {
         return Ok(None);
     };
-    let Some(alternatives) = alternatives_of(second) else {
+    let Some(alternatives) = branches_of(second) else {
         return Ok(None);
     };
     if !spare_all(&pairs, alternatives) {

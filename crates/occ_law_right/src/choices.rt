@@ -7,8 +7,8 @@ ghost use Rattle.occ_syntax.specs.Tree.{alt, select};
 ghost use Rattle.occ_syntax.specs.View.{branches, cases, tree};
 
 use crate::declaration::Declaration;
-use occ_law_scope::{Memory, some_condition_names, some_guard_names};
-use occ_syntax::{Alternatives, Choices, Expr, Guard, Kind, Proc};
+use occ_law_scope::{some_condition_names, some_guard_names};
+use occ_syntax::{Alternatives, Choices, Expr, Guard, Kind, Memory, Proc};
 use std::alloc::Global;
 
 /// VAR x: IF(b1 P1, .., bn Pn) = IF(b1 VAR x: P1, .., bn VAR x: Pn), where no condition names x

@@ -5,18 +5,15 @@ ghost use Rattle.occ_law_seq.specs.occ_law.Instances.{IsOnly, sizes};
 ghost use Rattle.occ_law_seq.specs.occ_law.Sequence.{IoAlt};
 ghost use Rattle.occ_law_right.specs.Communication.{IsWait};
 
-use crate::chosen::is_whole;
-use crate::made::alt_of;
-use occ_law_scope::Memory;
-use occ_law_seq::{Form, Place, opened};
-use occ_syntax::{Alternatives, Expr, Guard, Proc, Wait};
+use occ_law_seq::{Form, Place, alt_of, opened};
+use occ_syntax::{Alternatives, Expr, Guard, Memory, Proc, Wait};
 use std::alloc::Global;
 
 /// c ! e = ALT(c ! e SKIP), and c ? x = ALT(c ? x SKIP)
 pub(crate) fn io_alt(alloc: Global, left: &Proc, place: Place) -> Result<Option<Proc>, Memory>
     ensures { IfOk result (IsOnly (IoAlt (sizes place)) (tree left.now)) }
 {
-    if !is_whole(place) {
+    if !place.is_whole() {
         return Ok(None);
     }
     let found = wait_of(alloc, left)?;

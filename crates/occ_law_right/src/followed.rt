@@ -4,21 +4,19 @@ ghost use Rattle.occ_law_seq.specs.occ_law.Instances.{IsOnly, sizes};
 ghost use Rattle.occ_law_seq.specs.occ_law.Sequence.{SeqAlt, SeqIf, each_branch_before, each_case_before};
 ghost use Rattle.occ_law_seq.specs.Behind.{followed};
 
-use crate::chosen::{alternatives_of, choices_of, is_whole, parts_of};
-use crate::made::{add_branch, add_choice, alt_of, finished, if_of};
-use occ_law_scope::Memory;
-use occ_law_seq::{Place, divided};
-use occ_syntax::{Alternatives, Choices, Expr, Guard, Proc, Procs};
+use crate::made::{add_branch, add_choice, finished};
+use occ_law_seq::{Place, alt_of, branches_of, choices_of, divided, if_of, parts_in_seq};
+use occ_syntax::{Alternatives, Choices, Expr, Guard, Memory, Proc, Procs};
 use std::alloc::Global;
 
 /// SEQ(IF(b1 P1, .., bn Pn), Qs) = IF(b1 SEQ(P1, Qs), .., bn SEQ(Pn, Qs))
 pub(crate) fn seq_if(alloc: Global, left: &Proc, place: Place) -> Result<Option<Proc>, Memory>
     ensures { IfOk result (IsOnly (SeqIf (sizes place)) (tree left.now)) }
 {
-    if !is_whole(place) {
+    if !place.is_whole() {
         return Ok(None);
     }
-    let Some(parts) = parts_of(left) else {
+    let Some(parts) = parts_in_seq(left) else {
         return Ok(None);
     };
     let Some((first, behind)) = divided(parts) else {
@@ -63,16 +61,16 @@ fn followed_by(alloc: Global, part: &Proc, behind: &[Proc]) -> Result<Proc, Memo
 pub(crate) fn seq_alt(alloc: Global, left: &Proc, place: Place) -> Result<Option<Proc>, Memory>
     ensures { IfOk result (IsOnly (SeqAlt (sizes place)) (tree left.now)) }
 {
-    if !is_whole(place) {
+    if !place.is_whole() {
         return Ok(None);
     }
-    let Some(parts) = parts_of(left) else {
+    let Some(parts) = parts_in_seq(left) else {
         return Ok(None);
     };
     let Some((first, behind)) = divided(parts) else {
         return Ok(None);
     };
-    let Some(alternatives) = alternatives_of(first) else {
+    let Some(alternatives) = branches_of(first) else {
         return Ok(None);
     };
     let made = branches_before(alloc, alternatives, behind)?;

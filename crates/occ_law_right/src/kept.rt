@@ -4,9 +4,8 @@ ghost use Rattle.occ_law_seq.specs.occ_law.Lists.{assigned_without, assignment, 
 ghost use Rattle.occ_law_seq.specs.occ_law.Sequence.{assigned_behind};
 
 use crate::made::{assigned, assignment_of};
-use occ_law_scope::{Memory, Name};
 use occ_law_seq::Pairs;
-use occ_syntax::{Exprs, NameList, Proc, Wait};
+use occ_syntax::{Exprs, Memory, Name, NameList, Proc, Wait};
 use std::alloc::Global;
 
 /// The assignment that is made up for behind a guard: without the pair for a variable that the guard inputs.

@@ -1,37 +1,12 @@
 ghost use Rattle.std.specs.Prelude.{◌≡◌, IfOk, OnOk};
-ghost use Rattle.occ_syntax.specs.Tree.{alt, and_branch, and_case, assign, no_branch, no_case, select, seq};
+ghost use Rattle.occ_syntax.specs.Tree.{and_branch, and_case, assign, no_branch, no_case, seq};
 ghost use Rattle.occ_syntax.specs.View.{branches, cases, exp, exps, in_alternatives, in_choices, in_procs, numbers, tree, trees, waiting};
-ghost use Rattle.occ_law_scope.specs.occ_meaning.Parallel.{all_of, one, two};
+ghost use Rattle.occ_law_scope.specs.occ_meaning.Parallel.{all_of, one};
 ghost use Rattle.occ_law_seq.specs.occ_law.Lists.{all_branches, all_cases};
 
-use occ_law_scope::{Memory, Name};
-use occ_law_seq::Pairs;
-use occ_syntax::{Alternatives, Choices, Expr, Exprs, Guard, NameList, Proc, Procs};
+use occ_law_seq::{Pairs, add_copies, seq_of};
+use occ_syntax::{Alternatives, Choices, Expr, Exprs, Guard, Memory, Name, NameList, Proc, Procs};
 use std::alloc::Global;
-
-/// The SEQ of parts.
-#[tactic(auto, unfolding(crate::specs::tree))]
-pub(crate) fn seq_of(parts: Procs) -> Proc
-    ensures { tree result ≡ seq (trees (in_procs parts)) }
-{
-    Proc::Seq(parts)
-}
-
-/// The IF of choices.
-#[tactic(auto, unfolding(crate::specs::tree))]
-pub(crate) fn if_of(choices: Choices) -> Proc
-    ensures { tree result ≡ select (cases (in_choices choices)) }
-{
-    Proc::If(choices)
-}
-
-/// The ALT of alternatives.
-#[tactic(auto, unfolding(crate::specs::tree))]
-pub(crate) fn alt_of(alternatives: Alternatives) -> Proc
-    ensures { tree result ≡ alt (branches (in_alternatives alternatives)) }
-{
-    Proc::Alt(alternatives)
-}
 
 /// The assignment of values to variables.
 #[tactic(auto, unfolding(crate::specs::tree))]
@@ -46,18 +21,6 @@ pub(crate) fn add(made: &mut Procs, part: Proc) -> Result<(), Memory>
     ensures { OnOk result (trees (in_procs made.new) ≡ all_of (trees (in_procs made.old)) (one (tree part))) }
 {
     made.push(part)?;
-    Ok(())
-}
-
-/// Adds copies of parts.
-pub(crate) fn add_copies(alloc: Global, made: &mut Procs, parts: &[Proc]) -> Result<(), Memory>
-    ensures { OnOk result (trees (in_procs made.new) ≡ all_of (trees (in_procs made.old)) (trees parts.now)) }
-{
-    let mut rest = parts;
-    while let [part, more @ ..] = rest {
-        add(made, part.copy(alloc)?)?;
-        rest = more;
-    }
     Ok(())
 }
 
@@ -76,16 +39,6 @@ pub(crate) fn finished(alloc: Global, mut made: Procs, behind: &[Proc]) -> Resul
 {
     add_copies(alloc, &mut made, behind)?;
     Ok(seq_of(made))
-}
-
-/// The SEQ of two parts.
-pub(crate) fn in_turn(alloc: Global, first: Proc, second: Proc) -> Result<Proc, Memory>
-    ensures { IfOk result (λ part. tree part ≡ seq (two (tree first) (tree second))) }
-{
-    let mut parts = Procs::new(alloc);
-    parts.push(first)?;
-    parts.push(second)?;
-    Ok(seq_of(parts))
 }
 
 /// Adds a choice.

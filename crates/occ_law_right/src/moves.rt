@@ -8,10 +8,10 @@ ghost use Rattle.occ_syntax.specs.Names.{free as is_free};
 ghost use Rattle.occ_syntax.specs.Tree.{and_tree, par, seq};
 ghost use Rattle.occ_syntax.specs.View.{tree, trees};
 
-use crate::declaration::{Declaration, in_turn};
-use occ_law_scope::{Memory, Name, is_unused, is_unused_in_all};
-use occ_law_seq::pair;
-use occ_syntax::{Kind, Proc, Procs};
+use crate::declaration::Declaration;
+use occ_law_scope::{is_unused, is_unused_in_all};
+use occ_law_seq::{in_turn, pair};
+use occ_syntax::{Kind, Memory, Name, Proc, Procs};
 use std::alloc::Global;
 
 /// VAR x: P = P, where x isn't free in P

@@ -4,10 +4,9 @@ ghost use Rattle.occ_law_seq.specs.occ_law.Lists.{assigned_without, names_withou
 ghost use Rattle.occ_law_seq.specs.occ_law.Scope.{VarAssign, VarEnd};
 ghost use Rattle.occ_syntax.specs.View.{exps, numbers, tree};
 
-use crate::declaration::in_turn;
-use occ_law_scope::{Memory, Name, other_values_name};
-use occ_law_seq::pair;
-use occ_syntax::{Expr, Exprs, Kind, NameList, Proc};
+use occ_law_scope::other_values_name;
+use occ_law_seq::{in_turn, pair};
+use occ_syntax::{Expr, Exprs, Kind, Memory, Name, NameList, Proc};
 use std::alloc::Global;
 
 /// VAR x: ys := fs = the assignment of the pairs for the other variables, where no right side of these names x

@@ -4,9 +4,8 @@ ghost use Rattle.occ_law_scope.specs.occ_meaning.Substitution.{substituted};
 ghost use Rattle.occ_law_seq.specs.occ_law.Sequence.{substituted_waiting};
 ghost use Rattle.occ_law_seq.specs.Assignment.{standing_for};
 
-use occ_law_scope::{Memory, Name};
 use occ_law_seq::Pairs;
-use occ_syntax::{Expr, Exprs, Wait};
+use occ_syntax::{Expr, Exprs, Memory, Name, Wait};
 use std::alloc::Global;
 
 /// An expression with right sides in the place of their variables, all at once.

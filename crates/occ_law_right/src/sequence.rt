@@ -3,21 +3,20 @@ ghost use Rattle.occ_syntax.specs.View.{tree};
 ghost use Rattle.occ_law_seq.specs.occ_law.Instances.{IsOnly, sizes};
 ghost use Rattle.occ_law_seq.specs.occ_law.Sequence.{SeqFlat, SeqNone, SeqOne, SeqSkip, SeqStop};
 
-use crate::chosen::{chosen, is_skip, is_stop, is_whole, parts_of};
-use crate::made::{add, add_copies, copied, finished, seq_of};
-use occ_law_scope::Memory;
-use occ_law_seq::{Place, only};
-use occ_syntax::Proc;
+use crate::chosen::chosen;
+use crate::made::{add, copied, finished};
+use occ_law_seq::{Place, add_copies, is_skip, is_stop, only, parts_in_seq, seq_of};
+use occ_syntax::{Memory, Proc};
 use std::alloc::Global;
 
 /// SEQ() = SKIP
 pub(crate) fn seq_none(left: &Proc, place: Place) -> Option<Proc>
     ensures { IsOnly (SeqNone (sizes place)) (tree left.now) result }
 {
-    if !is_whole(place) {
+    if !place.is_whole() {
         return None;
     }
-    let parts = parts_of(left)?;
+    let parts = parts_in_seq(left)?;
     if !parts.is_empty() {
         return None;
     }
@@ -28,10 +27,10 @@ pub(crate) fn seq_none(left: &Proc, place: Place) -> Option<Proc>
 pub(crate) fn seq_one(alloc: Global, left: &Proc, place: Place) -> Result<Option<Proc>, Memory>
     ensures { IfOk result (IsOnly (SeqOne (sizes place)) (tree left.now)) }
 {
-    if !is_whole(place) {
+    if !place.is_whole() {
         return Ok(None);
     }
-    let Some(parts) = parts_of(left) else {
+    let Some(parts) = parts_in_seq(left) else {
         return Ok(None);
     };
     let Some(part) = only(parts) else {
@@ -47,7 +46,7 @@ pub(crate) fn seq_flat(alloc: Global, left: &Proc, place: Place) -> Result<Optio
     let Some(at) = chosen(left, place) else {
         return Ok(None);
     };
-    let Some(inner) = parts_of(at.first) else {
+    let Some(inner) = parts_in_seq(at.part) else {
         return Ok(None);
     };
     let mut made = copied(alloc, at.before)?;
@@ -62,7 +61,7 @@ pub(crate) fn seq_skip(alloc: Global, left: &Proc, place: Place) -> Result<Optio
     let Some(at) = chosen(left, place) else {
         return Ok(None);
     };
-    if !is_skip(at.first) {
+    if !is_skip(at.part) {
         return Ok(None);
     }
     let made = copied(alloc, at.before)?;
@@ -76,10 +75,10 @@ pub(crate) fn seq_stop(alloc: Global, left: &Proc, place: Place) -> Result<Optio
     let Some(at) = chosen(left, place) else {
         return Ok(None);
     };
-    if !is_stop(at.first) {
+    if !is_stop(at.part) {
         return Ok(None);
     }
     let mut made = copied(alloc, at.before)?;
-    add(&mut made, at.first.copy(alloc)?)?;
+    add(&mut made, at.part.copy(alloc)?)?;
     Ok(Some(seq_of(made)))
 }

@@ -7,9 +7,8 @@ use crate::behind::{assign_alt, assign_if};
 use crate::communication::io_alt;
 use crate::followed::{seq_alt, seq_if};
 use crate::sequence::{seq_flat, seq_none, seq_one, seq_skip, seq_stop};
-use occ_law_scope::Memory;
-use occ_law_seq::{LawId, Place};
-use occ_syntax::{Proc, Scope};
+use occ_law_seq::{Law, LawId, Place};
+use occ_syntax::{Memory, Proc, Scope};
 use std::alloc::Global;
 
 /// What a law of SEQ, of assignment, or of communication as choice, from seq-none to io-alt, makes of a part at a place, where it
@@ -27,19 +26,19 @@ pub fn sequence_right(
     requires last { law.0 ≤ 15 }
     ensures { IfOk result (IsInstance law.0 _scope.now (tree left.now) place) }
 {
-    match law.0 {
-        1 => Ok(seq_none(left, place)),
-        2 => seq_one(alloc, left, place),
-        3 => seq_flat(alloc, left, place),
-        4 => seq_skip(alloc, left, place),
-        5 => seq_stop(alloc, left, place),
-        6 => Ok(assign_id(left, place)),
-        9 => assign_join(alloc, left, place),
-        10 => assign_if(alloc, left, place),
-        11 => assign_alt(alloc, left, place),
-        12 => seq_if(alloc, left, place),
-        13 => seq_alt(alloc, left, place),
-        15 => io_alt(alloc, left, place),
+    match law.law() {
+        Some(Law::SeqNone) => Ok(seq_none(left, place)),
+        Some(Law::SeqOne) => seq_one(alloc, left, place),
+        Some(Law::SeqFlat) => seq_flat(alloc, left, place),
+        Some(Law::SeqSkip) => seq_skip(alloc, left, place),
+        Some(Law::SeqStop) => seq_stop(alloc, left, place),
+        Some(Law::AssignId) => Ok(assign_id(left, place)),
+        Some(Law::AssignJoin) => assign_join(alloc, left, place),
+        Some(Law::AssignIf) => assign_if(alloc, left, place),
+        Some(Law::AssignAlt) => assign_alt(alloc, left, place),
+        Some(Law::SeqIf) => seq_if(alloc, left, place),
+        Some(Law::SeqAlt) => seq_alt(alloc, left, place),
+        Some(Law::IoAlt) => io_alt(alloc, left, place),
         _ => Ok(None),
     }
 }

@@ -5,8 +5,8 @@ ghost use Rattle.occ_syntax.specs.Tree.{alt};
 ghost use Rattle.occ_syntax.specs.View.{branches, tree};
 
 use crate::declaration::Declaration;
-use occ_law_scope::{Memory, Name, Width, is_on};
-use occ_syntax::{Alternatives, Guard, Kind, Proc};
+use occ_law_scope::is_on;
+use occ_syntax::{Alternatives, Guard, Kind, Memory, Name, Proc, Width};
 use std::alloc::Global;
 
 /// CHAN c: ALT(gs) = the ALT of the branches whose guard isn't on c, each process P under CHAN c

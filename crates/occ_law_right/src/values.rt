@@ -8,9 +8,11 @@ ghost use Rattle.occ_syntax.specs.Tree.{alt, assign, declare};
 ghost use Rattle.occ_syntax.specs.Types.{is_width, types_kept};
 ghost use Rattle.occ_syntax.specs.View.{exp, tree};
 
-use crate::declaration::in_turn;
-use occ_law_scope::{Memory, Name, Width, count_of};
-use occ_syntax::{Alternatives, Expr, Exprs, Guard, Kind, NameList, Proc, Scope, Wait};
+use occ_law_scope::count_of;
+use occ_law_seq::in_turn;
+use occ_syntax::{
+    Alternatives, Expr, Exprs, Guard, Kind, Memory, Name, NameList, Proc, Scope, Wait, Width,
+};
 use std::alloc::Global;
 
 /// VAR x: P = the ALT that has for each value v of x the branch TRUE & SKIP VAR x: SEQ(x := v, P)

@@ -12,9 +12,8 @@ use crate::moves::{
 use crate::pairs::{var_assign, var_end};
 use crate::unheard::chan_alt;
 use crate::values::var_any;
-use occ_law_scope::Memory;
-use occ_law_seq::{LawId, Place};
-use occ_syntax::{Proc, Scope};
+use occ_law_seq::{Law, LawId, Place};
+use occ_syntax::{Memory, Proc, Scope};
 use std::alloc::Global;
 
 /// What a law makes of a part at a place, where it holds there: the right side whose left side is the part. None exactly
@@ -47,24 +46,25 @@ fn at_whole(alloc: Global, law: LawId, scope: &Scope, left: &Proc) -> Result<Opt
     requires left { Keeps (environment scope.now) (tree left.now) }
     ensures { IfOk result (IsInstance law.0 scope.now (tree left.now) AtWhole) }
 {
-    match law.0 {
-        46 => var_unused(alloc, left),
-        47 => Ok(None),
-        48 => var_swap(alloc, left),
-        49 => var_first(alloc, left),
-        50 => var_last(alloc, left),
-        51 => var_if(alloc, left),
-        52 => var_alt(alloc, left),
-        53 => var_par(alloc, left),
-        54 => var_any(alloc, scope, left),
-        55 => var_assign(alloc, left),
-        56 => var_end(alloc, left),
-        57 => chan_unused(alloc, left),
-        58 => Ok(None),
-        59 => chan_swap(alloc, left),
-        60 => chan_seq(alloc, left),
-        61 => chan_if(alloc, left),
-        62 => chan_alt(alloc, left),
-        _ => chan_par(alloc, left),
+    match law.law() {
+        Some(Law::VarUnused) => var_unused(alloc, left),
+        Some(Law::VarRename) => Ok(None),
+        Some(Law::VarSwap) => var_swap(alloc, left),
+        Some(Law::VarFirst) => var_first(alloc, left),
+        Some(Law::VarLast) => var_last(alloc, left),
+        Some(Law::VarIf) => var_if(alloc, left),
+        Some(Law::VarAlt) => var_alt(alloc, left),
+        Some(Law::VarPar) => var_par(alloc, left),
+        Some(Law::VarAny) => var_any(alloc, scope, left),
+        Some(Law::VarAssign) => var_assign(alloc, left),
+        Some(Law::VarEnd) => var_end(alloc, left),
+        Some(Law::ChanUnused) => chan_unused(alloc, left),
+        Some(Law::ChanRename) => Ok(None),
+        Some(Law::ChanSwap) => chan_swap(alloc, left),
+        Some(Law::ChanSeq) => chan_seq(alloc, left),
+        Some(Law::ChanIf) => chan_if(alloc, left),
+        Some(Law::ChanAlt) => chan_alt(alloc, left),
+        Some(Law::ChanPar) => chan_par(alloc, left),
+        _ => Ok(None),
     }
 }

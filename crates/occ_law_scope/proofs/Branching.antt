@@ -1,7 +1,7 @@
 -- The laws that put a declaration into each choice or each branch, by their sides.
 use Rattle.std.proofs.Common.{◌≡◌, ℕ, ◌↔◌, false, List, [], refl, ap, sym, ◌∙◌}
-use Rattle.occ_names.specs.occ_base.declared.names.Name.{Name}
-use Rattle.occ_names.specs.occ_base.declared.width.Width.{Width}
+use Rattle.occ_syntax.specs.occ_base.declared.names.Name.{Name}
+use Rattle.occ_syntax.specs.occ_base.declared.width.Width.{Width}
 use Rattle.occ_law_shape.specs.occ_law.Lists.{conditions}
 use Rattle.occ_law_shape.specs.occ_law.Scope.{ChanIf, chan_if, VarAlt, var_alt, VarIf, var_if, each_branch_declaring, each_case_connecting, each_case_declaring, some_guard_names}
 use Rattle.occ_law_shape.specs.Pieces.{each_branch, each_choice}

@@ -1,6 +1,6 @@
 -- Assignments without the pairs for one variable: var-assign and var-end, by their sides.
 use Rattle.std.proofs.Common.{◌≡◌, ℕ, ◌↔◌, ◌⊎◌, inl, inr, Bool, IsTrue, false, List, [], ◌∷◌, refl, ap, sym, ◌∙◌, subst}
-use Rattle.occ_names.specs.occ_base.declared.width.Width.{Width}
+use Rattle.occ_syntax.specs.occ_base.declared.width.Width.{Width}
 use Rattle.occ_law_shape.specs.occ_law.Lists.{assigned_without, values_without}
 use Rattle.occ_law_shape.specs.occ_law.Scope.{VarAssign, var_assign, VarEnd, var_end}
 use Rattle.occ_names.specs.occ_meaning.Parallel.{two}

@@ -1,8 +1,8 @@
 -- The values of a width, one behind the other, and the branches that begin with them.
 use Rattle.std.proofs.Common.{◌≡◌, ℕ, zero, suc, ◌+◌, ◌^◌, arith, ◌↔◌, true, List, [], ◌∷◌, refl, ap, sym, ◌∙◌}
-use Rattle.occ_names.specs.occ_base.declared.width.Width.{Width}
-use Rattle.occ_names.specs.occ_base.declared.width.Width.TheVariants.{Bool as TruthValue, Word}
-use Rattle.occ_names.specs.occ_base.Width.{bits_of}
+use Rattle.occ_syntax.specs.occ_base.declared.width.Width.{Width}
+use Rattle.occ_syntax.specs.occ_base.declared.width.Width.TheVariants.{Bool as TruthValue, Word}
+use Rattle.occ_syntax.specs.occ_base.Width.{bits_of}
 use Rattle.occ_law_shape.specs.occ_law.Scope.{VarAny, var_any, each_value, values_of, words_from}
 use Rattle.occ_syntax.specs.Tree.{ready, truth, Tree, alt, declare, Branches, no_branch, and_branch}
 use Rattle.occ_law_scope.proofs.Joined.{by_sides, put_right}

@@ -2,8 +2,8 @@
 use Rattle.std.proofs.Common.{◌≡◌, ℕ, ◌==◌, ◌↔◌, Bool, true, false, ◌||◌, ◌&&◌, Some, List, [], ◌∷◌, refl, ap, sym, ◌∙◌, subst, inl, inr}
 use Rattle.std.proofs.lemmas.Bool.{and_parts}
 use Rattle.std.proofs.lemmas.Bool.Decides.{eqb_tells}
-use Rattle.occ_names.specs.occ_base.declared.event.Dir.TheVariants.{Input}
-use Rattle.occ_names.specs.occ_base.declared.width.Width.{Width}
+use Rattle.occ_syntax.specs.occ_base.declared.event.Dir.TheVariants.{Input}
+use Rattle.occ_syntax.specs.occ_base.declared.width.Width.{Width}
 use Rattle.occ_law_shape.specs.occ_law.Lists.{all_branches, tally}
 use Rattle.occ_law_shape.specs.occ_law.Scope.{VarAltInput, var_alt_input}
 use Rattle.occ_names.proofs.from_meaning.Facts.{agreed, name_at, name_off, off_turned, true_not_false}

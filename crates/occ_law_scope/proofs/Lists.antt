@@ -3,7 +3,7 @@ use Rattle.std.proofs.Common.{◌≡◌, ℕ, ◌==◌, ◌↔◌, ◌⊎◌, in
 use Rattle.std.proofs.lemmas.List.{at_drop_all}
 use Rattle.std.proofs.lemmas.Bool.{cases_lt}
 use Rattle.std.specs.List.{list_any}
-use Rattle.occ_names.specs.occ_base.declared.names.Name.{Name}
+use Rattle.occ_syntax.specs.occ_base.declared.names.Name.{Name}
 use Rattle.occ_names.proofs.from_meaning.Facts.{same_turned}
 use Rattle.occ_syntax.specs.declared.expr.Expr.{Expr}
 use Rattle.occ_syntax.specs.declared.expr.Guard.{Guard}
@@ -61,10 +61,6 @@ branches_none l b test = ((λ h. there l (test.0 h)), (λ k. test.1 (back l k)))
 -- where the second list ends, the first one must
 pub whole : {A P : Type 0} (xs ys none : A) (c : Bool) → ys ≡ none → (IsTrue c ↔ (xs ≡ none)) → ((xs ≡ ys) ↔ P) → IsTrue c ↔ P
 whole xs ys none c e test same = ((λ h. same.0 (test.0 h ∙ sym e)), (λ r. test.1 (same.1 r ∙ e)))
-
--- and where the first one ends, the second one
-pub whole_turned : {A P : Type 0} (xs ys none : A) (c : Bool) → xs ≡ none → (IsTrue c ↔ (ys ≡ none)) → ((xs ≡ ys) ↔ P) → IsTrue c ↔ P
-whole_turned xs ys none c e test same = ((λ h. same.0 (e ∙ sym (test.0 h))), (λ r. test.1 (sym (same.1 r) ∙ e)))
 
 -- ---- branches one by one
 

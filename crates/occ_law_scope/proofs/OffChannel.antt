@@ -1,6 +1,6 @@
 -- chan-alt, by its sides: the branches whose guard isn't on the channel.
 use Rattle.std.proofs.Common.{◌≡◌, ℕ, ◌↔◌, List, [], refl, ap, sym, ◌∙◌}
-use Rattle.occ_names.specs.occ_base.declared.width.Width.{Width}
+use Rattle.occ_syntax.specs.occ_base.declared.width.Width.{Width}
 use Rattle.occ_law_shape.specs.occ_law.Scope.{ChanAlt, chan_alt, without_channel}
 use Rattle.occ_syntax.specs.Tree.{Tree, alt, connect, Branches, no_branch}
 use Rattle.occ_law_scope.proofs.Joined.{by_sides, put_right}

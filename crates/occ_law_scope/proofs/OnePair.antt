@@ -1,7 +1,7 @@
 -- The assignment of one variable that a process is.
 use Rattle.std.proofs.Common.{◌≡◌, ℕ, Option, None, Some, List}
 use Rattle.std.specs.Borrow.{Bor}
-use Rattle.occ_names.specs.occ_base.declared.names.Name.{Name}
+use Rattle.occ_syntax.specs.occ_base.declared.names.Name.{Name}
 use Rattle.occ_syntax.specs.declared.expr.Expr.{Expr}
 use Rattle.occ_syntax.specs.Tree.{Exp, Tree, assign}
 use Rattle.occ_law_scope.specs.Turns.{IsOnePair, IsOnlyPair}

@@ -3,9 +3,9 @@ use Rattle.std.proofs.Common.{◌≡◌, ℕ, ◌==◌, Bool, true, false, ◌||
 use Rattle.std.specs.Prelude.{is_none}
 use Rattle.std.proofs.lemmas.Bool.{and_parts}
 use Rattle.std.proofs.lemmas.Bool.Decides.{eqb_tells}
-use Rattle.occ_names.specs.occ_base.declared.names.Name.{Name}
-use Rattle.occ_names.specs.occ_base.declared.event.Dir.{Dir}
-use Rattle.occ_names.specs.occ_base.declared.width.Width.{Width}
+use Rattle.occ_syntax.specs.occ_base.declared.names.Name.{Name}
+use Rattle.occ_syntax.specs.occ_base.declared.event.Dir.{Dir}
+use Rattle.occ_syntax.specs.occ_base.declared.width.Width.{Width}
 use Rattle.occ_names.proofs.from_meaning.Facts.{false_not_true}
 use Rattle.occ_names.proofs.from_meaning.States.{fresh_name}
 use Rattle.occ_names.specs.declared.mention.Mention.{Mention}

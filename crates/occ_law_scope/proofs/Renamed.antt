@@ -2,7 +2,7 @@
 use Rattle.std.proofs.Common.{◌≡◌, ℕ, ◌↔◌, true, false, None, List, [], ap, sym, ◌∙◌, subst}
 use Rattle.std.specs.Prelude.{is_none}
 use Rattle.std.proofs.lemmas.Bool.{and_parts}
-use Rattle.occ_names.specs.occ_base.declared.width.Width.{Width}
+use Rattle.occ_syntax.specs.occ_base.declared.width.Width.{Width}
 use Rattle.occ_law_shape.specs.occ_law.Scope.{ChanRename, chan_rename, VarRename, var_rename}
 use Rattle.occ_names.proofs.from_meaning.Facts.{name_at}
 use Rattle.occ_names.proofs.from_meaning.States.{fresh_name}

@@ -1,7 +1,7 @@
 -- The laws of declared names by their sides: what the right side is, where the left side is known.
 use Rattle.std.proofs.Common.{◌≡◌, ℕ, ◌↔◌, false, List, [], refl, ap, sym, ◌∙◌, subst}
-use Rattle.occ_names.specs.occ_base.declared.names.Name.{Name}
-use Rattle.occ_names.specs.occ_base.declared.width.Width.{Width}
+use Rattle.occ_syntax.specs.occ_base.declared.names.Name.{Name}
+use Rattle.occ_syntax.specs.occ_base.declared.width.Width.{Width}
 use Rattle.occ_law_shape.specs.occ_law.Scope.{ChanPar, chan_par, ChanSeq, chan_seq, ChanSwap, chan_swap, ChanUnused, chan_unused, VarFirst, var_first, VarLast, var_last, VarPar, var_par, VarSwap, swap_variables, swap_with_channel, VarUnused, var_unused}
 use Rattle.occ_names.specs.occ_meaning.Parallel.{two}
 use Rattle.occ_syntax.specs.Names.{free, free_in_some}

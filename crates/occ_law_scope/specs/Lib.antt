@@ -4,5 +4,4 @@ pub mod Moves
 pub mod Values
 pub mod Pairs
 pub mod Input
-pub use Rattle.occ_names.specs.occ_base as occ_base
 pub use Rattle.occ_names.specs.occ_meaning as occ_meaning

@@ -1,7 +1,7 @@
 -- A SEQ of two processes, and one that begins with an assignment of one variable.
 use Rattle.std.specs.Prelude.{ℕ, ◌≡◌, List, [], ◌∷◌, Option, None, Some}
 use Rattle.std.specs.Borrow.{Bor}
-use Rattle.occ_names.specs.occ_base.declared.names.Name.{Name}
+use Rattle.occ_syntax.specs.occ_base.declared.names.Name.{Name}
 use Rattle.occ_syntax.specs.declared.expr.Expr.{Expr}
 use Rattle.occ_syntax.specs.declared.proc.Proc.{Proc}
 use Rattle.occ_syntax.specs.Tree.{Exp, Tree, assign, seq}

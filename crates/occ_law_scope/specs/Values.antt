@@ -1,7 +1,7 @@
 -- The values of a width, by number.
 use Rattle.std.specs.Prelude.{ℕ, zero, suc, ◌+◌, nat_lt, List, [], ◌∷◌}
-use Rattle.occ_names.specs.occ_base.declared.width.Width.{Width}
-use Rattle.occ_names.specs.occ_base.declared.width.Width.TheVariants.{Bool as TruthValue, Word}
+use Rattle.occ_syntax.specs.occ_base.declared.width.Width.{Width}
+use Rattle.occ_syntax.specs.occ_base.declared.width.Width.TheVariants.{Bool as TruthValue, Word}
 use Rattle.occ_syntax.specs.Tree.{Exp, numeral, truth}
 
 -- that value as a constant of the width; FALSE is 0

@@ -9,8 +9,7 @@ ghost use Rattle.occ_syntax.specs.View.{branches, cases, tree};
 use crate::declaration::Declaration;
 use crate::mentions::{some_condition_names, some_guard_names};
 use occ_law_shape::{BranchPiece, ChoicePiece, are_branch_pieces, are_choice_pieces, shape};
-use occ_names::Memory;
-use occ_syntax::{Expr, Guard, Proc, same_expr};
+use occ_syntax::{Expr, Guard, Memory, Proc, same_expr};
 use std::alloc::Global;
 
 /// What a declaration makes of each choice or branch: the process under it.

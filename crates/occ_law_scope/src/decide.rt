@@ -14,9 +14,8 @@ use crate::pairs::{var_assign, var_end};
 use crate::renaming::{chan_rename, var_rename};
 use crate::unheard::chan_alt;
 use crate::values::var_any;
-use occ_law_shape::{LawId, Store};
-use occ_names::Memory;
-use occ_syntax::{Proc, Scope};
+use occ_law_shape::{Law, LawId, Store};
+use occ_syntax::{Memory, Proc, Scope};
 use std::alloc::Global;
 
 /// Whether two parts are the two sides of a law of declarations in a scope: var-unused and the laws behind it in the
@@ -37,24 +36,25 @@ pub fn holds(
     requires right { Keeps (environment scope.now) (tree right.now) }
     ensures { IfOk result (λ answer. IsTrue answer ↔ LAW law.0 scope.now (tree left.now) (tree right.now)) }
 {
-    match law.0 {
-        46 => var_unused(alloc, left, right),
-        47 => var_rename(alloc, scope, left, right),
-        48 => var_swap(left, right),
-        49 => var_first(alloc, left, right),
-        50 => var_last(alloc, left, right),
-        51 => var_if(alloc, left, right),
-        52 => var_alt(alloc, scope, left, right),
-        53 => var_par(alloc, left, right),
-        54 => var_any(scope, left, right),
-        55 => var_assign(left, right),
-        56 => var_end(left, right),
-        57 => chan_unused(alloc, left, right),
-        58 => chan_rename(alloc, scope, left, right),
-        59 => chan_swap(left, right),
-        60 => chan_seq(left, right),
-        61 => chan_if(alloc, left, right),
-        62 => chan_alt(left, right),
-        _ => chan_par(alloc, left, right),
+    match law.law() {
+        Some(Law::VarUnused) => var_unused(alloc, left, right),
+        Some(Law::VarRename) => var_rename(alloc, scope, left, right),
+        Some(Law::VarSwap) => var_swap(left, right),
+        Some(Law::VarFirst) => var_first(alloc, left, right),
+        Some(Law::VarLast) => var_last(alloc, left, right),
+        Some(Law::VarIf) => var_if(alloc, left, right),
+        Some(Law::VarAlt) => var_alt(alloc, scope, left, right),
+        Some(Law::VarPar) => var_par(alloc, left, right),
+        Some(Law::VarAny) => var_any(scope, left, right),
+        Some(Law::VarAssign) => var_assign(left, right),
+        Some(Law::VarEnd) => var_end(left, right),
+        Some(Law::ChanUnused) => chan_unused(alloc, left, right),
+        Some(Law::ChanRename) => chan_rename(alloc, scope, left, right),
+        Some(Law::ChanSwap) => chan_swap(left, right),
+        Some(Law::ChanSeq) => chan_seq(left, right),
+        Some(Law::ChanIf) => chan_if(alloc, left, right),
+        Some(Law::ChanAlt) => chan_alt(left, right),
+        Some(Law::ChanPar) => chan_par(alloc, left, right),
+        _ => Ok(false),
     }
 }

@@ -2,9 +2,8 @@ ghost use Rattle.std.specs.Prelude.{◌≡◌, ◌↔◌, IsTrue};
 ghost use Rattle.occ_syntax.specs.View.{exp, tree, waiting};
 ghost use Rattle.occ_law_scope.specs.Under.{IsBody, IsTakenOff, name_of, under};
 
-use occ_law_shape::{Form, opened, same_waits};
-use occ_names::{Name, Width};
-use occ_syntax::{Guard, Proc, same_expr, same_proc};
+use occ_law_shape::{Form, opened};
+use occ_syntax::{Guard, Name, Proc, Width, same_expr, same_proc, same_wait};
 
 /// A declaration without the process under it.
 #[derive(Clone, Copy, PartialEq, Eq)]
@@ -60,7 +59,7 @@ impl Declaration {
         if !same_expr(&whole.0.condition, &branch.0.condition) {
             return false;
         }
-        if !same_waits(&whole.0.wait, &branch.0.wait) {
+        if !same_wait(&whole.0.wait, &branch.0.wait) {
             return false;
         }
         self.governs(&whole.1, &branch.1)

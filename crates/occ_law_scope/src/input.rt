@@ -12,9 +12,10 @@ use crate::choices::var_alt_under;
 use crate::declaration::Declaration;
 use crate::mentions::is_unused;
 use crate::turns::begun;
-use occ_law_shape::{same_waits, shape};
-use occ_names::{Memory, Name};
-use occ_syntax::{Expr, Guard, Proc, Scope, Wait, same_expr, same_proc};
+use occ_law_shape::shape;
+use occ_syntax::{
+    Expr, Guard, Memory, Name, Proc, Scope, Wait, same_branch, same_branches, same_expr, same_proc,
+};
 use std::alloc::Global;
 
 /// var-alt, in either of its forms.
@@ -127,36 +128,4 @@ fn is_variable(expr: &Expr, name: Name) -> bool
         Expr::Var(other) => *other == name,
         _ => false,
     }
-}
-
-fn same_branch(branch: &(Guard, Proc), other: &(Guard, Proc)) -> bool
-    ensures { IsTrue result
-        ↔ ((exp branch.now.0.condition ≡ exp other.now.0.condition) × (waiting branch.now.0.wait ≡ waiting other.now.0.wait)
-        × (tree branch.now.1 ≡ tree other.now.1)) }
-{
-    if !same_expr(&branch.0.condition, &other.0.condition) {
-        return false;
-    }
-    if !same_waits(&branch.0.wait, &other.0.wait) {
-        return false;
-    }
-    same_proc(&branch.1, &other.1)
-}
-
-fn same_branches(alternatives: &[(Guard, Proc)], others: &[(Guard, Proc)]) -> bool
-    ensures { IsTrue result ↔ (branches alternatives.now ≡ branches others.now) }
-{
-    let mut rest = alternatives;
-    let mut other_rest = others;
-    while let [branch, more @ ..] = rest {
-        let [other, other_more @ ..] = other_rest else {
-            return false;
-        };
-        if !same_branch(branch, other) {
-            return false;
-        }
-        rest = more;
-        other_rest = other_more;
-    }
-    other_rest.is_empty()
 }

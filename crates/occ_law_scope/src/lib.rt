@@ -15,6 +15,5 @@ mod values;
 
 pub use decide::holds;
 pub use mentions::{is_on, is_unused, is_unused_in_all, some_condition_names, some_guard_names};
-pub use occ_names::{Memory, Name, Width};
 pub use pairs::other_values_name;
 pub use values::count_of;

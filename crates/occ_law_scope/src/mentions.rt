@@ -5,8 +5,8 @@ ghost use Rattle.occ_syntax.specs.Names.{free as is_free, free_in_some, free_in_
 ghost use Rattle.occ_syntax.specs.Names.{names as is_named, some_names as is_some_named};
 ghost use Rattle.occ_syntax.specs.View.{branches, cases, exp, numbers, tree, trees, waiting};
 
-use occ_names::{Memory, Name, free};
-use occ_syntax::{Expr, Guard, Proc, Wait};
+use occ_names::free;
+use occ_syntax::{Expr, Guard, Memory, Name, Proc, Wait};
 use std::alloc::Global;
 
 /// Whether a name doesn't stand free in a process.

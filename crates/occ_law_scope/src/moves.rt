@@ -11,9 +11,8 @@ ghost use Rattle.occ_syntax.specs.View.{tree, trees};
 use crate::declaration::{Declaration, taken_off};
 use crate::mentions::{is_unused, is_unused_in_all};
 use crate::turns::turns;
-use occ_law_shape::{same_procs, shape};
-use occ_names::{Memory, Name};
-use occ_syntax::{Proc, same_proc};
+use occ_law_shape::shape;
+use occ_syntax::{Memory, Name, Proc, same_proc, same_procs};
 use std::alloc::Global;
 
 /// VAR x: P = P, where x isn't free in P

@@ -10,8 +10,7 @@ use crate::declaration::Declaration;
 use crate::mentions::names;
 use crate::turns::turns;
 use occ_law_shape::{Form, opened, shape};
-use occ_names::{Memory, Name};
-use occ_syntax::{Expr, Proc, same_expr, same_proc};
+use occ_syntax::{Expr, Memory, Name, Proc, same_expr, same_proc};
 
 /// VAR x: ys := fs = the assignment of the pairs for the other variables, where no right side of these names x
 pub(crate) fn var_assign(left: &Proc, right: &Proc) -> Result<bool, Memory>

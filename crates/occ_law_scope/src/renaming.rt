@@ -9,8 +9,8 @@ ghost use Rattle.occ_syntax.specs.Types.{types_kept};
 ghost use Rattle.occ_syntax.specs.View.{tree};
 
 use occ_law_shape::shape;
-use occ_names::{Memory, Name, RenameFault, Width, rename};
-use occ_syntax::{Proc, Scope, same_proc};
+use occ_names::{RenameFault, rename};
+use occ_syntax::{Memory, Name, Proc, Scope, same_proc, same_width};
 use std::alloc::Global;
 
 /// VAR x: P = VAR y: P with x renamed to y, where y stands neither in P nor in the scope
@@ -69,10 +69,4 @@ fn is_renamed(
         Err(RenameFault::Capture) => Ok(false),
         Err(RenameFault::Memory) => Err(Memory),
     }
-}
-
-fn same_width(left: Width, right: Width) -> bool
-    ensures { IsTrue result ↔ (left ≡ right) }
-{
-    left == right
 }

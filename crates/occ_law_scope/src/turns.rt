@@ -3,8 +3,7 @@ ghost use Rattle.occ_law_scope.specs.Turns.{IsBegun, IsOnePair, IsOnlyPair, IsTu
 ghost use Rattle.occ_syntax.specs.View.{exps, numbers, tree};
 
 use occ_law_shape::{Form, opened, pair};
-use occ_names::Name;
-use occ_syntax::{Expr, Proc};
+use occ_syntax::{Expr, Name, Proc};
 
 /// The two parts of a SEQ that has two; None exactly where a process isn't such a SEQ.
 pub(crate) fn turns(part: &Proc) -> Option<(&Proc, &Proc)>

@@ -6,8 +6,7 @@ ghost use Rattle.occ_syntax.specs.View.{branches, tree};
 use crate::declaration::Declaration;
 use crate::mentions::is_on;
 use occ_law_shape::shape;
-use occ_names::{Memory, Name, Width};
-use occ_syntax::{Guard, Proc};
+use occ_syntax::{Guard, Memory, Name, Proc, Width};
 
 /// CHAN c: ALT(gs) = the ALT of the branches whose guard isn't on c, each process P under CHAN c
 pub(crate) fn chan_alt(left: &Proc, right: &Proc) -> Result<bool, Memory>

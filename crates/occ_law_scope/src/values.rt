@@ -1,5 +1,5 @@
 ghost use Rattle.std.specs.Prelude.{◌≡◌, ◌↔◌, ◌^◌, IfOk, IsTrue, true};
-ghost use Rattle.occ_names.specs.occ_base.Width.{bits_of};
+ghost use Rattle.occ_syntax.specs.occ_base.Width.{bits_of};
 ghost use Rattle.occ_law_shape.specs.occ_law.Scope.{VarAny, each_value, values_of};
 ghost use Rattle.occ_law_scope.specs.Turns.{begun as begun_with};
 ghost use Rattle.occ_law_scope.specs.Values.{value_at};
@@ -11,9 +11,8 @@ ghost use Rattle.occ_syntax.specs.View.{branches, exp, tree, waiting};
 
 use crate::declaration::Declaration;
 use crate::turns::begun;
-use occ_law_shape::law_case;
-use occ_names::{Memory, Name, Width};
-use occ_syntax::{Expr, Guard, Proc, Scope, Wait, same_proc};
+use occ_law_shape::{is_truth, law_case};
+use occ_syntax::{Expr, Guard, Memory, Name, Proc, Scope, Wait, Width, same_proc};
 
 /// VAR x: P = the ALT that has for each value v of x the branch TRUE & SKIP VAR x: SEQ(x := v, P)
 pub(crate) fn var_any(_scope: &Scope, left: &Proc, right: &Proc) -> Result<bool, Memory>
@@ -62,7 +61,7 @@ impl Variable<'_> {
             × (tree branch.now.1 ≡ declare self.now.name.0 self.now.width
             (begun_with self.now.name.0 (value_at self.now.width value) (tree self.now.body.now)))) }
     {
-        if !is_true(&branch.0.condition) {
+        if !is_truth(&branch.0.condition) {
             return false;
         }
         if !is_ready(&branch.0.wait) {
@@ -109,15 +108,6 @@ fn is_value(width: Width, value: u16, expr: &Expr) -> bool
             Expr::Word { bits: b, value: v } => *b == bits && u16::from(*v) == value,
             _ => false,
         },
-    }
-}
-
-fn is_true(expr: &Expr) -> bool
-    ensures { IsTrue result ↔ (exp expr.now ≡ truth true) }
-{
-    match expr {
-        Expr::Bool(truth) => *truth,
-        _ => false,
     }
 }
 

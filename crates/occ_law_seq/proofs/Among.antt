@@ -1,7 +1,7 @@
 -- Names among names.
 use Rattle.std.proofs.Common.{◌≡◌, ◌==◌, ◌||◌, List, [], ◌∷◌, refl}
 use Rattle.std.specs.List.{list_any}
-use Rattle.occ_law_shape.specs.occ_base.declared.names.Name.{Name}
+use Rattle.occ_syntax.specs.occ_base.declared.names.Name.{Name}
 use Rattle.occ_law_shape.proofs.from_meaning.Facts.{same_turned}
 use Rattle.occ_syntax.specs.Names.{is_in}
 use Rattle.occ_syntax.specs.View.{numbers}

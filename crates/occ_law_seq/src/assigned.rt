@@ -10,10 +10,8 @@ ghost use Rattle.occ_law_seq.specs.Assignment.{assigned_then};
 use crate::first::{assigned_first, in_turn};
 use crate::kept::{is_without, spares};
 use crate::pairs::Pairs;
-use occ_law_shape::{
-    BranchPiece, ChoicePiece, Memory, are_branch_pieces, are_choice_pieces, law_case,
-};
-use occ_syntax::{Expr, Guard, Proc, Wait, same_proc};
+use occ_law_shape::{BranchPiece, ChoicePiece, are_branch_pieces, are_choice_pieces, law_case};
+use occ_syntax::{Expr, Guard, Memory, Proc, Wait, same_proc};
 use std::alloc::Global;
 
 impl ChoicePiece for Pairs<'_> {

@@ -7,8 +7,8 @@ ghost use Rattle.occ_law_seq.specs.Assignment.{AreAmong, HasPair, HasPairs, IsJo
 
 use crate::first::assigned_first;
 use crate::pairs::{Pairs, has_name, is_variable};
-use occ_law_shape::{Memory, Name, law_case, same_expressions, same_names};
-use occ_syntax::{Expr, Proc, same_expr};
+use occ_law_shape::law_case;
+use occ_syntax::{Expr, Memory, Name, Proc, same_expr, same_exprs, same_names};
 
 /// xs := xs = SKIP
 pub(crate) fn assign_id(left: &Proc, right: &Proc) -> Result<bool, Memory>
@@ -111,7 +111,7 @@ fn is_padded(pairs: &Pairs<'_>, padded: &Pairs<'_>) -> bool
     is_variable(value, *pad)
         && !has_name(pairs.vars, *pad)
         && same_names(vars, pairs.vars)
-        && same_expressions(values, pairs.values)
+        && same_exprs(values, pairs.values)
 }
 
 /// SEQ(xs := es, xs := fs) = xs := fs[es/xs]

@@ -6,10 +6,9 @@ ghost use Rattle.occ_law_shape.specs.Answer.{IsAnswer};
 ghost use Rattle.occ_law_seq.specs.Behind.{IsDivided, followed};
 
 use occ_law_shape::{
-    BranchPiece, ChoicePiece, Memory, are_branch_pieces, are_choice_pieces, law_case, same_procs,
-    same_waits, shape,
+    BranchPiece, ChoicePiece, are_branch_pieces, are_choice_pieces, law_case, shape,
 };
-use occ_syntax::{Expr, Guard, Proc, same_expr, same_proc};
+use occ_syntax::{Expr, Guard, Memory, Proc, same_expr, same_proc, same_procs, same_wait};
 use std::alloc::Global;
 
 /// What follows each process.
@@ -56,7 +55,7 @@ impl BranchPiece for Followed<'_> {
         if !same_expr(&other.0.condition, &branch.0.condition) {
             return Ok(false);
         }
-        if !same_waits(&other.0.wait, &branch.0.wait) {
+        if !same_wait(&other.0.wait, &branch.0.wait) {
             return Ok(false);
         }
         Ok(is_followed(&branch.1, self.behind, &other.1))

@@ -1,13 +1,12 @@
-ghost use Rattle.std.specs.Prelude.{◌≡◌, ◌↔◌, IfOk, IsTrue, true};
-ghost use Rattle.occ_syntax.specs.Tree.{alt, skip, truth};
+ghost use Rattle.std.specs.Prelude.{◌↔◌, IfOk, IsTrue};
+ghost use Rattle.occ_syntax.specs.Tree.{alt};
 ghost use Rattle.occ_syntax.specs.View.{branches, exp, tree, waiting};
 ghost use Rattle.occ_law_shape.specs.occ_law.Sequence.{IoAlt};
 ghost use Rattle.occ_law_shape.specs.Answer.{IsAnswer};
 ghost use Rattle.occ_law_seq.specs.Communication.{Communicates, EndsAfter};
 
-use crate::places::is_skip;
-use occ_law_shape::{Form, Memory, opened, shape};
-use occ_syntax::{Expr, Guard, Proc, Wait, same_expr};
+use occ_law_shape::{Form, is_skip, is_truth, opened, shape};
+use occ_syntax::{Guard, Memory, Proc, Wait, same_expr};
 
 /// c ! e = ALT(c ! e SKIP), and c ? x = ALT(c ? x SKIP)
 pub(crate) fn io_alt(left: &Proc, right: &Proc) -> Result<bool, Memory>
@@ -30,16 +29,7 @@ fn is_alone(part: &Proc, alternatives: &[(Guard, Proc)]) -> bool
 fn ends_after(part: &Proc, branch: &(Guard, Proc)) -> bool
     ensures { IsTrue result ↔ EndsAfter (tree part.now) (exp branch.now.0.condition) (waiting branch.now.0.wait) (tree branch.now.1) }
 {
-    is_certain(&branch.0.condition) && is_skip(&branch.1) && communicates(part, &branch.0.wait)
-}
-
-fn is_certain(condition: &Expr) -> bool
-    ensures { IsTrue result ↔ (exp condition.now ≡ truth true) }
-{
-    match condition {
-        Expr::Bool(truth) => *truth,
-        _ => false,
-    }
+    is_truth(&branch.0.condition) && is_skip(&branch.1) && communicates(part, &branch.0.wait)
 }
 
 /// Whether a part is the communication that a guard waits for.

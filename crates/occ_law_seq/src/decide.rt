@@ -11,8 +11,8 @@ use crate::behind::{seq_alt, seq_if};
 use crate::communication::io_alt;
 use crate::expressions::expr;
 use crate::sequence::{seq_flat, seq_none, seq_one, seq_skip, seq_stop};
-use occ_law_shape::{LawId, Memory, Store};
-use occ_syntax::{Proc, Scope};
+use occ_law_shape::{Law, LawId, Store};
+use occ_syntax::{Memory, Proc, Scope};
 use std::alloc::Global;
 
 /// Whether two parts are the two sides of a law in a scope. The law is one of the first fifteen of the table, from seq-none
@@ -33,21 +33,22 @@ pub fn holds(
     requires right { Keeps (environment scope.now) (tree right.now) }
     ensures { IfOk result (λ answer. IsTrue answer ↔ LAW law.0 scope.now (tree left.now) (tree right.now)) }
 {
-    match law.0 {
-        1 => seq_none(left, right),
-        2 => seq_one(left, right),
-        3 => seq_flat(left, right),
-        4 => seq_skip(left, right),
-        5 => seq_stop(left, right),
-        6 => assign_id(left, right),
-        7 => assign_order(left, right),
-        8 => assign_pad(left, right),
-        9 => assign_join(left, right),
-        10 => assign_if(alloc, left, right),
-        11 => assign_alt(alloc, left, right),
-        12 => seq_if(alloc, left, right),
-        13 => seq_alt(alloc, left, right),
-        14 => expr(alloc, store, scope, left, right),
-        _ => io_alt(left, right),
+    match law.law() {
+        Some(Law::SeqNone) => seq_none(left, right),
+        Some(Law::SeqOne) => seq_one(left, right),
+        Some(Law::SeqFlat) => seq_flat(left, right),
+        Some(Law::SeqSkip) => seq_skip(left, right),
+        Some(Law::SeqStop) => seq_stop(left, right),
+        Some(Law::AssignId) => assign_id(left, right),
+        Some(Law::AssignOrder) => assign_order(left, right),
+        Some(Law::AssignPad) => assign_pad(left, right),
+        Some(Law::AssignJoin) => assign_join(left, right),
+        Some(Law::AssignIf) => assign_if(alloc, left, right),
+        Some(Law::AssignAlt) => assign_alt(alloc, left, right),
+        Some(Law::SeqIf) => seq_if(alloc, left, right),
+        Some(Law::SeqAlt) => seq_alt(alloc, left, right),
+        Some(Law::Expr) => expr(alloc, store, scope, left, right),
+        Some(Law::IoAlt) => io_alt(left, right),
+        _ => Ok(false),
     }
 }

@@ -7,10 +7,9 @@ ghost use Rattle.occ_law_shape.specs.occ_law.Sequence.{ExprEqual};
 ghost use Rattle.occ_law_shape.specs.Answer.{IsAnswer};
 
 use occ_law_shape::{
-    Always, Equality, Form, Memory, Store, branches_equal, cases_equal, each_equal, opened,
-    same_names, shape,
+    Always, Equality, Form, Store, branches_equal, cases_equal, each_equal, opened, shape,
 };
-use occ_syntax::{Proc, Scope};
+use occ_syntax::{Memory, Proc, Scope, same_names};
 use std::alloc::Global;
 
 /// Two assignments, outputs, IFs or ALTs that differ in expressions alone, each equal in every state to the one in its place

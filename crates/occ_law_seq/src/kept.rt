@@ -6,8 +6,8 @@ ghost use Rattle.occ_law_shape.specs.occ_law.Sequence.{spares_input};
 ghost use Rattle.occ_law_seq.specs.Kept.{IsNameRest, IsValueRest};
 
 use crate::pairs::{Pairs, names};
-use occ_law_shape::{Form, Name, opened};
-use occ_syntax::{Expr, Proc, Wait, same_expr};
+use occ_law_shape::{Form, opened};
+use occ_syntax::{Expr, Name, Proc, Wait, same_expr};
 
 /// Whether a part is the assignment of the pairs for other variables than one; SKIP where there are none.
 pub(crate) fn is_without(pairs: &Pairs<'_>, var: Name, part: &Proc) -> bool

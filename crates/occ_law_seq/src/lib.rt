@@ -18,5 +18,9 @@ pub use assignment::are_variables;
 pub use behind::divided;
 pub use decide::holds;
 pub use first::assigned_first;
-pub use occ_law_shape::{Form, LawId, LawPlace as Place, only, opened, pair, same_names};
+pub use occ_law_shape::{
+    Form, Here as LawShapeHere, Law, LawId, LawPlace as Place, add_copies, alt_of, branches_of,
+    choices_of, if_of, in_turn, is_skip, is_stop, only, opened, pair, part_at, parts_in_seq,
+    seq_of,
+};
 pub use pairs::Pairs;

@@ -5,8 +5,8 @@ ghost use Rattle.occ_syntax.specs.View.{exp, exps, numbers, tree};
 ghost use Rattle.occ_law_shape.specs.occ_meaning.Substitution.{substituted, value_for};
 ghost use Rattle.occ_law_seq.specs.Assignment.{IsAssignment, standing_for};
 
-use occ_law_shape::{Form, Name, opened, same_expressions, same_names};
-use occ_syntax::{Expr, Op, Proc, same_expr};
+use occ_law_shape::{Form, opened};
+use occ_syntax::{Expr, Name, Op, Proc, same_expr, same_exprs, same_names};
 
 /// The pairs of an assignment: its variables, and the right side of each.
 #[derive(Clone, Copy)]
@@ -34,7 +34,7 @@ impl<'a> Pairs<'a> {
     {
         match opened(part) {
             Form::Assign(vars, values) => {
-                same_names(vars, self.vars) && same_expressions(values, self.values)
+                same_names(vars, self.vars) && same_exprs(values, self.values)
             }
             _ => false,
         }

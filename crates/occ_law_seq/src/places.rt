@@ -1,10 +1,9 @@
 ghost use Rattle.std.specs.Prelude.{◌≡◌, ◌↔◌, IsTrue, true};
-ghost use Rattle.occ_syntax.specs.Tree.{skip, stop};
-ghost use Rattle.occ_syntax.specs.View.{tree, trees};
+ghost use Rattle.occ_syntax.specs.View.{trees};
 ghost use Rattle.occ_law_seq.specs.Places.{FlatHere, SkipHere, StopHere, begins_with_skip as begins_so, no_flat_at_end, no_skip_at_end, no_stop_at_end};
 
-use occ_law_shape::{Form, Place, behind, only, opened, same_procs};
-use occ_syntax::Proc;
+use occ_law_shape::{Form, Place, behind, is_skip, is_stop, only, opened};
+use occ_syntax::{Proc, same_procs};
 
 /// A SEQ in a SEQ, whose parts take its place.
 #[derive(Clone, Copy)]
@@ -64,24 +63,6 @@ impl Place for LastStop {
     }
 
     ghost starts = { λ _ us j. no_stop_at_end us j };
-}
-
-pub(crate) fn is_skip(part: &Proc) -> bool
-    ensures { IsTrue result ↔ (tree part.now ≡ skip) }
-{
-    match opened(part) {
-        Form::Skip => true,
-        _ => false,
-    }
-}
-
-fn is_stop(part: &Proc) -> bool
-    ensures { IsTrue result ↔ (tree part.now ≡ stop) }
-{
-    match opened(part) {
-        Form::Stop => true,
-        _ => false,
-    }
 }
 
 fn begins_with_skip(parts: &[Proc]) -> bool

@@ -4,8 +4,8 @@ ghost use Rattle.occ_law_shape.specs.occ_law.Sequence.{SeqFlat, SeqNone, SeqOne,
 ghost use Rattle.occ_law_shape.specs.Answer.{IsAnswer};
 
 use crate::places::{Flat, LastSkip, LastStop};
-use occ_law_shape::{Memory, law_case, only, shape, somewhere};
-use occ_syntax::{Proc, same_proc};
+use occ_law_shape::{law_case, only, shape, somewhere};
+use occ_syntax::{Memory, Proc, same_proc};
 
 /// SEQ() = SKIP
 pub(crate) fn seq_none(left: &Proc, right: &Proc) -> Result<bool, Memory>

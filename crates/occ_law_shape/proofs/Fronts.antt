@@ -8,7 +8,6 @@ use Rattle.occ_syntax.specs.declared.proc.Proc.{Proc}
 use Rattle.occ_syntax.specs.Tree.{Exp, Waiting, Tree, Trees, no_tree, and_tree, Cases, no_case, and_case, Branches, no_branch, and_branch}
 use Rattle.occ_law.specs.occ_meaning.Parallel.{all_of}
 use Rattle.occ_law_shape.specs.Pieces.{each_branch, each_choice}
-use Rattle.occ_law_shape.proofs.Parts.{all_of-none, rests_are}
 use Rattle.occ_syntax.specs.View.{exp, exps, waiting, tree, trees, cases, branches}
 
 -- a list with a first item is that item and the rest
@@ -22,11 +21,6 @@ front_is (y ∷ l) x h e =
 pub empty_is : {A : Type 0} (l : List A) → length l < 1 → l ≡ []
 empty_is [] h = refl
 empty_is (x ∷ l) h = absurd (omega (arith, h))
-
--- ---- two lists are the same where their fronts and their rests are
-
-pub further_exps : {P : Type 0} (xs ys : List Exp) (p q : Exp) (ps qs : List Exp) → xs ≡ p ∷ ps → ys ≡ q ∷ qs → p ≡ q → ((xs ≡ ys) ↔ P) → (ps ≡ qs) ↔ P
-further_exps xs ys p q ps qs e f g same = (λ h. same.0 (cc), λ r. let u : xs ≡ ys = same.1 r in cc)
 
 -- ---- lists by their trees
 
@@ -76,20 +70,6 @@ behind_ends first all xs ys p ps e f same r k =
 
 pub behind_whole : (first all xs ys : Trees) → xs ≡ no_tree → ((r : Trees) → (ys ≡ all_of xs r) ↔ (all ≡ all_of first r)) → all ≡ all_of first ys
 behind_whole first all xs ys e same = (same ys).0 (ap (λ z. all_of z ys) (sym e))
-
--- two lists are the same where one has nothing behind the other
-pub same_where_none : (xs ys : Trees) (rest : List Proc) (b : Bool) → ys ≡ all_of xs (trees rest) → (IsTrue b ↔ (length rest ≡ 0)) → IsTrue b ↔ (xs ≡ ys)
-same_where_none xs ys rest b e test = (
-  (λ h. sym (e ∙ ap (all_of xs) (none_there rest (test.0 h)) ∙ all_of-none xs)),
-  (λ g. test.1 (trees_none rest (rests_are xs (trees rest) no_tree (sym e ∙ sym g ∙ sym (all_of-none xs))))),
-)
-  where
-    none_there : (rest : List Proc) → length rest ≡ 0 → trees rest ≡ no_tree
-    none_there [] h = refl
-    none_there (p ∷ ps) h = absurd (omega (arith, h))
-
-pub never_same : (xs ys : Trees) → ((r : Trees) → ys ≡ all_of xs r → ⊥) → xs ≡ ys → ⊥
-never_same xs ys never e = never no_tree (sym e ∙ sym (all_of-none xs))
 
 -- ---- lists made piece by piece
 
@@ -155,30 +135,6 @@ exps_front l x h e = ap exps (front_is l x h e)
 
 pub exps_end : (l : List Expr) → length l < 1 → exps l ≡ []
 exps_end l h = ap exps (empty_is l h)
-
-pub exps_ends : {P : Type 0} (xs ys : List Exp) (p : Exp) (ps : List Exp) → xs ≡ p ∷ ps → ys ≡ [] → ((xs ≡ ys) ↔ P) → P → ⊥
-exps_ends xs ys p ps e f same r =
-    let u : xs ≡ ys = same.1 r in
-    let v : p ∷ ps ≡ [] = sym e ∙ u ∙ f in cc
-
-pub exps_differ : {P : Type 0} (xs ys : List Exp) (p q : Exp) (ps qs : List Exp) → xs ≡ p ∷ ps → ys ≡ q ∷ qs → (p ≡ q → ⊥) → ((xs ≡ ys) ↔ P) → P → ⊥
-exps_differ xs ys p q ps qs e f wrong same r =
-    let u : xs ≡ ys = same.1 r in
-    let v : p ∷ ps ≡ q ∷ qs = sym e ∙ u ∙ f in
-    let w : p ≡ q = cc in
-    wrong w
-
-pub exps_whole : {P : Type 0} (xs : List Exp) (rest : List Expr) (b : Bool) → xs ≡ [] → ((xs ≡ exps rest) ↔ P) → (IsTrue b ↔ (length rest ≡ 0)) → IsTrue b ↔ P
-exps_whole xs rest b e same test =
-    ((λ h. same.0 (e ∙ none_there rest (test.0 h))), (λ r. test.1 (nothing rest (sym e ∙ same.1 r))))
-  where
-    none_there : (rest : List Expr) → length rest ≡ 0 → [] ≡ exps rest
-    none_there [] h = refl
-    none_there (p ∷ ps) h = absurd (omega (arith, h))
-
-    nothing : (rest : List Expr) → [] ≡ exps rest → length rest ≡ 0
-    nothing [] h = refl
-    nothing (p ∷ ps) h = cc
 
 -- ---- at the end of two lists, of which the first is empty
 

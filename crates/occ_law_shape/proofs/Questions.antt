@@ -1,8 +1,8 @@
 -- What is asked about states, as comparisons of expressions under conditions.
 use Rattle.std.proofs.Common.{◌≡◌, ℕ, ◌≤◌, ◌&&◌, ◌||◌, ◌↔◌, Bool, IsTrue, true, false, not, cond, List, [], ◌∷◌, Some, arith, refl, ap, sym, ◌∙◌, subst}
 use Rattle.std.proofs.lemmas.Bool.{and_from, and_parts, eqb-true, eq-eqb}
-use Rattle.occ_law.specs.occ_base.declared.names.Name.{Name}
-use Rattle.occ_law.specs.occ_base.declared.width.Width.TheVariants.{Bool as TruthValue}
+use Rattle.occ_syntax.specs.occ_base.declared.names.Name.{Name}
+use Rattle.occ_syntax.specs.occ_base.declared.width.Width.TheVariants.{Bool as TruthValue}
 use Rattle.occ_law.proofs.from_meaning.Facts.{clash}
 use Rattle.occ_law.proofs.from_meaning.Named.{not_condition}
 use Rattle.occ_law.proofs.from_meaning.Typing.{condition_type}

@@ -2,8 +2,8 @@
 use Rattle.std.proofs.Common.{◌≡◌, ℕ, ◌==◌, true, not, List, [], ◌∷◌, Option, refl, ap, sym, ◌∙◌}
 use Rattle.std.specs.List.{list_any}
 use Rattle.std.proofs.lemmas.Bool.{and_from, and_parts}
-use Rattle.occ_law.specs.occ_base.declared.event.Dir.TheVariants.{Output}
-use Rattle.occ_law.specs.occ_base.declared.width.Width.{Width}
+use Rattle.occ_syntax.specs.occ_base.declared.event.Dir.TheVariants.{Output}
+use Rattle.occ_syntax.specs.occ_base.declared.width.Width.{Width}
 use Rattle.occ_law.proofs.from_meaning.Facts.{agreed, and_four, and_three, false_not_true}
 use Rattle.occ_syntax.specs.Scopes.{Environment, allows, channel_width, variable_width}
 use Rattle.occ_syntax.specs.Tree.{Exp, Waiting, Tree, Cases, no_case, and_case, Branches, no_branch, and_branch}

@@ -7,8 +7,8 @@ ghost use Rattle.occ_law.specs.Lists.{conditions};
 ghost use Rattle.occ_law.specs.States.{AreFew};
 ghost use Rattle.occ_law_shape.specs.Conditions.{IsNeverAll, negations};
 
-use occ_law::{Memory, Store, equal_under, named_bits};
-use occ_syntax::{Expr, Exprs, Proc, Scope};
+use occ_law::{Store, equal_under, named_bits};
+use occ_syntax::{Expr, Exprs, Memory, Proc, Scope};
 use std::alloc::Global;
 
 /// The most bits that the variables of one question may have together.

@@ -7,8 +7,8 @@ ghost use Rattle.occ_law.specs.Lists.{conditions};
 ghost use Rattle.occ_law.specs.States.{AreFew, ExcludeEachOther, IsAlways, IsExhaustive, IsNever};
 
 use crate::comparison::{Comparison, is_never_all, push_negations};
-use occ_law::{Memory, Store};
-use occ_syntax::{Expr, Exprs, Proc, Scope};
+use occ_law::Store;
+use occ_syntax::{Expr, Exprs, Memory, Proc, Scope};
 use std::alloc::Global;
 use std::slice::from_ref;
 

@@ -8,8 +8,8 @@ ghost use Rattle.occ_law.specs.Lists.{conditions};
 ghost use Rattle.occ_law.specs.States.{IsEqualAlways, IsEqualWhere};
 
 use crate::comparison::{Comparison, push_negations};
-use occ_law::{Memory, Store};
-use occ_syntax::{Expr, Exprs, Proc, Scope};
+use occ_law::Store;
+use occ_syntax::{Expr, Exprs, Memory, Proc, Scope};
 use std::alloc::Global;
 
 /// In which states expressions that stand in one place of two parts have one value.

@@ -3,8 +3,7 @@ ghost use Rattle.occ_syntax.specs.Tree.{Exp, Tree, Waiting};
 ghost use Rattle.occ_syntax.specs.View.{exp, waiting, tree, cases, branches};
 ghost use Rattle.occ_law_shape.specs.Pieces.{each_branch, each_choice};
 
-use occ_law::Memory;
-use occ_syntax::{Expr, Guard, Proc};
+use occ_syntax::{Expr, Guard, Memory, Proc};
 use std::alloc::Global;
 
 /// What a law makes of each choice of an IF: of its condition, and of its process.

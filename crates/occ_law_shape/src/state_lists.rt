@@ -5,8 +5,8 @@ ghost use Rattle.occ_law.specs.States.{BranchesEqual, CasesEqual, EachEqual, Wai
 ghost use Rattle.occ_law_shape.specs.Types.{agree_each, is_guard};
 
 use crate::Equality;
-use occ_law::{Memory, Store};
-use occ_syntax::{Expr, Guard, Proc, Wait, same_proc};
+use occ_law::Store;
+use occ_syntax::{Expr, Guard, Memory, Proc, Wait, same_proc};
 use std::alloc::Global;
 
 /// Whether two lists of expressions are as long as each other, and equal place by place. Expressions in one place have one

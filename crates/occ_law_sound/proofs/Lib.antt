@@ -28,4 +28,4 @@ pub mod Parallel
 pub mod Scope
 pub mod Sequence
 pub mod Table
-pub use Rattle.occ_law.proofs.from_meaning as from_meaning
+pub use Rattle.occ_law.proofs as from_law

@@ -5,8 +5,7 @@ ghost use Rattle.occ_base.specs.Names.{place_of, with_text};
 ghost use Rattle.occ_lex.specs.Growth.{GrowsByNames, numbered_text};
 ghost use Rattle.occ_lex.specs.Spelling.{is_letter};
 
-use itoa::Buffer;
-use occ_base::{Memory, Name, Names};
+use occ_base::{Memory, Name, Names, push_number};
 use std::alloc::Global;
 
 /// A letter, a dot and a number in decimal.
@@ -16,8 +15,7 @@ fn text_of(alloc: Global, letter: u8, number: u64) -> Result<Vec<u8>, Memory>
     let mut text = Vec::new(alloc);
     text.push(letter)?;
     text.push(b'.')?;
-    let mut buffer = Buffer::new();
-    text.extend_from_slice(buffer.format(number).as_bytes())?;
+    push_number(&mut text, number)?;
     Ok(text)
 }
 

@@ -3,13 +3,13 @@ use Rattle.occ_syntax.specs.occ_base.declared.event.Dir.{Dir}
 use Rattle.occ_syntax.specs.occ_base.declared.event.Dir.TheVariants.{Input, Output}
 use Rattle.occ_syntax.specs.occ_base.declared.event.Event.{Event}
 use Rattle.occ_syntax.specs.occ_base.declared.width.Width.{Width}
-use Rattle.occ_syntax.specs.occ_base.declared.width.Width.TheVariants.{Bool as TruthValue, Word}
 use Rattle.occ_syntax.specs.Scopes.{Environment, Values, allows, same_dir, same_event, with_name, with_value}
-use Rattle.occ_syntax.specs.Types.{agree, same_width}
+use Rattle.occ_syntax.specs.Types.{agree}
 use Rattle.occ_syntax.specs.declared.scope.Kind.{Kind}
 use Rattle.std.proofs.Common.{Bool, MatchBool, None, Option, Some, ap, false, if◌then◌else◌, inl, inr, refl, subst, sym, true, ℕ, ◌&&◌, ◌<◌, ◌==◌, ◌||◌, ◌∙◌, ◌≡◌}
 use Rattle.std.proofs.lemmas.Bool.{and_from, and_parts, eq-eqb, eqb-true, ne_eqb, or_parts}
 use Rattle.std.proofs.lemmas.Bool.Decides.{eqb_tells}
+use Rattle.occ_syntax.proofs.Widths.{same_widths}
 
 pub some_is : {A : Type 0} {a b : A} → Some a ≡ Some b → a ≡ b
 some_is h = cc
@@ -86,12 +86,6 @@ name_at Γ x kind = if_true (x == x) (Some kind) (Γ x) (at_itself x)
 
 pub name_off : (Γ : Environment) (x : ℕ) (kind : Kind) (y : ℕ) → (y == x) ≡ false → with_name Γ x kind y ≡ Γ y
 name_off Γ x kind y h = if_false (y == x) (Some kind) (Γ y) h
-
-pub same_widths : (a b : Width) → same_width a b ≡ true → a ≡ b
-same_widths TruthValue TruthValue h = refl
-same_widths (Word a) (Word b) h = ap Word (eqb-true a b h)
-same_widths TruthValue (Word b) h = false_not_true h
-same_widths (Word a) TruthValue h = false_not_true h
 
 -- two types that agree are there, and are one
 pub agreed : (a b : Option Width) → agree a b ≡ true → (w : Width) × (a ≡ Some w) × (b ≡ Some w)

@@ -34,4 +34,4 @@ pub mod Overlay
 pub mod AtGuards
 pub mod AtState
 pub mod Covering
-pub use Rattle.occ_syntax.proofs.from_base as from_base
+pub use Rattle.occ_syntax.proofs as from_syntax

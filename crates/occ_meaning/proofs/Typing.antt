@@ -3,7 +3,7 @@ use Rattle.occ_syntax.specs.occ_base.Width.{bits_of}
 use Rattle.occ_syntax.specs.occ_base.declared.event.Dir.TheVariants.{Input, Output}
 use Rattle.occ_syntax.specs.occ_base.declared.width.Width.{Width}
 use Rattle.occ_syntax.specs.occ_base.declared.width.Width.TheVariants.{Bool as TruthValue, Word}
-use Rattle.occ_meaning.proofs.Facts.{agreed, and_three, false_not_true, none_not_some, same_widths, some_is}
+use Rattle.occ_meaning.proofs.Facts.{agreed, and_three, false_not_true, none_not_some, some_is}
 use Rattle.occ_syntax.specs.Eval.{applied, bits_in, bits_of_exp, eval, keeps_width, one_if}
 use Rattle.occ_syntax.specs.Names.{is_in, names, some_names}
 use Rattle.occ_syntax.specs.Scopes.{Environment, IsState, Values, allows, channel_width, variable_width}
@@ -16,6 +16,7 @@ use Rattle.std.proofs.Math.Nat.{mod-lt}
 use Rattle.std.proofs.lemmas.Bool.{and_parts, ltb-true, or_from}
 use Rattle.std.proofs.lemmas.Bool.Decides.{eqb_tells}
 use Rattle.std.proofs.lemmas.Nat.{and_le_l, or_lt, pow_pos, xor_lt}
+use Rattle.occ_syntax.proofs.Widths.{same_widths}
 
 some_if : {A : Type 0} (b : Bool) (o : Option A) (a : A) → (if b then o else None) ≡ Some a → (b ≡ true) × (o ≡ Some a)
 some_if true o a h = (refl, h)

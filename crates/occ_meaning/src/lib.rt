@@ -1,6 +1,5 @@
-//! Laws of the definitions: what holds of every part, SAME in every context, and PAR.
-//! Each law is the contract of a function that does nothing.
-//! Parts compared from one state: what an assignment, an IF and an ALT do there.
+//! The laws of the definitions of the language: what holds of the behaviours of every part, SAME in every context, PAR, declarations, names
+//! and values; and parts compared from one state. Here are the laws; there is no code.
 #![tactic(auto)]
 
 mod at_states;
@@ -34,7 +33,7 @@ pub use foundation::{
     parts_of_typed_parts_are_typed, typed_parts_take_states_to_states,
     unwritten_variables_keep_their_values,
 };
-pub use occ_syntax::{Dir, List, Memory, Name, Names, Width};
+pub use occ_syntax::{Dir, Memory, Width};
 pub use parallel::{
     assignments_may_leave_a_par, par_in_par_is_flat, par_is_associative,
     par_with_stop_stops_at_its_end, parts_may_stand_in_any_order,

@@ -4,5 +4,4 @@ pub mod Collected
 pub mod Members
 pub mod Replaced
 pub mod Substituted
-pub use Rattle.occ_meaning.proofs.from_base as from_base
 pub use Rattle.occ_meaning.proofs as from_meaning

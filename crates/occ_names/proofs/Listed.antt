@@ -2,8 +2,8 @@
 use Rattle.std.proofs.Common.{◌≡◌, ◌==◌, Bool, true, false, true≢false, cond, not, ◌&&◌, ◌||◌, List, [], ◌∷◌, ◌++◌, filter, refl, sym, ap, ◌∙◌, append_assoc, append-nil, subst, eq-eqb}
 use Rattle.std.proofs.lemmas.Bool.{eqb-true, and_parts, not-true}
 use Rattle.std.proofs.lemmas.List.Folds.{list_any-append}
-use Rattle.occ_meaning.specs.occ_base.declared.event.Dir.{Dir}
-use Rattle.occ_meaning.specs.occ_base.declared.event.Dir.TheVariants.{Input, Output}
+use Rattle.occ_syntax.specs.occ_base.declared.event.Dir.{Dir}
+use Rattle.occ_syntax.specs.occ_base.declared.event.Dir.TheVariants.{Input, Output}
 use Rattle.occ_syntax.specs.Scopes.{same_dir}
 use Rattle.occ_names.specs.Once.{has, without, firsts, with_one, with_all, is_distinct, same_number}
 use Rattle.occ_names.specs.Mentions.{same_end}

@@ -4,8 +4,8 @@ use Rattle.std.specs.List.{list_any}
 use Rattle.std.proofs.lemmas.Bool.{eqb-true, and_parts}
 use Rattle.std.proofs.lemmas.List.{at_drop_more}
 use Rattle.std.proofs.lemmas.List.Folds.{list_any-append}
-use Rattle.occ_meaning.specs.occ_base.declared.event.Dir.{Dir}
-use Rattle.occ_meaning.specs.occ_base.declared.event.Dir.TheVariants.{Input, Output}
+use Rattle.occ_syntax.specs.occ_base.declared.event.Dir.{Dir}
+use Rattle.occ_syntax.specs.occ_base.declared.event.Dir.TheVariants.{Input, Output}
 use Rattle.occ_syntax.specs.Names.{is_in, names, some_names, free_in_waiting, written_in_waiting, end_in_waiting, free, free_in_some, free_in_cases, free_in_branches, written, written_in_some, written_in_cases, written_in_branches, uses_end, end_in_some, end_in_cases, end_in_branches}
 use Rattle.occ_syntax.specs.Scopes.{same_dir}
 use Rattle.occ_syntax.specs.Tree.{Exp, variable, numeral, truth, negation, complement, operation, Waiting, ready, input, output, Tree, skip, stop, assign, receive, send, seq, par, select, alt, declare, connect, Trees, no_tree, and_tree, Cases, no_case, and_case, Branches, no_branch, and_branch}

@@ -2,10 +2,10 @@
 use Rattle.std.proofs.Common.{◌≡◌, ℕ, ◌+◌, ◌==◌, Bool, true, false, cond, not, nat_lt, ◌&&◌, ◌||◌, Some, None, length, position, List, [], ◌∷◌, ◌++◌, refl, sym, ap, ◌∙◌}
 use Rattle.std.specs.List.{list_any, position_or_len}
 use Rattle.std.proofs.lemmas.List.{map-append, length-map}
-use Rattle.occ_meaning.specs.occ_base.contracts.event.DirPartialEq.TheImpl.{ghosts as directions}
-use Rattle.occ_meaning.specs.occ_base.declared.event.Dir.{Dir}
-use Rattle.occ_meaning.specs.occ_base.declared.event.Dir.TheVariants.{Input, Output}
-use Rattle.occ_meaning.specs.occ_base.declared.names.Name.{Name}
+use Rattle.occ_syntax.specs.occ_base.contracts.event.DirPartialEq.TheImpl.{ghosts as directions}
+use Rattle.occ_syntax.specs.occ_base.declared.event.Dir.{Dir}
+use Rattle.occ_syntax.specs.occ_base.declared.event.Dir.TheVariants.{Input, Output}
+use Rattle.occ_syntax.specs.occ_base.declared.names.Name.{Name}
 use Rattle.occ_syntax.specs.Names.{is_in}
 use Rattle.occ_syntax.specs.View.{numbers}
 use Rattle.occ_syntax.specs.Scopes.{same_dir}

@@ -1,5 +1,5 @@
 ghost use Rattle.std.specs.Prelude.{◌≡◌, ◌∷◌, [], ◌++◌, OnOk, IfOk, Some, false};
-ghost use Rattle.occ_meaning.specs.occ_base.declared.event.Dir.TheVariants.{Input, Output};
+ghost use Rattle.occ_syntax.specs.occ_base.declared.event.Dir.TheVariants.{Input, Output};
 ghost use Rattle.occ_syntax.specs.Declarations.{is_declaration};
 ghost use Rattle.occ_syntax.specs.View.{numbers, exp, exps, waiting, tree, trees, cases, branches};
 ghost use Rattle.occ_names.specs.declared.mention.Mention.TheVariants.{Write, End};
@@ -7,8 +7,7 @@ ghost use Rattle.occ_names.specs.Mentions.{reads, reads_of_all, writes, mentions
 
 use crate::NameSet;
 use crate::mention::Mention;
-use occ_meaning::{Dir, List, Memory, Name};
-use occ_syntax::{Expr, Guard, Proc, Wait};
+use occ_syntax::{Dir, Expr, Guard, List, Memory, Name, Proc, Wait};
 use std::alloc::Global;
 
 /// What a part does with names, in the order of its text: each of its declarations, and each use of a name that none of

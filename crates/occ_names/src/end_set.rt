@@ -3,7 +3,7 @@ ghost use Rattle.occ_names.specs.Once.{has, with_one, with_all};
 ghost use Rattle.occ_names.specs.Mentions.{end_number, end_numbers, end_in, same_end};
 
 use indexmap::IndexSet;
-use occ_meaning::{Dir, Memory, Name};
+use occ_syntax::{Dir, Memory, Name};
 use std::alloc::Global;
 use std::marker::Model;
 
@@ -15,7 +15,7 @@ pub struct EndSet {
 
 impl Model for EndSet {
     ghost use Rattle.std.specs.Prelude.{List, ℕ};
-    ghost use Rattle.occ_meaning.specs.occ_base.declared.event.Dir.{Dir};
+    ghost use Rattle.occ_syntax.specs.occ_base.declared.event.Dir.{Dir};
     ghost use Rattle.occ_names.specs.Mentions.{end_numbers};
 
     ghost Value = { List (ℕ × Dir) };

@@ -14,6 +14,5 @@ mod substitution;
 pub use end_set::EndSet;
 pub use listing::{ends, free, written};
 pub use name_set::NameSet;
-pub use occ_meaning::{Dir, List, Memory, Name, Names, Width};
 pub use renaming::{RenameFault, rename};
 pub use substitution::substitute;

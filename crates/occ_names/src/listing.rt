@@ -1,5 +1,5 @@
 ghost use Rattle.std.specs.Prelude.{◌≡◌, ℕ, IfOk, true};
-ghost use Rattle.occ_meaning.specs.occ_base.declared.event.Dir.{Dir};
+ghost use Rattle.occ_syntax.specs.occ_base.declared.event.Dir.{Dir};
 ghost use Rattle.occ_syntax.specs.Names.{is_in, free as is_free, written as is_written, uses_end};
 ghost use Rattle.occ_syntax.specs.View.{numbers, tree};
 ghost use Rattle.occ_names.specs.Once.{firsts, has, is_distinct, same_number};
@@ -7,8 +7,7 @@ ghost use Rattle.occ_names.specs.Mentions.{free_names, written_names, used_ends,
 
 use crate::collect::mentions;
 use crate::{EndSet, NameSet};
-use occ_meaning::{Dir, Memory, Name};
-use occ_syntax::Proc;
+use occ_syntax::{Dir, Memory, Name, Proc};
 use std::alloc::Global;
 
 /// The names that stand free in a part, of variables and of channels, each once, in the order in which they first stand

@@ -1,7 +1,7 @@
 ghost use Rattle.std.specs.Prelude.{◌≡◌, ◌∷◌, []};
 ghost use Rattle.occ_names.specs.Mentions.{used, set_in, ends_in, number_in, end_in};
 
-use occ_meaning::{Dir, Name};
+use occ_syntax::{Dir, Name};
 
 /// What a part does with a name.
 #[derive(Clone, Copy, Debug, PartialEq, Eq)]

@@ -5,7 +5,7 @@ ghost use Rattle.occ_names.specs.Once.{same_number, with_one, with_all};
 ghost use Rattle.occ_names.specs.Mentions.{number_in};
 
 use indexmap::IndexSet;
-use occ_meaning::{Memory, Name};
+use occ_syntax::{Memory, Name};
 use std::alloc::Global;
 use std::marker::Model;
 

@@ -6,8 +6,7 @@ ghost use Rattle.occ_names.specs.declared.renaming.RenameFault.TheVariants as fa
 use crate::collect::mentions;
 use crate::mention::Mention;
 use crate::replace::Replace;
-use occ_meaning::{Memory, Name};
-use occ_syntax::Proc;
+use occ_syntax::{Memory, Name, Proc};
 use std::alloc::Global;
 use thiserror::Error;
 

@@ -3,8 +3,9 @@ ghost use Rattle.occ_syntax.specs.Declarations.{is_declaration};
 ghost use Rattle.occ_syntax.specs.View.{numbers, exp, exps, waiting, tree, trees, cases, branches, in_procs, in_choices, in_alternatives};
 ghost use Rattle.occ_meaning.specs.Rename.{replacing, renamed, renamed_exp, renamed_names, renamed_exps, renamed_waiting, all_renamed, cases_renamed, branches_renamed};
 
-use occ_meaning::{Memory, Name};
-use occ_syntax::{Alternatives, Choices, Expr, Exprs, Guard, NameList, Proc, Procs, Scope, Wait};
+use occ_syntax::{
+    Alternatives, Choices, Expr, Exprs, Guard, Memory, Name, NameList, Proc, Procs, Scope, Wait,
+};
 use std::alloc::Global;
 
 /// A new name in the place of an old one, wherever it stands, in declarations too.

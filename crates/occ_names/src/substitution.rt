@@ -4,8 +4,7 @@ ghost use Rattle.occ_meaning.specs.Substitution.{substituted};
 ghost use Rattle.occ_names.specs.Once.{is_distinct, same_number};
 
 use crate::NameSet;
-use occ_meaning::{Memory, Name};
-use occ_syntax::Expr;
+use occ_syntax::{Expr, Memory, Name};
 use std::alloc::Global;
 
 /// The expression with values in the place of variables, all at once: what a value names isn't replaced again. There are

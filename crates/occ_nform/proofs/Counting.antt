@@ -1,7 +1,7 @@
 -- Counts of rows, and their heights.
 use Rattle.std.proofs.Common.{◌≡◌, ◌<◌, ◌≤◌, ◌^◌, ◌+◌, ◌-◌, ℕ, zero, suc, max, min, List, [], ◌∷◌, ◌++◌, get_or, drop, drop-cons, length, refl, sym, ap, ◌∙◌, arith}
 use Rattle.std.proofs.lemmas.List.{drop_all}
-use Rattle.occ_nform_rows.specs.occ_base.declared.event.Event.{Event}
+use Rattle.occ_syntax.specs.occ_base.declared.event.Event.{Event}
 use Rattle.occ_syntax.specs.Counts.{capped}
 use Rattle.occ_nform_rows.specs.occ_nform_table.Judging.{height_over}
 use Rattle.occ_nform_rows.specs.occ_nform_table.declared.table.TableRow.{TableRow}

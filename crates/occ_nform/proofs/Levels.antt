@@ -6,9 +6,9 @@ use Rattle.std.proofs.lemmas.List.Elements.{recursion_from_All}
 use Rattle.std.proofs.lemmas.List.Sorted.{length_permutation, All-permutation, Contains-permutation}
 use Rattle.std.proofs.lemmas.Map.Keys.{IsDistinct-IsPermutation, IsDistinct-head, IsDistinct-tail, IsDistinct-from_apart, apart_from_distinct}
 use Rattle.std.specs.List.{All, AllByRecursion, IsDistinct}
-use Rattle.occ_nform_rows.specs.occ_base.Names.{IsDistinct as AreDistinct}
-use Rattle.occ_nform_rows.specs.occ_base.declared.event.Event.{Event}
-use Rattle.occ_nform_rows.specs.occ_base.declared.names.Name.{Name}
+use Rattle.occ_syntax.specs.occ_base.Names.{IsDistinct as AreDistinct}
+use Rattle.occ_syntax.specs.occ_base.declared.event.Event.{Event}
+use Rattle.occ_syntax.specs.occ_base.declared.names.Name.{Name}
 use Rattle.occ_syntax.specs.declared.scope.Kind.{Kind}
 use Rattle.occ_syntax.specs.Counts.{bits_of_scope}
 use Rattle.occ_nform_rows.specs.occ_node.Offers.{are_below}

@@ -16,5 +16,5 @@ pub mod Plain
 mod Counting
 mod Texts
 mod Rooted
-pub use Rattle.occ_nform_rows.proofs.from_meaning as from_meaning
+pub use Rattle.occ_syntax.proofs.from_base as from_base
 pub use Rattle.occ_nform_rows.proofs.from_nform_table as from_nform_table

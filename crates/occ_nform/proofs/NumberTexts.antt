@@ -3,9 +3,9 @@
 use Rattle.std.proofs.Common.{◌≡◌, ◌≤◌, ◌<◌, ◌^◌, ◌&&◌, ◌++◌, ℕ, true, List, [], ◌∷◌, Some, None, length, codes, refl, sym, ap, ◌∙◌, subst, arith}
 use Rattle.std.proofs.lemmas.Bool.{and_parts, and_from}
 use Rattle.std.specs.List.{list_all, AllByRecursion}
-use Rattle.occ_nform_rows.specs.occ_base.Names.{IsDistinct}
-use Rattle.occ_nform_rows.specs.occ_base.declared.event.Event.{Event}
-use Rattle.occ_nform_rows.specs.occ_base.declared.names.Name.{Name}
+use Rattle.occ_syntax.specs.occ_base.Names.{IsDistinct}
+use Rattle.occ_syntax.specs.occ_base.declared.event.Event.{Event}
+use Rattle.occ_syntax.specs.occ_base.declared.names.Name.{Name}
 use Rattle.occ_syntax.specs.declared.scope.Kind.{Kind}
 use Rattle.occ_syntax.specs.Scopes.{environment, in_interface}
 use Rattle.occ_nform_rows.specs.occ_behaviour.Texts.{set_text}

@@ -6,9 +6,9 @@ use Rattle.std.specs.List.{list_all, AllByRecursion}
 use Rattle.std.proofs.lemmas.Bool.{false≢true}
 use Rattle.std.proofs.lemmas.Option.{slice_get_within}
 use mathlib.Core.Path.{fun_ext}
-use Rattle.occ_nform_rows.specs.occ_base.declared.event.Event.{Event}
-use Rattle.occ_nform_rows.specs.occ_base.declared.names.Name.{Name}
-use Rattle.occ_nform_rows.specs.occ_base.Names.{IsDistinct, place_of, with_text}
+use Rattle.occ_syntax.specs.occ_base.declared.event.Event.{Event}
+use Rattle.occ_syntax.specs.occ_base.declared.names.Name.{Name}
+use Rattle.occ_syntax.specs.occ_base.Names.{IsDistinct, place_of, with_text}
 use Rattle.occ_nform_rows.specs.occ_lex.Rows.{rows as lines_of}
 use Rattle.occ_syntax.specs.declared.scope.Kind.{Kind}
 use Rattle.occ_syntax.specs.Scopes.{environment, in_interface}

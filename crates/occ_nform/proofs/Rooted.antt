@@ -1,6 +1,6 @@
 -- What the root of an accepted program is, and what follows for its normal text.
 use Rattle.std.proofs.Common.{◌≡◌, ◌<◌, ◌≤◌, ◌^◌, ℕ, true, List, [], length, Result, Ok, Err, IfOk, sym, subst, ap, ◌∙◌}
-use Rattle.occ_nform_rows.specs.occ_base.declared.names.Name.{Name}
+use Rattle.occ_syntax.specs.occ_base.declared.names.Name.{Name}
 use Rattle.occ_syntax.specs.declared.scope.Kind.{Kind}
 use Rattle.occ_syntax.specs.Counts.{bits_of_scope, capped}
 use Rattle.occ_syntax.specs.Scopes.{environment}
@@ -15,7 +15,7 @@ use Rattle.occ_nform_rows.specs.occ_nform_table.Normal.{Parts, text_read}
 use Rattle.occ_nform.specs.declared.figures.Counts.{Counts}
 use Rattle.occ_nform.specs.Counts.{greatest, heights_of, offers_in}
 use Rattle.occ_nform.specs.Written.{IsNormalText, IsRootOf}
-use Rattle.occ_nform_rows.specs.occ_base.declared.memory.Memory.{Memory}
+use Rattle.occ_syntax.specs.occ_base.declared.memory.Memory.{Memory}
 use Rattle.occ_nform.specs.Counted.{HasCounts, counts_of}
 use Rattle.occ_nform.specs.Tabled.{IsTableOf}
 use Rattle.occ_nform.proofs.Written.{stands_for}

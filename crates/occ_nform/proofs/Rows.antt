@@ -4,10 +4,10 @@ use Rattle.std.proofs.lemmas.Bool.{and_parts, and_from, or_left, or_right, eqb-t
 use Rattle.std.proofs.lemmas.List.{take_more, get_or-take}
 use Rattle.std.proofs.lemmas.Option.{slice_get-get_or, same_Some, get_or_from_slice_get}
 use Rattle.std.specs.List.{list_any, AllByRecursion}
-use Rattle.occ_nform_rows.specs.occ_base.declared.event.Event.{Event}
-use Rattle.occ_nform_rows.specs.occ_base.declared.event.Dir.{Dir}
-use Rattle.occ_nform_rows.specs.occ_base.declared.event.Dir.TheVariants.{Input, Output}
-use Rattle.occ_nform_rows.specs.occ_base.declared.names.Name.{Name}
+use Rattle.occ_syntax.specs.occ_base.declared.event.Event.{Event}
+use Rattle.occ_syntax.specs.occ_base.declared.event.Dir.{Dir}
+use Rattle.occ_syntax.specs.occ_base.declared.event.Dir.TheVariants.{Input, Output}
+use Rattle.occ_syntax.specs.occ_base.declared.names.Name.{Name}
 use Rattle.occ_syntax.specs.declared.scope.Kind.{Kind}
 use Rattle.occ_syntax.specs.Scopes.{same_event, same_dir}
 use Rattle.occ_nform_rows.specs.occ_nform_table.declared.table.TableRow.{TableRow}

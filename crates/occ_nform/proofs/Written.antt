@@ -3,7 +3,7 @@ use Rattle.std.proofs.Common.{◌≡◌, ◌<◌, ◌≤◌, ◌^◌, ◌+◌, �
 use Rattle.std.specs.Option.{IsSomeAnd}
 use Rattle.std.specs.List.{AllByRecursion}
 use Rattle.std.proofs.lemmas.List.Elements.{All-from_recursion}
-use Rattle.occ_nform_rows.specs.occ_base.declared.names.Name.{Name}
+use Rattle.occ_syntax.specs.occ_base.declared.names.Name.{Name}
 use Rattle.occ_syntax.specs.declared.scope.Kind.{Kind}
 use Rattle.occ_syntax.specs.Counts.{bits_of_scope}
 use Rattle.occ_syntax.specs.Meaning.{fails as part_fails, ends as part_ends}
@@ -23,7 +23,7 @@ use Rattle.occ_nform_rows.proofs.from_compare.Numbers.{small}
 use Rattle.occ_nform_rows.specs.occ_nform_table.declared.table.TableRow.{TableRow}
 use Rattle.occ_nform_rows.specs.occ_nform_table.Behaviours.{Stands, row_ends, row_fails}
 use Rattle.occ_nform_rows.specs.occ_nform_table.Lines.{AreNamed, state_place}
-use Rattle.occ_nform_rows.specs.occ_base.Names.{IsDistinct}
+use Rattle.occ_syntax.specs.occ_base.Names.{IsDistinct}
 use Rattle.occ_nform_rows.specs.occ_nform_table.Normal.{text_read}
 use Rattle.occ_nform_rows.specs.occ_nform_table.Tables.{AreRowsOf, IsNormal}
 use Rattle.occ_nform_rows.specs.occ_nform_table.Texts.{table_text}

@@ -2,10 +2,10 @@
 use Rattle.std.specs.Prelude.{ℕ, List}
 use Rattle.std.specs.Coded.{×_prop, Unit-prop, le_prop}
 use Rattle.std.proofs.Props.{props}
-use Rattle.occ_nform_rows.specs.occ_base.Width.{IsWidth}
-use Rattle.occ_nform_rows.specs.occ_base.declared.names.Name.{Name}
-use Rattle.occ_nform_rows.specs.occ_base.declared.width.Width.{Width}
-use Rattle.occ_nform_rows.specs.occ_base.declared.width.Width.TheVariants.{Bool, Word}
+use Rattle.occ_syntax.specs.occ_base.Width.{IsWidth}
+use Rattle.occ_syntax.specs.occ_base.declared.names.Name.{Name}
+use Rattle.occ_syntax.specs.occ_base.declared.width.Width.{Width}
+use Rattle.occ_syntax.specs.occ_base.declared.width.Width.TheVariants.{Bool, Word}
 use Rattle.occ_syntax.specs.declared.scope.Kind.{Kind}
 use Rattle.occ_syntax.specs.declared.scope.Kind.TheVariants.{Var, Chan}
 use Rattle.occ_nform_rows.specs.occ_nform_table.Lines.{HasWidth}

@@ -1,7 +1,7 @@
 -- The lines of a table.
 use Rattle.std.specs.Prelude.{ℕ, ◌++◌, List, codes, decimal}
 use Rattle.std.specs.List.{All}
-use Rattle.occ_nform_rows.specs.occ_base.declared.names.Name.{Name}
+use Rattle.occ_syntax.specs.occ_base.declared.names.Name.{Name}
 use Rattle.occ_syntax.specs.declared.scope.Kind.{Kind}
 use Rattle.occ_nform_rows.specs.occ_behaviour.Texts.{state_text}
 use Rattle.occ_nform_rows.specs.occ_nform_table.Judging.{row_text}

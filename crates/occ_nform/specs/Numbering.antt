@@ -5,8 +5,8 @@ use Rattle.std.specs.List.{All, AllByRecursion, Contains, IsDistinct, list_any}
 use Rattle.std.specs.List.Sorted.{IsPermutation, IsSortedBy}
 use Rattle.std.specs.Cmp.Lexicographic.{slice_cmp}
 use Rattle.std.specs.Ordering.{is_lt, nat_cmp}
-use Rattle.occ_nform_rows.specs.occ_base.declared.event.Event.{Event}
-use Rattle.occ_nform_rows.specs.occ_base.declared.names.Name.{Name}
+use Rattle.occ_syntax.specs.occ_base.declared.event.Event.{Event}
+use Rattle.occ_syntax.specs.occ_base.declared.names.Name.{Name}
 use Rattle.occ_syntax.specs.declared.scope.Kind.{Kind}
 use Rattle.occ_syntax.specs.Counts.{bits_of_scope}
 use Rattle.occ_nform_rows.specs.occ_mdd.Maps.{value}

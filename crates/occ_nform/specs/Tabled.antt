@@ -1,6 +1,6 @@
 -- The normal table of a program.
 use Rattle.std.specs.Prelude.{ℕ, ◌≡◌, List}
-use Rattle.occ_nform_rows.specs.occ_base.declared.names.Name.{Name}
+use Rattle.occ_syntax.specs.occ_base.declared.names.Name.{Name}
 use Rattle.occ_syntax.specs.declared.scope.Kind.{Kind}
 use Rattle.occ_syntax.specs.Tree.{Tree}
 use Rattle.occ_nform_rows.specs.occ_nform_table.Behaviours.{Stands}

@@ -6,8 +6,9 @@ ghost use Rattle.occ_nform.specs.Counted.{HasCounts};
 ghost use Rattle.occ_nform.specs.Tabled.{IsTableOf};
 
 use crate::{Counts, bound_rows, count, table_text, tabulate, write};
-use occ_nform_rows::{Memory, Names, Table, World};
+use occ_nform_rows::{Table, World};
 use occ_norm::{Accepted, normalise};
+use occ_syntax::{Memory, Names};
 use std::alloc::Global;
 
 /// The normal text of a program: the one text that all programs with these parameters have that mean the same. Its

@@ -1,13 +1,13 @@
 ghost use Rattle.std.specs.Prelude.{◌≡◌, ◌<◌, [], true, length};
-ghost use Rattle.occ_nform_rows.specs.occ_base.Names.{IsDistinct};
+ghost use Rattle.occ_syntax.specs.occ_base.Names.{IsDistinct};
 ghost use Rattle.occ_syntax.specs.Types.{scope_kept};
 ghost use Rattle.occ_nform_rows.specs.occ_nform_table.Tables.{are_params, IsInterface};
 ghost use Rattle.occ_nform.specs.Interface.{interface_prop};
 
 use crate::level::Draft;
 use crate::order::Placed;
-use occ_nform_rows::{Lister, Memory, Name, Names, NodeId, World, row_text};
-use occ_syntax::Kind;
+use occ_nform_rows::{Lister, NodeId, World, row_text};
+use occ_syntax::{Kind, Memory, Name, Names};
 use std::alloc::Global;
 
 /// Drafts the rows of nodes over the parameters of a text and their names. No text stands twice in the table of names, which is

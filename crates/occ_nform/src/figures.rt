@@ -3,7 +3,8 @@ ghost use Rattle.occ_syntax.specs.Counts.{capped};
 ghost use Rattle.occ_nform_rows.specs.occ_nform_table.Judging.{height_over};
 ghost use Rattle.occ_nform.specs.Counts.{greatest, heights_of, offers_in};
 
-use occ_nform_rows::{Event, Memory, Table, TableRow};
+use occ_nform_rows::{Table, TableRow};
+use occ_syntax::{Event, Memory};
 use std::alloc::Global;
 
 /// How large a table is.

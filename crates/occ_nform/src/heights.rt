@@ -1,10 +1,11 @@
 ghost use Rattle.std.specs.Prelude.{◌≡◌, ◌<◌, ◌≤◌, ◌+◌, ℕ, length, slice_index, IfOk};
 ghost use Rattle.std.specs.List.{All};
-ghost use Rattle.occ_nform_rows.specs.occ_base.declared.event.Event.{Event};
+ghost use Rattle.occ_syntax.specs.occ_base.declared.event.Event.{Event};
 ghost use Rattle.occ_nform_rows.specs.occ_node.declared.node.NodeId.{NodeId};
 ghost use Rattle.occ_nform.specs.Numbering.{AreHeights, nodes_over};
 
-use occ_nform_rows::{Event, Memory, NodeId, World};
+use occ_nform_rows::{NodeId, World};
+use occ_syntax::{Event, Memory};
 use std::alloc::Global;
 
 // The height of a node over those that it offers.

@@ -1,6 +1,6 @@
 ghost use Rattle.std.specs.Prelude.{true, length, List, ℕ, ◌<◌, ◌^◌, ◌↔◌, ◌≡◌};
-ghost use Rattle.occ_nform_rows.specs.occ_base.Names.{IsDistinct};
-ghost use Rattle.occ_nform_rows.specs.occ_base.declared.names.Name.{Name};
+ghost use Rattle.occ_syntax.specs.occ_base.Names.{IsDistinct};
+ghost use Rattle.occ_syntax.specs.occ_base.declared.names.Name.{Name};
 ghost use Rattle.occ_syntax.specs.Same.{SAME};
 ghost use Rattle.occ_syntax.specs.Scopes.{environment};
 ghost use Rattle.occ_syntax.specs.Tree.{Tree};

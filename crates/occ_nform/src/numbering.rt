@@ -6,7 +6,8 @@ ghost use Rattle.occ_nform.specs.Numbering.{ArePlaced, IsGraph, IsNumbering, IsP
 use crate::drafter::Drafter;
 use crate::level::{Draft, by_text};
 use crate::order::Placed;
-use occ_nform_rows::{Memory, TableRows, World};
+use occ_nform_rows::{TableRows, World};
+use occ_syntax::Memory;
 
 // The rows so far, and the number that each node's row has.
 #[derive(Drop)]

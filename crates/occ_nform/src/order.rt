@@ -1,7 +1,8 @@
 ghost use Rattle.std.specs.Prelude.{◌≡◌, length, IfOk};
 ghost use Rattle.occ_nform.specs.Numbering.{AreOrdered};
 
-use occ_nform_rows::{Memory, NodeId};
+use occ_nform_rows::NodeId;
+use occ_syntax::Memory;
 use std::alloc::Global;
 
 // A node with its height.

@@ -3,8 +3,8 @@ ghost use Rattle.occ_syntax.specs.Counts.{bits_of_scope};
 ghost use Rattle.occ_nform_rows.specs.occ_compare.Interface.{HasNodes};
 ghost use Rattle.occ_nform.specs.Numbering.{AreStarts};
 
-use occ_nform_rows::{Memory, Name, NodeId, Root, World, assignment, interface_bits};
-use occ_syntax::Kind;
+use occ_nform_rows::{NodeId, Root, World, assignment, interface_bits};
+use occ_syntax::{Kind, Memory, Name};
 use std::alloc::Global;
 
 // How many states an interface has.

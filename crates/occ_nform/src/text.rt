@@ -1,5 +1,5 @@
 ghost use Rattle.std.specs.Prelude.{◌≡◌, ◌<◌, ◌^◌, [], true, length, IfOk};
-ghost use Rattle.occ_nform_rows.specs.occ_base.Names.{IsDistinct};
+ghost use Rattle.occ_syntax.specs.occ_base.Names.{IsDistinct};
 ghost use Rattle.occ_syntax.specs.Tree.{Tree};
 ghost use Rattle.occ_nform_rows.specs.occ_compare.Interface.{HasNodes, IsOfInterface};
 ghost use Rattle.occ_nform_rows.specs.occ_nform_table.Tables.{are_params, IsInterface};
@@ -9,7 +9,8 @@ ghost use Rattle.occ_nform.specs.Written.{IsNormalText, IsRootOf};
 
 use crate::lines::{push_params, push_rows, push_states};
 use crate::tabulate;
-use occ_nform_rows::{Memory, Names, Root, Table, World};
+use occ_nform_rows::{Root, Table, World};
+use occ_syntax::{Memory, Names};
 use std::alloc::Global;
 
 /// The text of a table: the version, a PARAM line for each parameter, the rows and the STATE lines. All that is named in it has a name in

@@ -5,15 +5,15 @@ use Rattle.std.specs.Str.{bytes_eq}
 use Rattle.std.specs.Prelude.{codes}
 use Rattle.std.proofs.lemmas.Bool.{and_parts, or_parts, not-true, cond-true, cond-false, leb-true, ltb-true, ne_eqb, both_ways}
 use Rattle.std.proofs.lemmas.Slice.Eq.{bytes_eq-Decides}
-use Rattle.occ_nform_table.proofs.from_base.Naming.{place-le, at_place}
+use Rattle.occ_syntax.proofs.from_base.Naming.{place-le, at_place}
 use Rattle.occ_nform_read.specs.Found.{IsAway, AreApart}
 use Rattle.occ_nform_table.specs.Tables.{IsInterface}
-use Rattle.occ_nform_table.specs.occ_base.declared.event.Dir.TheVariants.{Input, Output}
-use Rattle.occ_nform_table.specs.occ_base.declared.names.Name.{Name}
-use Rattle.occ_nform_table.specs.occ_base.declared.width.Width.{Width}
-use Rattle.occ_nform_table.specs.occ_base.declared.width.Width.TheVariants.{Bool as Truth, Word}
-use Rattle.occ_nform_table.specs.occ_base.Names.{place_of, with_text}
-use Rattle.occ_nform_table.specs.occ_base.Width.{IsWidth}
+use Rattle.occ_syntax.specs.occ_base.declared.event.Dir.TheVariants.{Input, Output}
+use Rattle.occ_syntax.specs.occ_base.declared.names.Name.{Name}
+use Rattle.occ_syntax.specs.occ_base.declared.width.Width.{Width}
+use Rattle.occ_syntax.specs.occ_base.declared.width.Width.TheVariants.{Bool as Truth, Word}
+use Rattle.occ_syntax.specs.occ_base.Names.{place_of, with_text}
+use Rattle.occ_syntax.specs.occ_base.Width.{IsWidth}
 use Rattle.occ_nform_table.specs.occ_behaviour.Texts.{mark_text}
 use Rattle.occ_syntax.specs.declared.scope.Kind.{Kind}
 use Rattle.occ_syntax.specs.declared.scope.Kind.TheVariants.{Var, Chan}

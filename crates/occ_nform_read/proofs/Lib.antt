@@ -11,6 +11,5 @@ pub mod Steps
 pub mod Interfaces
 pub mod Forms
 pub mod WholeText
-pub use Rattle.occ_nform_table.proofs.from_base as from_base
 pub use Rattle.occ_nform_table.proofs.from_lex as from_lex
 pub use Rattle.occ_nform_table.proofs as from_nform_table

@@ -2,13 +2,13 @@
 use Rattle.std.proofs.Common.{◌≡◌, ℕ, zero, suc, ◌+◌, ◌<◌, ◌≤◌, Bool, true, false, cond, eqb, List, [], ◌∷◌, ◌++◌, length, Option, Some, None, Result, Err, refl, sym, ap, ◌∙◌, subst, arith, length-append, codes, ltb, IfOk}
 use Rattle.std.specs.List.{AllByRecursion}
 use Rattle.std.proofs.lemmas.Bool.{cond-true, cond-false, ne_eqb}
-use Rattle.occ_nform_table.specs.occ_base.Names.{place_of, with_text}
+use Rattle.occ_syntax.specs.occ_base.Names.{place_of, with_text}
 use Rattle.occ_nform_table.specs.occ_lex.Rows.{rows, first_row}
 use Rattle.occ_nform_table.proofs.from_lex.RowLemmas.{IsRow, first_row_is}
 use Rattle.occ_nform_read.proofs.Taking.{rows_empty}
 use Rattle.std.specs.Str.{bytes_eq}
-use Rattle.occ_nform_table.specs.occ_base.declared.event.Event.{Event}
-use Rattle.occ_nform_table.specs.occ_base.declared.names.Name.{Name}
+use Rattle.occ_syntax.specs.occ_base.declared.event.Event.{Event}
+use Rattle.occ_syntax.specs.occ_base.declared.names.Name.{Name}
 use Rattle.occ_syntax.specs.declared.scope.Kind.{Kind}
 use Rattle.occ_nform_table.specs.declared.table.TableRow.{TableRow}
 use Rattle.occ_nform_table.specs.declared.table.Table.{Table}

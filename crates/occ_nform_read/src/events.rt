@@ -5,8 +5,8 @@ ghost use Rattle.occ_nform_table.specs.Lines.{AreNamed, HasWidth, HaveWidths, ev
 
 use crate::states::fitting;
 use crate::words::{behind, between, cut, lower, small_number_of};
-use occ_nform_table::{BaseEvents as Events, BaseNames as Names, Dir, Event, Memory, Name, rank};
-use occ_syntax::Kind;
+use occ_nform_table::rank;
+use occ_syntax::{Dir, Event, Events, Kind, Memory, Name, Names};
 use std::alloc::Global;
 
 fn mark(dir: Dir) -> &'static [u8]

@@ -15,10 +15,7 @@ mod whole;
 mod words;
 
 pub use events::{event_of, events_of, set_of};
-pub use occ_nform_table::{
-    BaseEvents as Events, BaseNames, Memory, Name, State, States, Table, TableFault, TableRow,
-    a_normal_text_is_its_tables,
-};
+pub use occ_nform_table::{States, Table, TableFault, TableRow, a_normal_text_is_its_tables};
 pub use reading::first_line;
 pub use states::state_of;
 pub use text::read;

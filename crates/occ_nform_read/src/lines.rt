@@ -1,7 +1,7 @@
 ghost use Rattle.std.specs.Prelude.{◌≡◌, max, ◌+◌, ℕ, ◌<◌, ◌≤◌, true, nat_lt, ◌∷◌, length, map, Option, None, IfOk};
 ghost use Rattle.std.specs.List.{All};
 ghost use Rattle.std.specs.List.Sorted.{IsNonDecreasing, IsPermutation};
-ghost use Rattle.occ_nform_table.specs.occ_base.declared.event.Event.{Event};
+ghost use Rattle.occ_syntax.specs.occ_base.declared.event.Event.{Event};
 ghost use Rattle.occ_syntax.specs.Counts.{bits_of_scope};
 ghost use Rattle.occ_nform_table.specs.Lines.{rank, state_place, is_rising};
 ghost use Rattle.occ_nform_table.specs.Judging.{height_over, text_less, comes_after, follows, placed, list_marks, accept_marks, row_marks};
@@ -10,10 +10,8 @@ ghost use Rattle.occ_nform_read.specs.Marks.{Offer, seen};
 
 use crate::places::{Places, ranks, state_places};
 use crate::sets::sets_fault;
-use occ_nform_table::{
-    BaseEvents as Events, Event, List, Memory, Name, State, TableFault, TableRow, rank,
-};
-use occ_syntax::Kind;
+use occ_nform_table::{TableFault, TableRow, rank};
+use occ_syntax::{Event, Events, Kind, List, Memory, Name, State};
 use std::alloc::Global;
 
 /// Where a row stands in the order of rows: its height, and the text of the row.

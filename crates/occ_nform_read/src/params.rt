@@ -6,8 +6,8 @@ ghost use Rattle.occ_nform_table.specs.Words.{Finds};
 ghost use Rattle.occ_nform_table.specs.Lines.{AreNamed, digit_width, width_of, is_plain, closes, is_param_name, named, channel_of, variable_of, behind_width, param_of, can_follow, next_param, text_of};
 
 use crate::words::{before, behind, between, cut, small_number_of};
-use occ_nform_table::{BaseNames as Names, Dir, Name, TokenKind, Width, interface_bits, kind_of};
-use occ_syntax::Kind;
+use occ_nform_table::{TokenKind, interface_bits, kind_of};
+use occ_syntax::{Dir, Kind, Name, Names, Width};
 
 fn digit_width(text: &[u8]) -> Option<Width>
     ensures { result ≡ digit_width text.now }

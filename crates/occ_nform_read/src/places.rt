@@ -2,8 +2,8 @@ ghost use Rattle.std.specs.Prelude.{◌≡◌, ◌≤◌, length, map, IfOk};
 ghost use Rattle.occ_syntax.specs.Counts.{bits_of_scope};
 ghost use Rattle.occ_nform_table.specs.Lines.{rank, state_place};
 
-use occ_nform_table::{Event, List, Memory, Name, State, rank, state_place};
-use occ_syntax::Kind;
+use occ_nform_table::{rank, state_place};
+use occ_syntax::{Event, Kind, List, Memory, Name, State};
 use std::alloc::Global;
 
 /// Places in an order, as those of states, or of the events of a set.

@@ -9,11 +9,8 @@ use crate::events::{accept_of, offer_of};
 use crate::params::next_param;
 use crate::states::{end_of, row_of_state};
 use crate::words::{between, is_number};
-use occ_nform_table::{
-    BaseNames as Names, EventSets, Memory, Name, RowNumbers, States, TableOffers, TableRow,
-    TableRows, first_row,
-};
-use occ_syntax::{Kind, Scope};
+use occ_nform_table::{EventSets, RowNumbers, States, TableOffers, TableRow, TableRows, first_row};
+use occ_syntax::{Kind, Memory, Name, Names, Scope};
 use std::alloc::Global;
 
 /// The first line of a text, with its line feed, and the text behind it.

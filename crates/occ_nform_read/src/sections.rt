@@ -9,8 +9,8 @@ ghost use Rattle.occ_nform_read.specs.Found.{AreApart};
 use crate::params::next_param;
 use crate::reading::{first_line, is_row, row_behind};
 use crate::states::row_of_state;
-use occ_nform_table::{BaseNames as Names, Memory, Name, RowNumbers, TableRows};
-use occ_syntax::{Kind, Scope};
+use occ_nform_table::{RowNumbers, TableRows};
+use occ_syntax::{Kind, Memory, Name, Names, Scope};
 use std::alloc::Global;
 
 /// The parameters of the PARAM lines in front, whose names are put into the table, and the text behind them.

@@ -1,12 +1,12 @@
 ghost use Rattle.std.specs.Prelude.{◌≡◌, ◌∷◌, [], ◌++◌, ◌≤◌, ◌<◌, ◌*◌, IfOk, length, codes, Option, Some, None};
-ghost use Rattle.occ_nform_table.specs.occ_base.Width.{IsWidth};
+ghost use Rattle.occ_syntax.specs.occ_base.Width.{IsWidth};
 ghost use Rattle.occ_syntax.specs.Counts.{bits_of_scope};
 ghost use Rattle.occ_nform_table.specs.Words.{Finds, then_read, behind, number_of};
 ghost use Rattle.occ_nform_table.specs.Lines.{Adds, HaveWidths, fitting, paired, state_of, end_of, state_place, row_of_state, below};
 
 use crate::words::{behind, between, cut, lower, numbers_of};
-use occ_nform_table::{Memory, Name, State, Width, state_place};
-use occ_syntax::Kind;
+use occ_nform_table::state_place;
+use occ_syntax::{Kind, Memory, Name, State, Width};
 use std::alloc::Global;
 
 /// The value of the width that a number is.

@@ -11,8 +11,8 @@ ghost use Rattle.occ_nform_read.specs.Found.{IsRead};
 use crate::judge;
 use crate::reading::first_line;
 use crate::sections::{params_in, rows_in, states_in};
-use occ_nform_table::{BaseNames as Names, Memory, Name, Table, TableFault, interface_bits};
-use occ_syntax::Kind;
+use occ_nform_table::{Table, TableFault, interface_bits};
+use occ_syntax::{Kind, Memory, Name, Names};
 use std::alloc::Global;
 
 // How many lines a text has.

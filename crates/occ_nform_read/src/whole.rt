@@ -6,8 +6,8 @@ ghost use Rattle.occ_nform_table.specs.Tables.{IsInterface, AreRowsOf};
 
 use crate::lines::{Standing, height_over, lines_of, row_fault};
 use crate::reach::reach_fault;
-use occ_nform_table::{BaseNames as Names, Memory, Name, TableFault, TableRow, row_text};
-use occ_syntax::Kind;
+use occ_nform_table::{TableFault, TableRow, row_text};
+use occ_syntax::{Kind, Memory, Name, Names};
 use std::alloc::Global;
 
 /// The first fault of the lines of rows: a line that is out of order, or whose set is no least acceptance.

@@ -4,7 +4,7 @@ ghost use Rattle.occ_nform_table.specs.occ_lex.Spelling.{is_digit, is_numeral, v
 ghost use Rattle.occ_nform_table.specs.Words.{Finds, behind, before, between, cut, each, items_of, number_of, small_number_of, has_no_leading_zero, at_most, then_read};
 ghost use Rattle.occ_nform_table.specs.Lines.{below, is_number};
 
-use occ_nform_table::{List, Memory};
+use occ_syntax::{List, Memory};
 use std::alloc::Global;
 
 /// The bytes behind a front.

@@ -12,10 +12,10 @@ use Rattle.std.proofs.Common.{take, MatchOption}
 use Rattle.occ_compare.proofs.from_node.Table.{below_at}
 use Rattle.occ_compare.specs.occ_node.Offers.{are_below}
 use Rattle.std.proofs.lemmas.List.Sorted.{list_any-IsPermutation}
-use Rattle.occ_nform_table.specs.occ_base.declared.event.Dir.{Dir}
-use Rattle.occ_nform_table.specs.occ_base.declared.event.Dir.TheVariants.{Input, Output}
-use Rattle.occ_nform_table.specs.occ_base.declared.event.Event.{Event}
-use Rattle.occ_nform_table.specs.occ_base.declared.names.Name.{Name}
+use Rattle.occ_syntax.specs.occ_base.declared.event.Dir.{Dir}
+use Rattle.occ_syntax.specs.occ_base.declared.event.Dir.TheVariants.{Input, Output}
+use Rattle.occ_syntax.specs.occ_base.declared.event.Event.{Event}
+use Rattle.occ_syntax.specs.occ_base.declared.names.Name.{Name}
 use Rattle.occ_syntax.specs.declared.scope.Kind.{Kind}
 use Rattle.occ_syntax.specs.Scopes.{same_dir, same_event}
 use Rattle.occ_compare.specs.occ_accept.Accept.{IsAntichain, in_set, misses, refuses}

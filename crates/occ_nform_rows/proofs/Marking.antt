@@ -6,8 +6,8 @@ use Rattle.std.specs.declared.cmp.Ordering.{Ordering}
 use Rattle.std.specs.declared.cmp.Ordering.TheVariants.{Less, Equal, Greater}
 use Rattle.std.proofs.Common.{cond}
 use Rattle.std.proofs.lemmas.Bool.{and_parts, false≢true}
-use Rattle.occ_nform_table.specs.occ_base.declared.event.Event.{Event}
-use Rattle.occ_nform_table.specs.occ_base.declared.names.Name.{Name}
+use Rattle.occ_syntax.specs.occ_base.declared.event.Event.{Event}
+use Rattle.occ_syntax.specs.occ_base.declared.names.Name.{Name}
 use Rattle.occ_syntax.specs.declared.scope.Kind.{Kind}
 use Rattle.occ_compare.specs.occ_accept.Order.{strict}
 use Rattle.occ_nform_table.specs.Judging.{Mark, Fine, placed, list_marks, accept_mark, accept_marks, set_less, is_offered, contains}

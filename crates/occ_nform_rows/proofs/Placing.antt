@@ -5,10 +5,10 @@ use Rattle.std.specs.Ordering.{is_lt, nat_cmp, on}
 use Rattle.std.proofs.Math.Nat.{mod-lt, mod-eq_of_lt, pow-le-pow_right}
 use Rattle.std.proofs.lemmas.Bool.{and_parts, and_from, lt-ltb, leb-true, or_left, or_right}
 use Rattle.std.proofs.lemmas.Nat.{pow_pos, pow-add}
-use Rattle.occ_nform_table.specs.occ_base.declared.names.Name.{Name}
-use Rattle.occ_nform_table.specs.occ_base.declared.width.Width.{Width}
-use Rattle.occ_nform_table.specs.occ_base.declared.width.Width.TheVariants.{Bool as TruthValue, Word}
-use Rattle.occ_nform_table.specs.occ_base.Width.{bits_of}
+use Rattle.occ_syntax.specs.occ_base.declared.names.Name.{Name}
+use Rattle.occ_syntax.specs.occ_base.declared.width.Width.{Width}
+use Rattle.occ_syntax.specs.occ_base.declared.width.Width.TheVariants.{Bool as TruthValue, Word}
+use Rattle.occ_syntax.specs.occ_base.Width.{bits_of}
 use Rattle.occ_syntax.specs.declared.scope.Kind.{Kind}
 use Rattle.occ_syntax.specs.declared.scope.Kind.TheVariants.{Var, Chan}
 use Rattle.occ_syntax.specs.Counts.{bits_of_kind, bits_of_scope}

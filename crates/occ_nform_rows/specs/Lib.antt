@@ -2,7 +2,6 @@ pub mod Ends
 pub mod Listed
 pub mod Lists
 pub use Rattle.occ_compare.specs.occ_accept as occ_accept
-pub use Rattle.occ_nform_table.specs.occ_base as occ_base
 pub use Rattle.occ_nform_table.specs.occ_behaviour as occ_behaviour
 pub use Rattle.occ_compare.specs.occ_bits as occ_bits
 pub use Rattle.occ_compare.specs as occ_compare

@@ -10,7 +10,8 @@ ghost use Rattle.occ_syntax.specs.Counts.{bits_of_scope};
 use crate::Lister;
 use crate::members::Cube;
 use occ_compare::{SetId, Store};
-use occ_nform_table::{Memory, States, interface_bits};
+use occ_nform_table::{States, interface_bits};
+use occ_syntax::Memory;
 
 // The same numbers, none of which is less than the one before it.
 fn sorted(mut numbers: Vec<u32>) -> Vec<u32>

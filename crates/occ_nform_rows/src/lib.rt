@@ -13,6 +13,5 @@ mod sets;
 pub use lister::Lister;
 pub use occ_compare::{NodeId, Root, World, assignment};
 pub use occ_nform_table::{
-    BaseNames as Names, Dir, Event, Memory, Name, RowNumbers, State, Table, TableRow, TableRows,
-    Width, interface_bits, push_state, row_text,
+    RowNumbers, Table, TableRow, TableRows, interface_bits, push_state, row_text,
 };

@@ -2,8 +2,7 @@ ghost use Rattle.std.specs.Prelude.{◌≡◌, ◌≤◌, true};
 ghost use Rattle.occ_syntax.specs.Counts.{bits_of_scope};
 ghost use Rattle.occ_syntax.specs.Types.{scope_kept};
 
-use occ_nform_table::Name;
-use occ_syntax::Kind;
+use occ_syntax::{Kind, Name};
 use std::alloc::Global;
 
 /// Lists the rows of nodes over some parameters, of which no name stands twice and whose variables have at most 16 bits.

@@ -6,7 +6,7 @@ ghost use Rattle.occ_nform_rows.specs.Ends.{AreHalves, places_of};
 use crate::Lister;
 use crate::places::size;
 use occ_compare::{SetId, Store};
-use occ_nform_table::Memory;
+use occ_syntax::Memory;
 
 // The assignments that begin with `first`: so many of the lowest bits are free in them, and these are 0 in the first.
 #[derive(Clone, Copy)]

@@ -4,8 +4,8 @@ ghost use Rattle.occ_nform_rows.specs.Lists.{AreOffers, with_number};
 ghost use Rattle.occ_compare.specs.occ_node.Offers.{are_below, offer_cmp};
 
 use occ_compare::{NodeId, Offers, in_order};
-use occ_nform_table::{Event, Memory, Name, TableOffers};
-use occ_syntax::Kind;
+use occ_nform_table::TableOffers;
+use occ_syntax::{Event, Kind, Memory, Name};
 use std::alloc::Global;
 
 // Adds an event with the number of the node that is offered there, where one is.

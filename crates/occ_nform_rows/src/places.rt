@@ -3,8 +3,8 @@ ghost use Rattle.occ_compare.specs.Places.{number_in};
 ghost use Rattle.occ_nform_rows.specs.Ends.{byte_state_at};
 
 use crate::Lister;
-use occ_nform_table::{Memory, State, interface_bits};
-use occ_syntax::Kind;
+use occ_nform_table::interface_bits;
+use occ_syntax::{Kind, Memory, State};
 
 // How many values so many bits have.
 pub(crate) fn size(bits: u32) -> u32

@@ -8,7 +8,8 @@ use crate::Lister;
 use crate::offers::listed_offers;
 use crate::sets::listed_sets;
 use occ_compare::{NodeId, World};
-use occ_nform_table::{Memory, TableRow};
+use occ_nform_table::TableRow;
+use occ_syntax::Memory;
 
 impl Lister<'_> {
     /// The row of a table that a node is: its ends as states, its acceptances and its offers, each list in the order of the

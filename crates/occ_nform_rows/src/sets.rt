@@ -4,8 +4,8 @@ ghost use Rattle.occ_compare.specs.Orders.{IsListOf};
 ghost use Rattle.occ_nform_rows.specs.Lists.{AreLists, AreSets, IsInOrder};
 
 use occ_compare::{AcceptSet, in_order, list_order, listed};
-use occ_nform_table::{BaseEvents as Events, EventSets, Memory, Name};
-use occ_syntax::Kind;
+use occ_nform_table::EventSets;
+use occ_syntax::{Events, Kind, Memory, Name};
 use std::alloc::Global;
 
 // The events of a set in their order.

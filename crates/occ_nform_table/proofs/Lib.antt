@@ -28,5 +28,4 @@ pub mod Facts
 pub mod Rows
 pub mod Tables
 pub mod Unique
-pub use Rattle.occ_lex.proofs.from_base as from_base
 pub use Rattle.occ_lex.proofs as from_lex

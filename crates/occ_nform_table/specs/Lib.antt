@@ -9,6 +9,5 @@ pub mod Behaviours
 pub mod Rows
 pub mod Lists
 pub mod Alike
-pub use Rattle.occ_lex.specs.occ_base as occ_base
 pub use Rattle.occ_behaviour.specs as occ_behaviour
 pub use Rattle.occ_lex.specs as occ_lex

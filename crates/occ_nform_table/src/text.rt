@@ -5,9 +5,8 @@ ghost use Rattle.occ_nform_table.specs.Judging.{row_text};
 ghost use Rattle.occ_nform_table.specs.Rows.{end_line, accept_line, offer_line, AcceptsAreNamed, OffersAreNamed, RowIsNamed};
 
 use crate::TableRow;
-use itoa::Buffer;
 use occ_behaviour::{push_event, push_set, push_state};
-use occ_lex::{Event, Events, Memory, Name, Names, State};
+use occ_lex::{Event, Events, Memory, Name, Names, State, push_number};
 use std::alloc::Global;
 
 /// The text of a row: the lines under its ROW line. The channels of its events have names.
@@ -77,8 +76,7 @@ fn push_offer(text: &mut Vec<u8>, names: &Names, event: Event, row: u32) -> Resu
     text.extend_from_slice(b"OFFER ")?;
     push_event(text, names, event)?;
     text.extend_from_slice(b" ")?;
-    let mut buffer = Buffer::new();
-    text.extend_from_slice(buffer.format(row).as_bytes())?;
+    push_number(text, u64::from(row))?;
     text.extend_from_slice(b"\n")?;
     Ok(())
 }

@@ -2,8 +2,8 @@
 use Rattle.std.proofs.Common.{◌≡◌, ℕ, ◌+◌, ◌<◌, ◌≤◌, true, List, [], ◌∷◌, ◌++◌, length, get_or, ⊎_elim, sym, ap, ◌∙◌, subst, arith}
 use Rattle.std.proofs.lemmas.Bool.{cases_lt}
 use Rattle.std.proofs.lemmas.List.{get_or_append_left, get_or_push, length-append}
-use Rattle.occ_compare.specs.occ_base.declared.names.Name.{Name}
-use Rattle.occ_compare.specs.occ_base.declared.width.Width.{Width}
+use Rattle.occ_syntax.specs.occ_base.declared.names.Name.{Name}
+use Rattle.occ_syntax.specs.occ_base.declared.width.Width.{Width}
 use Rattle.occ_compare.specs.occ_mdd.declared.map.MapId.{MapId}
 use Rattle.occ_compare.specs.occ_node.declared.world.World.{World}
 use Rattle.occ_norm_alt.specs.occ_follow.Sequence.{HasNodes}

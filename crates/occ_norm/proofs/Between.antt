@@ -1,8 +1,8 @@
 -- The sets of states round some parts of a SEQ in a row.
 use Rattle.std.proofs.Common.{◌≡◌, ◌+◌, ◌<◌, ◌≤◌, ◌∙◌, ℕ, List, get_or, length, take, drop, refl, sym, ap, subst, arith}
 use Rattle.std.proofs.lemmas.List.{get_or-drop, get_or-take, length-drop, length-take-le}
-use Rattle.occ_compare.specs.occ_base.declared.names.Name.{Name}
-use Rattle.occ_compare.specs.occ_base.declared.width.Width.{Width}
+use Rattle.occ_syntax.specs.occ_base.declared.names.Name.{Name}
+use Rattle.occ_syntax.specs.occ_base.declared.width.Width.{Width}
 use Rattle.occ_compare.specs.occ_dd.declared.set.SetId.{SetId}
 use Rattle.occ_compare.specs.occ_dd.declared.store.Store.{Store}
 use Rattle.occ_syntax.specs.Tree.{seq}

@@ -1,7 +1,7 @@
 -- A program and the same with flat PARs have the same map.
 use Rattle.std.proofs.Common.{◌≡◌, true, List, Option, Some, subst}
 use Rattle.std.specs.Option.{IfSome}
-use Rattle.occ_compare.specs.occ_base.declared.names.Name.{Name}
+use Rattle.occ_syntax.specs.occ_base.declared.names.Name.{Name}
 use Rattle.occ_norm_assign.specs.occ_norm_arrange.Flat.{IsFlat}
 use Rattle.occ_compare.specs.occ_mdd.declared.map.MapId.{MapId}
 use Rattle.occ_compare.specs.occ_node.declared.world.World.{World}

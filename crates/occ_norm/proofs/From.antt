@@ -1,8 +1,8 @@
 -- Maps of a part and of what follows it that are right at some assignments alone.
 use Rattle.std.proofs.Common.{◌≡◌, ◌<◌, ◌^◌, ◌↔◌, inl, inr, ⊎_elim, ℕ, Bool, true, false, List, Some, MatchBool, cond, refl, sym, ap, ◌∙◌, subst, bit_xor}
-use Rattle.occ_compare.specs.occ_base.declared.event.Event.{Event}
-use Rattle.occ_compare.specs.occ_base.declared.names.Name.{Name}
-use Rattle.occ_compare.specs.occ_base.declared.width.Width.{Width}
+use Rattle.occ_syntax.specs.occ_base.declared.event.Event.{Event}
+use Rattle.occ_syntax.specs.occ_base.declared.names.Name.{Name}
+use Rattle.occ_syntax.specs.occ_base.declared.width.Width.{Width}
 use Rattle.occ_compare.specs.occ_bits.Layout.{state_of}
 use Rattle.occ_syntax.specs.Meaning.{Outcome, meaning, refusing}
 use Rattle.occ_syntax.specs.Scopes.{Environment}

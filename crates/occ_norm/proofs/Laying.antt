@@ -6,9 +6,9 @@ use Rattle.std.proofs.lemmas.Nat.Bits.{bit_at_cat_high, bit_at_cat_low, same_fro
 use Rattle.std.proofs.Math.Nat.{mod-lt}
 use Rattle.std.specs.Int.{bit_at}
 use mathlib.Core.Path.{fun_ext}
-use Rattle.occ_compare.specs.occ_base.declared.names.Name.{Name}
-use Rattle.occ_compare.specs.occ_base.declared.width.Width.{Width}
-use Rattle.occ_compare.specs.occ_base.Width.{bits_of}
+use Rattle.occ_syntax.specs.occ_base.declared.names.Name.{Name}
+use Rattle.occ_syntax.specs.occ_base.declared.width.Width.{Width}
+use Rattle.occ_syntax.specs.occ_base.Width.{bits_of}
 use Rattle.occ_compare.specs.occ_bits.Layout.{laid_out, state_of}
 use Rattle.occ_compare.proofs.from_bits.Arithmetic.{higher_bit, low_bit}
 use Rattle.occ_syntax.specs.declared.scope.Kind.{Kind}

@@ -4,9 +4,9 @@ use Rattle.std.proofs.lemmas.Nat.{xor_lt}
 use Rattle.std.proofs.lemmas.Nat.Bits.{bit_at-lt, bit_at_xor}
 use Rattle.std.specs.Int.{bit_at}
 use Rattle.std.specs.Int.Bits.{bit_and, bit_xor}
-use Rattle.occ_compare.specs.occ_base.declared.event.Event.{Event}
-use Rattle.occ_compare.specs.occ_base.declared.names.Name.{Name}
-use Rattle.occ_compare.specs.occ_base.declared.width.Width.{Width}
+use Rattle.occ_syntax.specs.occ_base.declared.event.Event.{Event}
+use Rattle.occ_syntax.specs.occ_base.declared.names.Name.{Name}
+use Rattle.occ_syntax.specs.occ_base.declared.width.Width.{Width}
 use Rattle.occ_compare.specs.occ_bits.Layout.{laid_out, state_of}
 use Rattle.occ_syntax.specs.declared.scope.Kind.{Kind}
 use Rattle.occ_syntax.specs.Meaning.{fails as part_fails, ends as part_ends}

@@ -5,9 +5,9 @@ use Rattle.std.proofs.lemmas.Nat.Bits.{bit_at-zero, bit_at_above, same_from_bits
 use Rattle.std.proofs.lemmas.Option.{same_Some}
 use Rattle.std.specs.Int.{bit_at}
 use Rattle.std.specs.Int.Bits.{xor_zero_r}
-use Rattle.occ_compare.specs.occ_base.declared.event.Event.{Event}
-use Rattle.occ_compare.specs.occ_base.declared.names.Name.{Name}
-use Rattle.occ_compare.specs.occ_base.declared.width.Width.{Width}
+use Rattle.occ_syntax.specs.occ_base.declared.event.Event.{Event}
+use Rattle.occ_syntax.specs.occ_base.declared.names.Name.{Name}
+use Rattle.occ_syntax.specs.occ_base.declared.width.Width.{Width}
 use Rattle.occ_compare.specs.occ_bits.Layout.{state_of}
 use Rattle.occ_syntax.specs.Meaning.{Outcome, Stopped, stopped, ended, refusing, meaning, ends as part_ends}
 use Rattle.occ_syntax.specs.Scopes.{Environment, Values}

@@ -3,7 +3,6 @@ pub mod Parts
 pub mod Root
 unfoldable pub use Rattle.occ_syntax.specs.View.{tree}
 pub use Rattle.occ_compare.specs.occ_accept as occ_accept
-pub use Rattle.occ_compare.specs.occ_base as occ_base
 pub use Rattle.occ_compare.specs.occ_behaviour as occ_behaviour
 pub use Rattle.occ_compare.specs.occ_bits as occ_bits
 pub use Rattle.occ_compare.specs as occ_compare

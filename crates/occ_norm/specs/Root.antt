@@ -1,7 +1,7 @@
 -- What the behaviours of a program are as a map of nodes.
 use Rattle.std.specs.Prelude.{ℕ, ◌<◌, ◌≡◌, ◌^◌, ◌↔◌, Bool, true, List, Some}
-use Rattle.occ_compare.specs.occ_base.declared.event.Event.{Event}
-use Rattle.occ_compare.specs.occ_base.declared.names.Name.{Name}
+use Rattle.occ_syntax.specs.occ_base.declared.event.Event.{Event}
+use Rattle.occ_syntax.specs.occ_base.declared.names.Name.{Name}
 use Rattle.occ_syntax.specs.declared.scope.Kind.{Kind}
 use Rattle.occ_syntax.specs.Counts.{bits_of_scope}
 use Rattle.occ_syntax.specs.Meaning.{fails as part_fails, ends as part_ends}

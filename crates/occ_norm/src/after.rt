@@ -10,13 +10,13 @@ ghost use Rattle.occ_norm_alt.specs.occ_norm_frame.Placed.{Fits, FitAll, FitBran
 ghost use Rattle.occ_norm.specs.From.{IsFront, IsSpan};
 ghost use Rattle.occ_norm.specs.Parts.{IsAfterIn};
 
-use occ_compare::{MapId, Memory, SetId};
+use occ_compare::{MapId, SetId};
 use occ_norm_alt::{
     Alternation, Alternative, Frame, Get, Normaliser, Put, ending, freed, holds, input, output,
 };
 use occ_norm_assign::{Assignment, assigned, straight};
 use occ_norm_par::{Sides, all_states, limited, side_frame, states_between, states_left};
-use occ_syntax::{Expr, Guard, Proc};
+use occ_syntax::{Expr, Guard, Memory, Proc};
 
 // The states in which a part begins, and the map of what follows it.
 #[derive(Clone, Copy)]

@@ -6,8 +6,7 @@ mod normal;
 
 pub use normal::normalise;
 pub use occ_compare::{
-    AcceptSet, Behaviour, Dir, Event, Events, Last, MapId, Memory, Name, NodeId, Offers, Refined,
-    Root, Row, SetId, Store, Verdict, World, assignment, compare, in_order, is_less, last_number,
-    listed, refusal, written,
+    AcceptSet, Behaviour, Last, MapId, NodeId, Offers, Refined, Root, Row, SetId, Store, Verdict,
+    World, assignment, compare, in_order, is_less, last_number, listed, refusal, written,
 };
 pub use occ_norm_alt::Accepted;

@@ -9,11 +9,11 @@ ghost use Rattle.occ_norm_alt.specs.occ_norm_frame.Maps.{Extends};
 ghost use Rattle.occ_norm.specs.Root.{IsRoot};
 
 use crate::after::after;
-use occ_compare::{MapId, Memory, Root, World};
+use occ_compare::{MapId, Root, World};
 use occ_norm_alt::{Accepted, Frame, Normaliser, ending, except, keeps, rebased};
 use occ_norm_assign::flattened;
 use occ_norm_par::written_bits;
-use occ_syntax::{Proc, Program};
+use occ_syntax::{Memory, Proc, Program};
 use std::alloc::Global;
 use std::mem;
 

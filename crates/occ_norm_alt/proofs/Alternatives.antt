@@ -5,9 +5,9 @@ use Rattle.std.specs.Option.{IfSome}
 use Rattle.std.specs.Int.Bits.{bit_and, bit_xor, xor_self, xor_zero_r}
 use Rattle.std.proofs.lemmas.Bool.{false≢true}
 use Rattle.std.proofs.lemmas.Option.{same_Some}
-use Rattle.occ_norm_frame.specs.occ_base.declared.event.Event.{Event}
-use Rattle.occ_norm_frame.specs.occ_base.declared.names.Name.{Name}
-use Rattle.occ_norm_frame.specs.occ_base.declared.width.Width.{Width}
+use Rattle.occ_syntax.specs.occ_base.declared.event.Event.{Event}
+use Rattle.occ_syntax.specs.occ_base.declared.names.Name.{Name}
+use Rattle.occ_syntax.specs.occ_base.declared.width.Width.{Width}
 use Rattle.occ_syntax.specs.declared.scope.Kind.{Kind}
 use Rattle.occ_syntax.specs.Meaning.{Outcome, ended, meaning, refusing}
 use Rattle.occ_syntax.specs.Scopes.{Environment, Trace, Values}

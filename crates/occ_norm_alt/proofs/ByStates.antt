@@ -7,8 +7,8 @@ use Rattle.std.proofs.lemmas.Bool.{cases_lt}
 use Rattle.std.proofs.lemmas.Nat.{div-add-mod', pow_pos}
 use Rattle.std.proofs.lemmas.Nat.Bits.{bit_at_above, bit_at-lt, bit_at-zero, same_from_bits}
 use Rattle.std.proofs.lemmas.Option.{same_Some}
-use Rattle.occ_norm_frame.specs.occ_base.declared.event.Event.{Event}
-use Rattle.occ_norm_frame.specs.occ_base.declared.names.Name.{Name}
+use Rattle.occ_syntax.specs.occ_base.declared.event.Event.{Event}
+use Rattle.occ_syntax.specs.occ_base.declared.names.Name.{Name}
 use Rattle.occ_norm_frame.proofs.from_bits.Arithmetic.{low_bit}
 use Rattle.occ_norm_frame.specs.occ_dd.Store.{IsSet, has}
 use Rattle.occ_norm_frame.specs.occ_dd.declared.set.SetId.{SetId}

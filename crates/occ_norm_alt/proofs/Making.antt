@@ -8,7 +8,7 @@ use Rattle.std.proofs.lemmas.List.Folds.{list_all-append, list_any-append}
 use Rattle.std.proofs.lemmas.Nat.{xor_lt}
 use Rattle.std.proofs.lemmas.Nat.Bits.{bit_at_xor, same_from_bits}
 use Rattle.std.specs.Int.{bit_at}
-use Rattle.occ_norm_frame.specs.occ_base.declared.event.Event.{Event}
+use Rattle.occ_syntax.specs.occ_base.declared.event.Event.{Event}
 use Rattle.occ_norm_frame.specs.occ_accept.Order.{event_cmp}
 use Rattle.occ_norm_frame.proofs.from_accept.Events.{cmp_total, event_exact}
 use Rattle.occ_norm_frame.proofs.from_accept.Strict.{tied, tied_same}

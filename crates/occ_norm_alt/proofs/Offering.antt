@@ -4,7 +4,7 @@ use Rattle.std.specs.Prelude.{◌↔◌, ◌⊎◌}
 use Rattle.std.specs.List.{list_all, list_any}
 use Rattle.std.specs.Ordering.{eq_by_cmp}
 use Rattle.std.proofs.lemmas.Bool.{and_from, and_parts, cases_Bool, both_ways, false≢true, or_cases, or_left, or_right}
-use Rattle.occ_norm_frame.specs.occ_base.declared.event.Event.{Event}
+use Rattle.occ_syntax.specs.occ_base.declared.event.Event.{Event}
 use Rattle.occ_norm_frame.specs.occ_accept.Accept.{misses, refuses}
 use Rattle.occ_norm_frame.specs.occ_accept.Order.{event_cmp, strict}
 use Rattle.occ_norm_frame.proofs.from_accept.Events.{cmp_total, event_exact}

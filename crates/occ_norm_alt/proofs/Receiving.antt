@@ -4,8 +4,8 @@ use Rattle.std.specs.Prelude.{◌↔◌, ◌⊎◌}
 use Rattle.std.specs.Int.Bits.{bit_xor}
 use Rattle.std.proofs.lemmas.Bool.{cases_lt}
 use Rattle.std.proofs.lemmas.Option.{same_Some}
-use Rattle.occ_norm_frame.specs.occ_base.declared.event.Event.{Event}
-use Rattle.occ_norm_frame.specs.occ_base.declared.names.Name.{Name}
+use Rattle.occ_syntax.specs.occ_base.declared.event.Event.{Event}
+use Rattle.occ_syntax.specs.occ_base.declared.names.Name.{Name}
 use Rattle.occ_norm_frame.specs.occ_dd.Assignment.{with_bit}
 use Rattle.occ_norm_frame.specs.occ_mdd.Maps.{value}
 use Rattle.occ_norm_frame.specs.occ_mdd.declared.map.MapId.{MapId}
@@ -17,7 +17,7 @@ use Rattle.occ_norm_frame.specs.Lifted.{IsMerged, IsPrefixed, IsTurned, OnOne, O
 use Rattle.occ_norm_frame.specs.Maps.{Extends, Lifts}
 use Rattle.occ_norm_frame.specs.Growth.{turned_grow}
 use Rattle.occ_norm_alt.specs.Inputs.{AreInputs, AreInputsAt, LeadsInput, TakesInput, digits_at, input_event, placed}
-use Rattle.occ_norm_frame.specs.occ_base.declared.width.Width.{Width}
+use Rattle.occ_syntax.specs.occ_base.declared.width.Width.{Width}
 use Rattle.occ_syntax.specs.Scopes.{Environment}
 use Rattle.occ_syntax.specs.Tree.{Waiting}
 use Rattle.occ_norm_frame.specs.After.{change_of}

@@ -9,7 +9,7 @@ use Rattle.std.proofs.lemmas.List.{length-take-le, take_more}
 use Rattle.std.proofs.lemmas.List.Elements.{All-take}
 use Rattle.std.proofs.lemmas.Nat.Bits.{bit_at-lt, bit_at_above, bit_at_and}
 use Rattle.std.proofs.lemmas.Option.{same_Some}
-use Rattle.occ_norm_frame.specs.occ_base.declared.names.Name.{Name}
+use Rattle.occ_syntax.specs.occ_base.declared.names.Name.{Name}
 use Rattle.occ_norm_frame.specs.occ_bits.Words.{digit, number_at}
 use Rattle.occ_norm_frame.proofs.from_bits.Numbers.{number-keeps, number-push}
 use Rattle.occ_norm_frame.specs.occ_dd.Store.{IsKnown as IsSetKnown, IsSet, has}

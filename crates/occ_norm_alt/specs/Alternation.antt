@@ -1,8 +1,8 @@
 -- An ALT so far: what its events lead to, and what its ready guards lead to.
 use Rattle.std.specs.Prelude.{ℕ, ◌<◌, ◌≡◌, ◌^◌, ◌↔◌, ◌⊎◌, Bool, true, false, List, Option, Some, None, is_some, bit_xor, if◌then◌else◌}
-use Rattle.occ_norm_frame.specs.occ_base.declared.event.Event.{Event}
-use Rattle.occ_norm_frame.specs.occ_base.declared.names.Name.{Name}
-use Rattle.occ_norm_frame.specs.occ_base.declared.width.Width.{Width}
+use Rattle.occ_syntax.specs.occ_base.declared.event.Event.{Event}
+use Rattle.occ_syntax.specs.occ_base.declared.names.Name.{Name}
+use Rattle.occ_syntax.specs.occ_base.declared.width.Width.{Width}
 use Rattle.occ_syntax.specs.Eval.{is_true}
 use Rattle.occ_syntax.specs.Meaning.{After}
 use Rattle.occ_syntax.specs.Scopes.{Environment, Values}

@@ -1,9 +1,9 @@
 -- The inputs of the values of some digits, and the outputs of a value, each with what comes after it.
 use Rattle.std.specs.Prelude.{ℕ, zero, suc, ◌+◌, ◌*◌, ◌%◌, ◌<◌, ◌≤◌, ◌≡◌, ◌^◌, Bool, true, List, Some, length, slice_get, bit_and, bit_xor}
 use Rattle.std.specs.Int.{bit_at}
-use Rattle.occ_norm_frame.specs.occ_base.declared.event.Dir.TheVariants.{Input, Output}
-use Rattle.occ_norm_frame.specs.occ_base.declared.event.Event.{Event}
-use Rattle.occ_norm_frame.specs.occ_base.declared.names.Name.{Name}
+use Rattle.occ_syntax.specs.occ_base.declared.event.Dir.TheVariants.{Input, Output}
+use Rattle.occ_syntax.specs.occ_base.declared.event.Event.{Event}
+use Rattle.occ_syntax.specs.occ_base.declared.names.Name.{Name}
 use Rattle.occ_norm_frame.specs.occ_dd.Assignment.{with_bit}
 use Rattle.occ_norm_frame.specs.occ_mdd.Maps.{value}
 use Rattle.occ_norm_frame.specs.occ_mdd.declared.map.MapId.{MapId}

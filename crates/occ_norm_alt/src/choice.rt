@@ -1,8 +1,8 @@
 ghost use Rattle.std.specs.Prelude.{◌≡◌, ℕ, ◌+◌, ◌^◌, ◌≤◌, ◌<◌, true, List, length, take, IfOk, IsSome};
 ghost use Rattle.std.specs.Bool.{OnTrue};
 ghost use Rattle.std.specs.List.{All};
-ghost use Rattle.occ_norm_frame.specs.occ_base.declared.names.Name.{Name};
-ghost use Rattle.occ_norm_frame.specs.occ_base.declared.width.Width.{Width};
+ghost use Rattle.occ_syntax.specs.occ_base.declared.names.Name.{Name};
+ghost use Rattle.occ_syntax.specs.occ_base.declared.width.Width.{Width};
 ghost use Rattle.occ_norm_frame.specs.occ_bits.Layout.{environment_in};
 ghost use Rattle.occ_norm_frame.specs.occ_bits.Words.{number_at};
 ghost use Rattle.occ_norm_frame.specs.occ_dd.Store.{IsKnown as IsSetKnown, has};
@@ -23,10 +23,8 @@ ghost use Rattle.occ_norm_alt.specs.Offering.{IsGuarded};
 
 use crate::rows::Rows;
 use crate::values::{Block, Inputs};
-use occ_norm_frame::{
-    Dir, Event, Frame, MapId, Memory, Name, Normaliser, SetId, WordBits, bits_from, digits, rebased,
-};
-use occ_syntax::{Expr, Wait};
+use occ_norm_frame::{Frame, MapId, Normaliser, SetId, WordBits, bits_from, digits, rebased};
+use occ_syntax::{Dir, Event, Expr, Memory, Name, Wait};
 
 /// An ALT so far: what its events lead to, and what its ready guards lead to, if there is one.
 #[derive(Clone, Copy)]

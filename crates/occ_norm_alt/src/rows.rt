@@ -4,7 +4,8 @@ ghost use Rattle.occ_norm_frame.specs.Maps.{Extends};
 ghost use Rattle.occ_norm_alt.specs.Inputs.{AreInputsAt, AreNexts, AreRows, placed};
 
 use crate::values::Inputs;
-use occ_norm_frame::{MapId, Memory, NodeId, Normaliser, has_bit, node_at, prefix_in, with_bit};
+use occ_norm_frame::{MapId, NodeId, Normaliser, has_bit, node_at, prefix_in, with_bit};
+use occ_syntax::Memory;
 
 /// What the rows of inputs are made of, one for each state: the inputs, and the map of what follows.
 #[derive(Clone, Copy)]

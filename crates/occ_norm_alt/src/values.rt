@@ -1,6 +1,6 @@
 ghost use Rattle.std.specs.Prelude.{◌≡◌, ◌↔◌, ◌+◌, ◌^◌, ◌<◌, ◌≤◌, IsTrue};
 
-use occ_norm_frame::Name;
+use occ_syntax::Name;
 
 /// The inputs of a variable from a channel. The bits of the variable begin at `first`, and those among `keep` are told as changes.
 #[derive(Clone, Copy)]

@@ -2,7 +2,7 @@
 use Rattle.std.proofs.Common.{List, None, [], ap, arith, inl, inr, refl, subst, sym, true, ℕ, ◌&&◌, ◌+◌, ◌++◌, ◌<◌, ◌∙◌, ◌∷◌, ◌≡◌, ◌≤◌, get_or, length, take}
 use Rattle.std.proofs.lemmas.Bool.{and_from, and_parts}
 use Rattle.std.proofs.lemmas.List.{take_all, take_more}
-use Rattle.occ_names.specs.occ_base.declared.names.Name.{Name}
+use Rattle.occ_syntax.specs.occ_base.declared.names.Name.{Name}
 use Rattle.occ_meaning.proofs.Beside.{Gives, beside_gives, gives_through}
 use Rattle.occ_meaning.proofs.Declared.{channel_gives, variable_gives}
 use Rattle.occ_meaning.proofs.Facts.{and_four, and_three, both}

@@ -1,8 +1,8 @@
 -- Whether a part keeps types doesn't depend on a name that it neither has free nor declares.
 use Rattle.std.proofs.Common.{List, None, [], ap, false, is_none, not, refl, sym, true, ℕ, ◌&&◌, ◌==◌, ◌∙◌, ◌∷◌, ◌≡◌}
 use Rattle.std.proofs.lemmas.Bool.{not_from_false, or_parts}
-use Rattle.occ_names.specs.occ_base.declared.event.Dir.TheVariants.{Input, Output}
-use Rattle.occ_names.specs.occ_base.declared.width.Width.{Width}
+use Rattle.occ_syntax.specs.occ_base.declared.event.Dir.TheVariants.{Input, Output}
+use Rattle.occ_syntax.specs.occ_base.declared.width.Width.{Width}
 use Rattle.occ_meaning.proofs.Declared.{declared_off}
 use Rattle.occ_meaning.proofs.Facts.{and_second, off_turned, or_four, or_three}
 use Rattle.occ_meaning.proofs.InScope.{free_in_scope}

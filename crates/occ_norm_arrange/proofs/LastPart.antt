@@ -1,7 +1,7 @@
 -- A channel declared round a PAR belongs to its last part, where the parts in front don't have its name.
-use Rattle.occ_names.specs.occ_base.Event.{counterpart}
-use Rattle.occ_names.specs.occ_base.declared.event.Event.{Event}
-use Rattle.occ_names.specs.occ_base.declared.width.Width.{Width}
+use Rattle.occ_syntax.specs.occ_base.Event.{counterpart}
+use Rattle.occ_syntax.specs.occ_base.declared.event.Event.{Event}
+use Rattle.occ_syntax.specs.occ_base.declared.width.Width.{Width}
 use Rattle.occ_meaning.proofs.Beside.{Gives, gives_through, shrink}
 use Rattle.occ_meaning.proofs.Declared.{channel_gives, declared_off}
 use Rattle.occ_meaning.proofs.Ends.{part_uses}

@@ -1,6 +1,6 @@
 -- A process with its parts arranged and no more constructs: as it is, in steps, and within declarations.
 use Rattle.std.proofs.Common.{◌≡◌, ◌≤◌, List, [], ◌∷◌, sym, subst, arith}
-use Rattle.occ_names.specs.occ_base.declared.names.Name.{Name}
+use Rattle.occ_syntax.specs.occ_base.declared.names.Name.{Name}
 use Rattle.occ_syntax.proofs.Counting.{weight-declaring}
 use Rattle.occ_syntax.proofs.Weights.{weight}
 use Rattle.occ_syntax.specs.Declarations.{declaring_all}

@@ -1,8 +1,8 @@
 -- Each step of taking PARs apart keeps what the process does.
 use Rattle.std.proofs.Common.{◌≡◌, ◌<◌, ◌+◌, ℕ, true, false, ◌&&◌, List, [], ◌∷◌, ◌++◌, Option, None, Some, is_none, refl, sym, ap, subst, arith}
 use Rattle.std.proofs.lemmas.Bool.{and_from, and_parts}
-use Rattle.occ_names.specs.occ_base.declared.names.Name.{Name}
-use Rattle.occ_names.specs.occ_base.declared.width.Width.{Width}
+use Rattle.occ_syntax.specs.occ_base.declared.names.Name.{Name}
+use Rattle.occ_syntax.specs.occ_base.declared.width.Width.{Width}
 use Rattle.occ_meaning.proofs.Beside.{Gives, gives_itself}
 use Rattle.occ_meaning.proofs.InScope.{free_in_scope}
 use Rattle.occ_meaning.proofs.Parts.{behind}

@@ -1,7 +1,7 @@
 -- PARs taken apart from outside in, each in the last part of the one before.
 use Rattle.std.specs.Prelude.{ℕ, ◌≡◌, ◌++◌, List, [], ◌∷◌, None, false}
-use Rattle.occ_names.specs.occ_base.declared.names.Name.{Name}
-use Rattle.occ_names.specs.occ_base.declared.width.Width.{Width}
+use Rattle.occ_syntax.specs.occ_base.declared.names.Name.{Name}
+use Rattle.occ_syntax.specs.occ_base.declared.width.Width.{Width}
 use Rattle.occ_meaning.specs.Parallel.{all_of}
 use Rattle.occ_syntax.specs.Declarations.{declaring_all}
 use Rattle.occ_syntax.specs.Names.{is_in}

@@ -4,8 +4,8 @@ ghost use Rattle.occ_meaning.specs.Parallel.{EachWritesApart};
 ghost use Rattle.occ_syntax.specs.Names.{is_in};
 ghost use Rattle.occ_syntax.specs.View.{numbers, trees};
 
-use occ_names::{Memory, Name, written};
-use occ_syntax::Proc;
+use occ_names::written;
+use occ_syntax::{Memory, Name, Proc};
 use std::alloc::Global;
 
 // Whether a name is among some.

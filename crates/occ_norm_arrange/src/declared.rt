@@ -4,8 +4,8 @@ ghost use Rattle.occ_syntax.specs.View.{branches, cases, tree, trees};
 ghost use Rattle.occ_norm_arrange.specs.Notes.{Notes};
 ghost use Rattle.occ_norm_arrange.specs.Declares.{branches_declare, cases_declare, declares, some_declare};
 
-use occ_names::{Memory, NameSet};
-use occ_syntax::{Expr, Guard, Proc};
+use occ_names::NameSet;
+use occ_syntax::{Expr, Guard, Memory, Proc};
 
 /// Adds the names that a part declares, anywhere in it.
 #[cycle(note)]

@@ -6,8 +6,8 @@ ghost use Rattle.occ_norm_arrange.specs.FlatArranged.{IsReshaped};
 ghost use Rattle.occ_norm_arrange.specs.Spread.{AreKnown, IsNext, spread};
 
 use crate::declared::note_declared;
-use occ_names::{Memory, NameSet};
-use occ_syntax::{Kind, Proc, Procs, Scope};
+use occ_names::NameSet;
+use occ_syntax::{Kind, Memory, Proc, Procs, Scope};
 use std::alloc::Global;
 
 // Channels that are declared round parts side by side, and the names that these declare.

@@ -14,6 +14,7 @@ mod split;
 mod straight;
 mod walk;
 
+pub use occ_names::{RenameFault, rename, substitute};
 pub use sequence::sequenced;
 pub use straight::is_straight;
 pub use walk::flattened;

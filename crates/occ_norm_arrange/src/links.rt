@@ -1,8 +1,8 @@
 ghost use Rattle.std.specs.Prelude.{◌<◌, ◌≤◌, length};
 
 use indexmap::IndexMap;
-use occ_names::{Memory, Name, ends};
-use occ_syntax::Proc;
+use occ_names::ends;
+use occ_syntax::{Memory, Name, Proc};
 use std::alloc::Global;
 
 /// Two parts that share a channel, by their places.

@@ -3,8 +3,7 @@ ghost use Rattle.occ_syntax.specs.View.{in_alternatives, in_choices, in_procs, t
 ghost use Rattle.occ_norm_arrange.specs.Arranged.{IsArranged};
 ghost use Rattle.occ_norm_arrange.specs.FlatArranged.{IsBranch, IsChoice, IsPart, Pairwise};
 
-use occ_names::Memory;
-use occ_syntax::{Alternatives, Choices, Expr, Guard, Proc, Procs};
+use occ_syntax::{Alternatives, Choices, Expr, Guard, Memory, Proc, Procs};
 use std::alloc::Global;
 
 // A part as it is arranged, or a copy of it where it stays.

@@ -4,7 +4,8 @@ ghost use Rattle.occ_syntax.specs.Names.{is_in};
 ghost use Rattle.occ_syntax.specs.View.{numbers};
 ghost use Rattle.occ_norm_arrange.specs.Notes.{Notes};
 
-use occ_names::{Memory, Name, NameSet};
+use occ_names::NameSet;
+use occ_syntax::{Memory, Name};
 
 /// Whether some names have one in common with a set.
 pub fn has_any(names: &[Name], set: &NameSet) -> bool

@@ -6,8 +6,7 @@ ghost use Rattle.occ_norm_arrange.specs.FlatArranged.{AddsAll, AreArranged, IsRe
 use crate::apart::write_apart;
 use crate::flat::last_flattened;
 use crate::links::{close_order, cost_of, links_of};
-use occ_names::Memory;
-use occ_syntax::{Proc, Procs, Scope};
+use occ_syntax::{Memory, Proc, Procs, Scope};
 use std::alloc::Global;
 
 // More parts than these stay in the order in which they are written.

@@ -5,8 +5,7 @@ ghost use Rattle.occ_syntax.specs.View.{in_procs, tree, trees};
 ghost use Rattle.occ_norm_arrange.specs.Arranged.{GoesOn, IsArranged};
 
 use crate::split::front_in_turn;
-use occ_names::Memory;
-use occ_syntax::{Proc, Procs};
+use occ_syntax::{Memory, Proc, Procs};
 use std::alloc::Global;
 
 // Adds copies of parts at the end.

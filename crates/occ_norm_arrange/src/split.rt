@@ -9,8 +9,8 @@ ghost use Rattle.occ_norm_arrange.specs.Straight.{straight};
 
 use crate::names::{has_any, note_all};
 use crate::straight::is_straight;
-use occ_names::{Memory, Name, NameSet, free, written};
-use occ_syntax::{Proc, Procs};
+use occ_names::{NameSet, free, written};
+use occ_syntax::{Memory, Name, Proc, Procs};
 use std::alloc::Global;
 
 // The parts of a PAR so far: the straight ones, which go in front, and the others; the names that the former write, and those that

@@ -7,8 +7,7 @@ ghost use Rattle.occ_norm_arrange.specs.Flat.{IsFlat};
 use crate::lists::{more_branches, more_choices, more_parts};
 use crate::order::body_arranged;
 use crate::sequenced;
-use occ_names::Memory;
-use occ_syntax::{Alternatives, Choices, Expr, Guard, Proc, Procs, Scope};
+use occ_syntax::{Alternatives, Choices, Expr, Guard, Memory, Proc, Procs, Scope};
 use std::alloc::Global;
 
 // The process with each PAR in it arranged, if one isn't already: first the PAR that it is within its own declarations, and then

@@ -6,9 +6,9 @@ use Rattle.std.specs.Int.Bits.{bit_xor, xor_assoc, xor_zero_r}
 use Rattle.std.specs.List.{list_any}
 use Rattle.std.proofs.lemmas.Nat.{xor_comm}
 use Rattle.std.proofs.lemmas.Nat.Bits.{bit_at-lt, bit_at-pow_other, bit_at-zero, bit_at_and, bit_at_xor, same_from_bits}
-use Rattle.occ_norm_frame.specs.occ_base.declared.names.Name.{Name}
-use Rattle.occ_norm_frame.specs.occ_base.declared.width.Width.{Width}
-use Rattle.occ_norm_frame.specs.occ_base.Width.{bits_of}
+use Rattle.occ_syntax.specs.occ_base.declared.names.Name.{Name}
+use Rattle.occ_syntax.specs.occ_base.declared.width.Width.{Width}
+use Rattle.occ_syntax.specs.occ_base.Width.{bits_of}
 use Rattle.occ_norm_frame.specs.occ_bits.Layout.{IsLayout, entry_of, environment_in}
 use Rattle.occ_norm_frame.specs.occ_bits.Words.{digit}
 use Rattle.occ_norm_frame.specs.occ_dd.Assignment.{turned, with_bit}

@@ -1,9 +1,9 @@
 -- The choices of an IF as functions on states, and what a function makes of a map.
 use Rattle.std.proofs.Common.{◌≡◌, ◌<◌, ◌^◌, ◌↔◌, ◌&&◌, ◌==◌, ℕ, Bool, true, false, not, cond, List, [], MatchBool, refl, sym, ap, ◌∙◌, subst}
 use Rattle.std.proofs.lemmas.Bool.{and_parts}
-use Rattle.occ_norm_frame.specs.occ_base.declared.event.Event.{Event}
-use Rattle.occ_norm_frame.specs.occ_base.declared.names.Name.{Name}
-use Rattle.occ_norm_frame.specs.occ_base.declared.width.Width.{Width}
+use Rattle.occ_syntax.specs.occ_base.declared.event.Event.{Event}
+use Rattle.occ_syntax.specs.occ_base.declared.names.Name.{Name}
+use Rattle.occ_syntax.specs.occ_base.declared.width.Width.{Width}
 use Rattle.occ_norm_frame.specs.occ_bits.Layout.{environment_in, state_of}
 use Rattle.occ_norm_frame.proofs.from_dd.Callers.{known-keeps}
 use Rattle.occ_norm_frame.specs.occ_dd.Store.{IsKnown, IsSet, has}

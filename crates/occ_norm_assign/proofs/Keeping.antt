@@ -4,8 +4,8 @@ use Rattle.std.proofs.lemmas.List.Elements.{All-push}
 use Rattle.std.proofs.Math.Seq.{take-suc}
 use Rattle.std.proofs.lemmas.List.{length-map, length-take-le, map-append, take_all}
 use Rattle.std.specs.List.{All}
-use Rattle.occ_norm_frame.specs.occ_base.declared.names.Name.{Name}
-use Rattle.occ_norm_frame.specs.occ_base.declared.width.Width.{Width}
+use Rattle.occ_syntax.specs.occ_base.declared.names.Name.{Name}
+use Rattle.occ_syntax.specs.occ_base.declared.width.Width.{Width}
 use Rattle.occ_syntax.specs.declared.expr.Expr.{Expr}
 use Rattle.occ_syntax.specs.Scopes.{variable_width}
 use Rattle.occ_syntax.specs.Types.{agree, pairs_kept, type_of}

@@ -3,9 +3,9 @@ use Rattle.std.proofs.Common.{◌≡◌, ◌<◌, ◌^◌, ◌++◌, ◌↔◌, 
 use Rattle.std.proofs.Math.Seq.{take-suc}
 use Rattle.std.proofs.lemmas.Bool.{and_from, and_parts}
 use Rattle.std.proofs.lemmas.List.Elements.{All-take}
-use Rattle.occ_norm_frame.specs.occ_base.declared.event.Event.{Event}
-use Rattle.occ_norm_frame.specs.occ_base.declared.names.Name.{Name}
-use Rattle.occ_norm_frame.specs.occ_base.declared.width.Width.{Width}
+use Rattle.occ_syntax.specs.occ_base.declared.event.Event.{Event}
+use Rattle.occ_syntax.specs.occ_base.declared.names.Name.{Name}
+use Rattle.occ_syntax.specs.occ_base.declared.width.Width.{Width}
 use Rattle.occ_norm_frame.specs.occ_bits.Layout.{environment_in, state_of}
 use Rattle.occ_norm_frame.specs.occ_bits.Words.{digit}
 use Rattle.occ_norm_frame.specs.occ_dd.Assignment.{with_bit}

@@ -1,7 +1,7 @@
 -- Some parts of a list in a row.
 use Rattle.std.proofs.Common.{◌≡◌, ◌<◌, ◌≤◌, ◌-◌, ◌+◌, ◌∙◌, ℕ, zero, suc, List, [], ◌∷◌, Option, Some, IfSome, get_or, length, take, drop, refl, sym, ap, subst, arith}
 use Rattle.std.proofs.lemmas.List.{drop_more}
-use Rattle.occ_norm_frame.specs.occ_base.declared.names.Name.{Name}
+use Rattle.occ_syntax.specs.occ_base.declared.names.Name.{Name}
 use Rattle.occ_norm_arrange.specs.occ_meaning.Parallel.{all_of}
 use Rattle.occ_norm_frame.specs.Placed.{FitAll, Fits}
 use Rattle.occ_syntax.specs.Counts.{bits_of_scope, most_bits_of_all}

@@ -1,8 +1,8 @@
 -- Parts that don't communicate as lists: for each state of a few bits, by its number, the state to which it leads.
 use Rattle.std.specs.Prelude.{ℕ, ◌+◌, ◌<◌, ◌≡◌, ◌^◌, ◌%◌, ◌↔◌, true, List, [], Some, length, get_or, slice_get, bit_and, bit_xor, if◌then◌else◌}
-use Rattle.occ_norm_frame.specs.occ_base.declared.event.Event.{Event}
-use Rattle.occ_norm_frame.specs.occ_base.declared.names.Name.{Name}
-use Rattle.occ_norm_frame.specs.occ_base.declared.width.Width.{Width}
+use Rattle.occ_syntax.specs.occ_base.declared.event.Event.{Event}
+use Rattle.occ_syntax.specs.occ_base.declared.names.Name.{Name}
+use Rattle.occ_syntax.specs.occ_base.declared.width.Width.{Width}
 use Rattle.occ_norm_frame.specs.occ_bits.Layout.{state_of}
 use Rattle.occ_norm_frame.specs.occ_dd.Store.{has}
 use Rattle.occ_norm_frame.specs.occ_dd.declared.set.SetId.{SetId}

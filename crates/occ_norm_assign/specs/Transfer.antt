@@ -1,8 +1,8 @@
 -- Parts that don't communicate as functions on states: digits lead from an assignment before them to one behind them.
 use Rattle.std.specs.Prelude.{ℕ, ◌<◌, ◌≡◌, ◌^◌, ◌↔◌, true, List, [], length, drop}
-use Rattle.occ_norm_frame.specs.occ_base.declared.event.Event.{Event}
-use Rattle.occ_norm_frame.specs.occ_base.declared.names.Name.{Name}
-use Rattle.occ_norm_frame.specs.occ_base.declared.width.Width.{Width}
+use Rattle.occ_syntax.specs.occ_base.declared.event.Event.{Event}
+use Rattle.occ_syntax.specs.occ_base.declared.names.Name.{Name}
+use Rattle.occ_syntax.specs.occ_base.declared.width.Width.{Width}
 use Rattle.occ_norm_frame.specs.occ_bits.Layout.{state_of}
 use Rattle.occ_norm_frame.specs.occ_dd.Store.{IsKnown, has}
 use Rattle.occ_norm_frame.specs.occ_dd.declared.set.SetId.{SetId}

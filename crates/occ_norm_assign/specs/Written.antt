@@ -1,8 +1,8 @@
 -- What writes make of an assignment.
 use Rattle.std.specs.Prelude.{ℕ, ◌+◌, ◌<◌, ◌≡◌, ◌==◌, ◌^◌, ◌++◌, Bool, length, not, List, [], ◌∷◌, Some, get_or, take, bit_xor, if◌then◌else◌}
 use Rattle.std.specs.Int.{bit_at}
-use Rattle.occ_norm_frame.specs.occ_base.declared.names.Name.{Name}
-use Rattle.occ_norm_frame.specs.occ_base.declared.width.Width.{Width}
+use Rattle.occ_syntax.specs.occ_base.declared.names.Name.{Name}
+use Rattle.occ_syntax.specs.occ_base.declared.width.Width.{Width}
 use Rattle.occ_norm_frame.specs.occ_bits.Layout.{entry_of}
 use Rattle.occ_norm_frame.specs.occ_bits.Words.{IsValue, digit}
 use Rattle.occ_norm_frame.specs.occ_dd.Assignment.{turned, with_bit}

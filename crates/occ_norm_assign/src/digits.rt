@@ -3,7 +3,8 @@ ghost use Rattle.occ_norm_frame.specs.occ_dd.Store.{IsKnown};
 ghost use Rattle.occ_norm_frame.specs.occ_bits.Digits.{AreDigits, IsComposed, IsEither, IsIdentity, KeepComposed};
 ghost use Rattle.occ_norm_frame.specs.Maps.{Extends};
 
-use occ_norm_frame::{Memo, Memory, Normaliser, SetId};
+use occ_norm_frame::{Memo, Normaliser, SetId};
+use occ_syntax::Memory;
 
 /// The digits of a state that stays as it is.
 pub(crate) fn identity(world: &mut Normaliser) -> Result<Vec<SetId>, Memory>

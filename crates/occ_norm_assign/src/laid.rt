@@ -7,7 +7,8 @@ ghost use Rattle.occ_norm_frame.specs.Maps.{Extends};
 ghost use Rattle.occ_norm_frame.specs.occ_scope.Results.{IsShifted};
 ghost use Rattle.occ_norm_assign.specs.Lists.{AreLed, AreStates, IsLaid, IsSpread};
 
-use occ_norm_frame::{Frame, MapId, Memory, NodeId, Normaliser, node_at, shift_with};
+use occ_norm_frame::{Frame, MapId, NodeId, Normaliser, node_at, shift_with};
+use occ_syntax::Memory;
 
 // The node with those bits of its final states turned.
 fn turned(world: &mut Normaliser, node: NodeId, change: u64) -> Result<NodeId, Memory>

@@ -9,8 +9,8 @@ ghost use Rattle.occ_syntax.specs.View.{cases, tree, trees};
 ghost use Rattle.occ_norm_assign.specs.Lists.{ArePicked, ArePutOn, AreStates, IsListed, StaySame};
 
 use crate::{Write, writes_of};
-use occ_norm_frame::{Frame, Memory, Normaliser, SetId, holds, with_bit};
-use occ_syntax::{Expr, Proc};
+use occ_norm_frame::{Frame, Normaliser, SetId, holds, with_bit};
+use occ_syntax::{Expr, Memory, Proc};
 use std::alloc::Global;
 
 /// The states of a few bits, each of which stays as it is.

@@ -11,8 +11,8 @@ ghost use Rattle.occ_norm_assign.specs.Transfer.{ArePut, IsCondition, IsMade};
 
 use crate::digits::{either, leading};
 use crate::{Write, writes_of};
-use occ_norm_frame::{Frame, Memo, Memory, Normaliser, SetId, holds};
-use occ_syntax::{Expr, Proc};
+use occ_norm_frame::{Frame, Memo, Normaliser, SetId, holds};
+use occ_syntax::{Expr, Memory, Proc};
 
 // The digits that lead where some digits lead and then some writes.
 fn put(world: &mut Normaliser, before: &[SetId], writes: &[Write]) -> Result<Vec<SetId>, Memory>

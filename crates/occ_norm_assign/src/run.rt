@@ -15,8 +15,8 @@ use crate::lists::{listed_all, states};
 use crate::moves::moved;
 use crate::{Write, applied};
 use occ_norm_arrange::is_straight;
-use occ_norm_frame::{Frame, MapId, Memory, Normaliser, SetId, is_full};
-use occ_syntax::Proc;
+use occ_norm_frame::{Frame, MapId, Normaliser, SetId, is_full};
+use occ_syntax::{Memory, Proc};
 
 // How many sets a function may take.
 const MOST_SETS: usize = 5000;

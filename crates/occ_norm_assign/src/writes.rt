@@ -16,9 +16,9 @@ ghost use Rattle.occ_norm_assign.specs.Writes.{AreWrites, IsWrite};
 ghost use Rattle.occ_norm_assign.specs.Written.{AreAssigned, AreDistinct, AreFree, AreParts, CanExchange, IsApplied, IsExchanged, IsFree, IsSubstituted, KeepSubstituted, digit_writes, step};
 
 use occ_norm_frame::{
-    Call, Frame, MapId, Memo, Memory, Name, Normaliser, SetId, digits, has_bit, is_full, turned_on,
+    Call, Frame, MapId, Memo, Normaliser, SetId, digits, has_bit, is_full, turned_on,
 };
-use occ_syntax::Expr;
+use occ_syntax::{Expr, Memory, Name};
 
 /// A bit that is assigned, with the set of the states in which it becomes 1.
 #[derive(Clone, Copy)]

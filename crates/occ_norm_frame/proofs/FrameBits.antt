@@ -7,7 +7,7 @@ use Rattle.std.proofs.lemmas.Bool.{and_from, and_left, and_right, cases_Bool, ca
 use Rattle.std.proofs.lemmas.Nat.{one_shl, or_lt, pow_below}
 use Rattle.std.proofs.lemmas.Nat.Bits.{bit_at-lt, bit_at_set_same, bit_at_set_other, same_from_bits_below}
 use Rattle.std.specs.List.{list_all, list_any}
-use Rattle.occ_bits.specs.occ_base.declared.names.Name.{Name}
+use Rattle.occ_syntax.specs.occ_base.declared.names.Name.{Name}
 use Rattle.occ_bits.specs.occ_dd.Assignment.{with_bit}
 use Rattle.occ_bits.proofs.from_dd.Bits.{bit_at-with_bit_other, bit_at-with_bit_same, bit_cases, with_bit_lt}
 use Rattle.occ_norm_frame.specs.Changes.{AgreeOutside}

@@ -2,10 +2,10 @@
 use Rattle.std.proofs.Common.{◌≡◌, ◌<◌, ◌≤◌, ◌+◌, ◌++◌, ◌==◌, ℕ, zero, suc, Bool, true, false, cond, List, [], ◌∷◌, Option, Some, None, length, get_or, ⊎_elim, refl, sym, ap, ◌∙◌, subst, arith}
 use Rattle.std.proofs.lemmas.Bool.{and_parts, and_from, cases_Bool, eqb-true, eq-eqb}
 use Rattle.std.specs.Option.{IsSome, is_none, is_some}
-use Rattle.occ_bits.specs.occ_base.declared.names.Name.{Name}
-use Rattle.occ_bits.specs.occ_base.declared.width.Width.{Width}
-use Rattle.occ_bits.specs.occ_base.declared.width.Width.TheVariants.{Bool as TruthValue}
-use Rattle.occ_bits.specs.occ_base.Width.{bits_of}
+use Rattle.occ_syntax.specs.occ_base.declared.names.Name.{Name}
+use Rattle.occ_syntax.specs.occ_base.declared.width.Width.{Width}
+use Rattle.occ_syntax.specs.occ_base.declared.width.Width.TheVariants.{Bool as TruthValue}
+use Rattle.occ_syntax.specs.occ_base.Width.{bits_of}
 use Rattle.occ_bits.specs.Layout.{IsLayout, entry_of, environment_in, laid_out, scope_in}
 use Rattle.occ_bits.proofs.Laid.{found_width, found_within, laid_width, layout_of}
 use Rattle.occ_bits.proofs.Values.{bits_within, found_few}

@@ -5,8 +5,8 @@ use Rattle.std.specs.Int.{bit_at}
 use Rattle.std.specs.Int.Bits.{xor_zero_r}
 use Rattle.std.proofs.lemmas.Nat.Bits.{bit_at-zero}
 use Rattle.std.specs.Option.{IfSome}
-use Rattle.occ_bits.specs.occ_base.declared.event.Event.{Event}
-use Rattle.occ_bits.specs.occ_base.declared.names.Name.{Name}
+use Rattle.occ_syntax.specs.occ_base.declared.event.Event.{Event}
+use Rattle.occ_syntax.specs.occ_base.declared.names.Name.{Name}
 use Rattle.occ_bits.specs.occ_dd.Assignment.{turned, with_bit}
 use Rattle.occ_bits.proofs.from_dd.Bits.{bit_cases, turned_lt, with_bit_lt}
 use Rattle.occ_bits.specs.occ_dd.Store.{IsSet, Keeps as KeepsSets, has}

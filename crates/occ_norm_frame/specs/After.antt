@@ -1,9 +1,9 @@
 -- What a map from states to nodes has of a process and of what follows it.
 use Rattle.std.specs.Prelude.{ℕ, ◌<◌, ◌≡◌, ◌^◌, ◌↔◌, ◌⊎◌, ◌++◌, Bool, true, List, Some, bit_and, bit_xor}
 use Rattle.std.specs.Int.{bit_at}
-use Rattle.occ_bits.specs.occ_base.declared.event.Event.{Event}
-use Rattle.occ_bits.specs.occ_base.declared.names.Name.{Name}
-use Rattle.occ_bits.specs.occ_base.declared.width.Width.{Width}
+use Rattle.occ_syntax.specs.occ_base.declared.event.Event.{Event}
+use Rattle.occ_syntax.specs.occ_base.declared.names.Name.{Name}
+use Rattle.occ_syntax.specs.occ_base.declared.width.Width.{Width}
 use Rattle.occ_syntax.specs.Meaning.{fails as part_fails, ends as part_ends}
 use Rattle.occ_syntax.specs.Scopes.{Environment}
 use Rattle.occ_syntax.specs.Tree.{Tree}

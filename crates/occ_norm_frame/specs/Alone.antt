@@ -1,9 +1,9 @@
 -- What a map has of a part that nothing follows.
 use Rattle.std.specs.Prelude.{ℕ, ◌+◌, ◌%◌, ◌<◌, ◌≡◌, ◌==◌, ◌^◌, ◌↔◌, Bool, true, false, List, [], ◌∷◌, Some, bit_and, bit_xor, if◌then◌else◌}
 use Rattle.std.specs.Int.{bit_at}
-use Rattle.occ_bits.specs.occ_base.declared.event.Event.{Event}
-use Rattle.occ_bits.specs.occ_base.declared.names.Name.{Name}
-use Rattle.occ_bits.specs.occ_base.declared.width.Width.{Width}
+use Rattle.occ_syntax.specs.occ_base.declared.event.Event.{Event}
+use Rattle.occ_syntax.specs.occ_base.declared.names.Name.{Name}
+use Rattle.occ_syntax.specs.occ_base.declared.width.Width.{Width}
 use Rattle.occ_bits.specs.Layout.{state_of}
 use Rattle.occ_weave.specs.occ_mdd.Maps.{value}
 use Rattle.occ_weave.specs.occ_mdd.declared.map.MapId.{MapId}

@@ -1,7 +1,7 @@
 -- Maps whose nodes are those of another map with bits of their final states turned, or of all values of some bits.
 use Rattle.std.specs.Prelude.{ℕ, ◌<◌, ◌≤◌, ◌≡◌, ◌^◌, ◌↔◌, ◌⊎◌, Bool, true, List, Some}
 use Rattle.std.specs.Int.{bit_at}
-use Rattle.occ_bits.specs.occ_base.declared.event.Event.{Event}
+use Rattle.occ_syntax.specs.occ_base.declared.event.Event.{Event}
 use Rattle.occ_bits.specs.occ_dd.Assignment.{turned}
 use Rattle.occ_weave.specs.occ_mdd.Maps.{value}
 use Rattle.occ_weave.specs.occ_mdd.declared.map.MapId.{MapId}

@@ -5,7 +5,7 @@ use Rattle.std.proofs.lemmas.Option.{same_Some, slice_get-get_or}
 use Rattle.std.specs.Prelude.{◌↔◌}
 use Rattle.std.specs.List.{list_any, All}
 use Rattle.std.specs.Ordering.{eq_by_cmp}
-use Rattle.occ_bits.specs.occ_base.declared.event.Event.{Event}
+use Rattle.occ_syntax.specs.occ_base.declared.event.Event.{Event}
 use Rattle.occ_bits.specs.occ_dd.Store.{sets_of, IsKnown, Keeps}
 use Rattle.occ_bits.specs.occ_dd.declared.set.SetId.{SetId}
 use Rattle.occ_bits.specs.occ_dd.declared.store.Store.{Store}

@@ -6,8 +6,8 @@ use Rattle.std.specs.Prelude.{◌↔◌}
 use Rattle.std.specs.List.{list_any, All}
 use Rattle.std.specs.Option.{IfSome}
 use Rattle.std.specs.Ordering.{eq_by_cmp}
-use Rattle.occ_bits.specs.occ_base.declared.event.Event.{Event}
-use Rattle.occ_bits.specs.occ_base.declared.names.Name.{Name}
+use Rattle.occ_syntax.specs.occ_base.declared.event.Event.{Event}
+use Rattle.occ_syntax.specs.occ_base.declared.names.Name.{Name}
 use Rattle.occ_weave.specs.occ_accept.Order.{event_cmp}
 use Rattle.occ_weave.specs.occ_node.Offers.{next_in, are_below}
 use Rattle.occ_weave.specs.occ_node.World.{Grows, IsNode, nodes_of, row_of}

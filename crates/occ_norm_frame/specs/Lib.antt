@@ -10,7 +10,6 @@ pub mod After
 pub mod Changes
 pub mod Alone
 pub use Rattle.occ_weave.specs.occ_accept as occ_accept
-pub use Rattle.occ_bits.specs.occ_base as occ_base
 pub use Rattle.occ_bits.specs as occ_bits
 pub use Rattle.occ_weave.specs.occ_choice as occ_choice
 pub use Rattle.occ_bits.specs.occ_dd as occ_dd

@@ -1,7 +1,7 @@
 -- What is done to nodes at each state, in one world.
 use Rattle.std.specs.Prelude.{ℕ, ◌≡◌, ◌||◌, ◌++◌, Bool, List, [], ◌∷◌, map, Option, Some, None, IfSome, is_some}
-use Rattle.occ_bits.specs.occ_base.declared.event.Event.{Event}
-use Rattle.occ_bits.specs.occ_base.declared.names.Name.{Name}
+use Rattle.occ_syntax.specs.occ_base.declared.event.Event.{Event}
+use Rattle.occ_syntax.specs.occ_base.declared.names.Name.{Name}
 use Rattle.occ_weave.specs.occ_node.World.{IsNode, row_of}
 use Rattle.occ_weave.specs.occ_node.declared.node.NodeId.{NodeId}
 use Rattle.occ_weave.specs.occ_node.declared.world.World.{World}

@@ -1,7 +1,7 @@
 -- Maps from states to nodes of a world, as the world grows.
 use Rattle.std.specs.Prelude.{ℕ, zero, suc, ◌<◌, ◌≡◌, ◌^◌, ◌==◌, ◌&&◌, Bool, true, false, List, [], ◌∷◌, Option, Some, IfSome, if◌then◌else◌}
 use Rattle.std.specs.Int.{bit_at}
-use Rattle.occ_bits.specs.occ_base.declared.event.Event.{Event}
+use Rattle.occ_syntax.specs.occ_base.declared.event.Event.{Event}
 use Rattle.occ_weave.specs.occ_mdd.Maps.{IsKnown, IsMap, Keeps, value}
 use Rattle.occ_weave.specs.occ_mdd.declared.map.MapId.{MapId}
 use Rattle.occ_weave.specs.occ_node.World.{Grows, IsNode, fails, ends}

@@ -7,7 +7,8 @@ ghost use Rattle.occ_follow.specs.Sequence.{HasNodes};
 ghost use Rattle.occ_norm_frame.specs.Maps.{Extends, MayHaveNodes, digit};
 
 use crate::Normaliser;
-use occ_bits::{Memory, SetId};
+use occ_bits::SetId;
+use occ_syntax::Memory;
 use occ_weave::{MapId, NodeId};
 
 impl Normaliser {

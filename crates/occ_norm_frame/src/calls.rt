@@ -6,7 +6,7 @@ ghost use Rattle.occ_norm_frame.specs.Maps.{Extends, Lifts, MayHaveNodes};
 
 use crate::Normaliser;
 use crate::step::Step;
-use occ_bits::{Event, Memory, Name};
+use occ_syntax::{Event, Memory, Name};
 use occ_weave::MapId;
 
 impl Normaliser {

@@ -7,7 +7,8 @@ ghost use Rattle.occ_norm_frame.specs.Changes.{IsChanged, IsFreed, IsSupport};
 
 use crate::Normaliser;
 use crate::frame::has_bit;
-use occ_bits::{Memory, SetId};
+use occ_bits::SetId;
+use occ_syntax::Memory;
 use occ_weave::MapId;
 
 /// The map where, at the states of the set, a bit of all final states is turned.

@@ -4,7 +4,7 @@ ghost use Rattle.occ_norm_frame.specs.Alone.{IsEnding, except};
 ghost use Rattle.occ_norm_frame.specs.Maps.{Extends};
 
 use crate::{Normaliser, rebased};
-use occ_bits::Memory;
+use occ_syntax::Memory;
 use occ_weave::MapId;
 
 /// Some bits without others.

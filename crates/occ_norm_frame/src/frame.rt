@@ -1,7 +1,7 @@
 ghost use Rattle.std.specs.Prelude.{◌≡◌, ◌==◌, ℕ, ◌+◌, ◌^◌, ◌<◌, ◌≤◌, ◌&&◌, if◌then◌else◌, not, true, [], Some, IfOk, IsSome, OnOk, nat_le, nat_lt};
 ghost use Rattle.std.specs.Int.{bit_at};
 ghost use Rattle.std.specs.List.{list_all};
-ghost use Rattle.occ_bits.specs.occ_base.Width.{bits_of};
+ghost use Rattle.occ_syntax.specs.occ_base.Width.{bits_of};
 ghost use Rattle.occ_bits.specs.Layout.{entry_of, environment_in};
 ghost use Rattle.occ_bits.specs.occ_dd.Assignment.{with_bit};
 ghost use Rattle.occ_syntax.specs.Scopes.{variable_width};
@@ -9,8 +9,8 @@ ghost use Rattle.occ_syntax.specs.Counts.{bits_of_scope};
 ghost use Rattle.occ_syntax.specs.Types.{scope_kept};
 ghost use Rattle.occ_norm_frame.specs.Placed.{CanEnter, IsFrame, closed_by, entered};
 
-use occ_bits::{Layout, Memory, Name, Width};
-use occ_syntax::{Kind, Program, Scope, interface_bits};
+use occ_bits::Layout;
+use occ_syntax::{Kind, Memory, Name, Program, Scope, Width, interface_bits};
 use std::alloc::Global;
 
 /// What is in scope where a part stands: the variables with their bits, the bits whose final values matter outside, and

@@ -9,8 +9,8 @@ ghost use Rattle.occ_norm_frame.specs.Maps.{Extends};
 
 use crate::Normaliser;
 use crate::frame::Frame;
-use occ_bits::{Memory, SetId, WordBits, condition, word};
-use occ_syntax::Expr;
+use occ_bits::{SetId, WordBits, condition, word};
+use occ_syntax::{Expr, Memory};
 use std::alloc::Global;
 
 /// The states in which a condition is TRUE.

@@ -25,8 +25,7 @@ pub use frame_sets::{digits, holds};
 pub use lifting::Lifting;
 pub use normaliser::Normaliser;
 pub use occ_bits::{
-    Call, Dir, Event, Memo, Memory, Name, SetId, Store, Width, WordBits, condition, either,
-    identity, leading, word,
+    Call, Memo, SetId, Store, WordBits, condition, either, identity, leading, word,
 };
 pub use occ_follow::shift_with;
 pub use occ_usage::{Accepted, ends as names_ends, keeps, written};

@@ -7,8 +7,9 @@ ghost use Rattle.occ_norm_frame.specs.Maps.{Extends, Lifts, MayHaveNodes};
 
 use crate::nodes::{finish, merge};
 use crate::step::Step;
-use occ_bits::{Event, Memo, Memory, Name};
+use occ_bits::Memo;
 use occ_follow::{Shifts, follow, shift_with};
+use occ_syntax::{Event, Memory, Name};
 use occ_weave::{Both, Manner, MapId, Maps, NodeId, Weaver, World, prefix_out, union_with};
 use std::alloc::Global;
 use std::mem;

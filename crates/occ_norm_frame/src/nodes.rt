@@ -3,7 +3,7 @@ ghost use Rattle.occ_weave.specs.occ_node.World.{IsNode, Leads, row_of};
 ghost use Rattle.occ_weave.specs.occ_choice.Union.{AreUnions};
 ghost use Rattle.occ_norm_frame.specs.Lifted.{IsFinished, IsMerged, branches_of};
 
-use occ_bits::Memory;
+use occ_syntax::Memory;
 use occ_weave::{Branch, NodeId, Row, Unions, World, add, alt_with, least};
 use std::alloc::Global;
 

@@ -5,7 +5,7 @@ ghost use Rattle.occ_follow.specs.Sequence.{HasNodes};
 ghost use Rattle.occ_norm_frame.specs.Maps.{Extends, IsSequel};
 
 use crate::Normaliser;
-use occ_bits::Memory;
+use occ_syntax::Memory;
 use occ_weave::{MapId, NodeId};
 
 impl Normaliser {

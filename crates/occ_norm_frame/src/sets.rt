@@ -5,7 +5,8 @@ ghost use Rattle.occ_bits.specs.occ_dd.Assignment.{turned};
 ghost use Rattle.occ_norm_frame.specs.Maps.{Extends};
 
 use crate::Normaliser;
-use occ_bits::{Memory, SetId, Store};
+use occ_bits::{SetId, Store};
+use occ_syntax::Memory;
 
 fn minus(store: &mut Store, set: SetId, other: SetId) -> Result<SetId, Memory>
     requires set { IsKnown store.old set }

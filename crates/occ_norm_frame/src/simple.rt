@@ -4,7 +4,8 @@ ghost use Rattle.occ_follow.specs.Sequence.{HasNodes};
 ghost use Rattle.occ_norm_frame.specs.Maps.{Extends, IsSkip, IsStop, are_zero, is_clear};
 
 use crate::Normaliser;
-use occ_bits::{Memory, SetId, Store};
+use occ_bits::{SetId, Store};
+use occ_syntax::Memory;
 use occ_weave::{MapId, Offers, Row, least};
 
 // Those of a set in which a bit is 0, if it is one of some bits.

@@ -1,4 +1,4 @@
-use occ_bits::Event;
+use occ_syntax::Event;
 
 /// What is done to the nodes that two maps have at a state.
 #[derive(Clone, Copy, Debug)]

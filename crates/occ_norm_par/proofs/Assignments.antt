@@ -2,9 +2,9 @@
 use Rattle.std.proofs.Common.{◌≡◌, ℕ, ◌+◌, ◌-◌, ◌/◌, ◌%◌, ◌^◌, ◌<◌, ◌≤◌, ◌==◌, true, false, cond, List, [], ◌∷◌, Option, Some, None, ⊎_elim, refl, sym, ap, ◌∙◌, subst, arith}
 use Rattle.std.specs.Int.{bit_at}
 use Rattle.std.proofs.lemmas.Bool.{and_parts, cases_lt, eqb-true, false_from_ne_true}
-use Rattle.occ_norm_frame.specs.occ_base.declared.names.Name.{Name}
-use Rattle.occ_norm_frame.specs.occ_base.declared.width.Width.{Width}
-use Rattle.occ_norm_frame.specs.occ_base.Width.{bits_of}
+use Rattle.occ_syntax.specs.occ_base.declared.names.Name.{Name}
+use Rattle.occ_syntax.specs.occ_base.declared.width.Width.{Width}
+use Rattle.occ_syntax.specs.occ_base.Width.{bits_of}
 use Rattle.occ_norm_frame.specs.occ_bits.Layout.{entry_of, laid_out, state_of}
 use Rattle.occ_norm_frame.proofs.from_bits.Arithmetic.{higher_bit, low_bit}
 use Rattle.occ_norm_frame.proofs.from_bits.Laid.{found_state, found_width, fresh_first, laid_width}

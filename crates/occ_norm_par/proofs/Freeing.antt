@@ -11,8 +11,8 @@ use Rattle.occ_norm_frame.specs.occ_dd.declared.set.SetId.{SetId}
 use Rattle.occ_norm_frame.specs.occ_dd.declared.store.Store.{Store}
 use Rattle.occ_norm_frame.specs.occ_dd.Assignment.{with_bit}
 use Rattle.occ_norm_frame.proofs.from_dd.Bits.{bit_at-with_bit_other, bit_at-with_bit_same, bit_cases, is_one, is_zero, zero_is}
-use Rattle.occ_norm_frame.specs.occ_base.declared.names.Name.{Name}
-use Rattle.occ_norm_frame.specs.occ_base.declared.width.Width.{Width}
+use Rattle.occ_syntax.specs.occ_base.declared.names.Name.{Name}
+use Rattle.occ_syntax.specs.occ_base.declared.width.Width.{Width}
 use Rattle.occ_norm_frame.specs.occ_bits.Layout.{environment_in, state_of}
 use Rattle.occ_syntax.specs.declared.scope.Kind.{Kind}
 use Rattle.occ_syntax.specs.Eval.{is_true}

@@ -2,8 +2,8 @@
 use Rattle.std.proofs.Common.{◌≡◌, ◌++◌, ◌&&◌, ⊎_elim, ℕ, ◌+◌, ◌<◌, ◌≤◌, not, List, [], ◌∷◌, get_or, length, refl, sym, ap, ◌∙◌, subst, arith}
 use Rattle.std.proofs.lemmas.Bool.{cases_lt}
 use Rattle.std.proofs.lemmas.List.{get_or_append_left, get_or_push, length-append}
-use Rattle.occ_norm_frame.specs.occ_base.declared.names.Name.{Name}
-use Rattle.occ_norm_frame.specs.occ_base.declared.width.Width.{Width}
+use Rattle.occ_syntax.specs.occ_base.declared.names.Name.{Name}
+use Rattle.occ_syntax.specs.occ_base.declared.width.Width.{Width}
 use Rattle.occ_norm_frame.specs.occ_bits.Layout.{environment_in, state_of}
 use Rattle.occ_norm_frame.specs.occ_dd.Store.{Keeps, has}
 use Rattle.occ_norm_frame.specs.occ_dd.declared.set.SetId.{SetId}

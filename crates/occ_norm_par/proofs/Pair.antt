@@ -8,12 +8,12 @@ use Rattle.std.proofs.lemmas.Nat.{xor_lt}
 use Rattle.std.proofs.lemmas.Nat.Bits.{bit_at_and, bit_at_xor}
 use Rattle.std.specs.Int.Bits.{bit_and, bit_xor}
 use mathlib.Core.Path.{fun_ext}
-use Rattle.occ_norm_frame.specs.occ_base.Event.{counterpart}
-use Rattle.occ_norm_frame.specs.occ_base.Width.{bits_of}
-use Rattle.occ_norm_frame.specs.occ_base.declared.event.Dir.{Dir}
-use Rattle.occ_norm_frame.specs.occ_base.declared.event.Event.{Event}
-use Rattle.occ_norm_frame.specs.occ_base.declared.names.Name.{Name}
-use Rattle.occ_norm_frame.specs.occ_base.declared.width.Width.{Width}
+use Rattle.occ_syntax.specs.occ_base.Event.{counterpart}
+use Rattle.occ_syntax.specs.occ_base.Width.{bits_of}
+use Rattle.occ_syntax.specs.occ_base.declared.event.Dir.{Dir}
+use Rattle.occ_syntax.specs.occ_base.declared.event.Event.{Event}
+use Rattle.occ_syntax.specs.occ_base.declared.names.Name.{Name}
+use Rattle.occ_syntax.specs.occ_base.declared.width.Width.{Width}
 use Rattle.occ_norm_frame.specs.occ_bits.Layout.{entry_of, state_of}
 use Rattle.occ_norm_frame.proofs.from_bits.Laid.{found_within}
 use Rattle.occ_norm_frame.proofs.from_dd.Bits.{bit_cases, is_one, is_zero}

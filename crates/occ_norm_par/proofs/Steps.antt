@@ -5,7 +5,7 @@ use Rattle.std.proofs.lemmas.Bool.{cond-true, cond-false, cases_lt}
 use Rattle.std.proofs.lemmas.Option.{same_Some}
 use Rattle.std.specs.Int.{bit_at}
 use Rattle.std.specs.Result.{IfOk}
-use Rattle.occ_norm_frame.specs.occ_base.declared.event.Event.{Event}
+use Rattle.occ_syntax.specs.occ_base.declared.event.Event.{Event}
 use Rattle.occ_norm_frame.specs.occ_dd.Assignment.{with_bit}
 use Rattle.occ_norm_frame.specs.occ_dd.Memo.{Learns, recalled}
 use Rattle.occ_norm_frame.specs.occ_dd.declared.memo.Call.{Call}

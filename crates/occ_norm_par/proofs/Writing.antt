@@ -7,9 +7,9 @@ use Rattle.std.proofs.lemmas.Bool.{and_from, and_left, and_right, cases_Bool, ca
 use Rattle.std.proofs.lemmas.List.Folds.{list_any-append}
 use Rattle.std.proofs.lemmas.List.{get_or_append_left, get_or_push, length-append, length-take-le}
 use Rattle.std.proofs.lemmas.Nat.Bits.{bit_at-zero, bit_at_or}
-use Rattle.occ_norm_frame.specs.occ_base.declared.names.Name.{Name}
-use Rattle.occ_norm_frame.specs.occ_base.declared.width.Width.{Width}
-use Rattle.occ_norm_frame.specs.occ_base.Width.{bits_of}
+use Rattle.occ_syntax.specs.occ_base.declared.names.Name.{Name}
+use Rattle.occ_syntax.specs.occ_base.declared.width.Width.{Width}
+use Rattle.occ_syntax.specs.occ_base.Width.{bits_of}
 use Rattle.occ_norm_frame.specs.occ_bits.Layout.{IsLayout, entry_of, laid_out, scope_in, state_of}
 use Rattle.occ_norm_frame.proofs.from_bits.Laid.{found_within, same_pair}
 use Rattle.occ_norm_frame.proofs.from_meaning.Facts.{none_not_some, same_turned}

@@ -1,8 +1,8 @@
 -- Maps of parts of a PAR that stand in a row, and the map of all of them together.
 use Rattle.std.specs.Prelude.{ℕ, ◌+◌, ◌<◌, ◌≤◌, ◌≡◌, ◌^◌, true, List, length, get_or, bit_or}
 use Rattle.std.specs.List.{All}
-use Rattle.occ_norm_frame.specs.occ_base.declared.names.Name.{Name}
-use Rattle.occ_norm_frame.specs.occ_base.declared.width.Width.{Width}
+use Rattle.occ_syntax.specs.occ_base.declared.names.Name.{Name}
+use Rattle.occ_syntax.specs.occ_base.declared.width.Width.{Width}
 use Rattle.occ_norm_frame.specs.occ_mdd.declared.map.MapId.{MapId}
 use Rattle.occ_norm_frame.specs.occ_node.declared.world.World.{World}
 use Rattle.occ_norm_frame.specs.occ_follow.Sequence.{HasNodes}

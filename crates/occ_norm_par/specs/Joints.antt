@@ -2,7 +2,7 @@
 -- bits from some bit on.
 use Rattle.std.specs.Prelude.{ℕ, zero, suc, ◌<◌, ◌≤◌, ◌≡◌, ◌^◌, ◌==◌, ◌↔◌, ◌⊎◌, ◌++◌, Bool, true, List, Option, Some, bit_or, if◌then◌else◌}
 use Rattle.std.specs.Int.{bit_at}
-use Rattle.occ_norm_frame.specs.occ_base.declared.event.Event.{Event}
+use Rattle.occ_syntax.specs.occ_base.declared.event.Event.{Event}
 use Rattle.occ_norm_frame.specs.occ_dd.Assignment.{with_bit}
 use Rattle.occ_norm_frame.specs.occ_dd.Memo.{recalled}
 use Rattle.occ_norm_frame.specs.occ_dd.declared.memo.Call.{Call}

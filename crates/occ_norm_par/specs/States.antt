@@ -1,9 +1,9 @@
 -- Sets of states, and the states that a part reaches from those of a set.
 use Rattle.std.specs.Prelude.{ℕ, ◌+◌, ◌<◌, ◌≡◌, ◌&&◌, not, true, List, get_or, length}
 use Rattle.std.specs.Int.{bit_at}
-use Rattle.occ_norm_frame.specs.occ_base.declared.event.Event.{Event}
-use Rattle.occ_norm_frame.specs.occ_base.declared.names.Name.{Name}
-use Rattle.occ_norm_frame.specs.occ_base.declared.width.Width.{Width}
+use Rattle.occ_syntax.specs.occ_base.declared.event.Event.{Event}
+use Rattle.occ_syntax.specs.occ_base.declared.names.Name.{Name}
+use Rattle.occ_syntax.specs.occ_base.declared.width.Width.{Width}
 use Rattle.occ_norm_frame.specs.occ_bits.Layout.{environment_in, state_of}
 use Rattle.occ_norm_frame.specs.occ_dd.Store.{IsKnown, has}
 use Rattle.occ_norm_frame.specs.occ_dd.declared.set.SetId.{SetId}

@@ -5,8 +5,8 @@ ghost use Rattle.occ_norm_frame.specs.Placed.{FitCases};
 ghost use Rattle.occ_norm_par.specs.States.{AreLeft, AreStates};
 
 use crate::forward::single;
-use occ_norm_frame::{Frame, Memory, Normaliser, SetId, holds};
-use occ_syntax::{Expr, Proc};
+use occ_norm_frame::{Frame, Normaliser, SetId, holds};
+use occ_syntax::{Expr, Memory, Proc};
 
 /// The states of a set in which no choice of an IF in front of each one is taken, and those in which none is.
 pub fn states_left(

@@ -8,8 +8,9 @@ ghost use Rattle.occ_norm_par.specs.Joints.{AreJoint, IsEnded, IsHalf, IsJoint, 
 
 use crate::parallel::Sides;
 use occ_norm_frame::{
-    Call, Frame, MapId, Memo, Memory, Normaliser, ending, except, has_bit, node_at, rebased,
+    Call, Frame, MapId, Memo, Normaliser, ending, except, has_bit, node_at, rebased,
 };
+use occ_syntax::Memory;
 
 // The bits of the states: those that the processes before write, and those on which what follows depends.
 #[derive(Clone, Copy)]

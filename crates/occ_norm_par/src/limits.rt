@@ -8,8 +8,8 @@ ghost use Rattle.occ_norm_frame.specs.Placed.{FitAll};
 ghost use Rattle.occ_norm_par.specs.States.{AreBetween, AreStates};
 
 use crate::forward::between;
-use occ_norm_frame::{Frame, MapId, Memory, Normaliser, SetId};
-use occ_syntax::Proc;
+use occ_norm_frame::{Frame, MapId, Normaliser, SetId};
+use occ_syntax::{Memory, Proc};
 
 /// The set of all states.
 pub fn all_states(world: &Normaliser, frame: &Frame) -> SetId

@@ -10,13 +10,11 @@ ghost use Rattle.occ_norm_frame.specs.Changes.{IsSupport};
 ghost use Rattle.occ_norm_par.specs.Sides.{AllWritten, AreUsers, AreWritten, bits_in, closed_in};
 ghost use Rattle.occ_norm_par.specs.Joined.{AreBoth, HaveNodes, IsJoined};
 ghost use Rattle.occ_norm_par.specs.Spans.{covers, is_of};
-ghost use Rattle.occ_norm_frame.specs.occ_base.Width.{bits_of};
+ghost use Rattle.occ_syntax.specs.occ_base.Width.{bits_of};
 
 use crate::users::{Users, crossing, row_start, users_of, within};
-use occ_norm_frame::{
-    Frame, MapId, Memory, Name, Normaliser, Width, bits_from, except, support, written,
-};
-use occ_syntax::Proc;
+use occ_norm_frame::{Frame, MapId, Normaliser, bits_from, except, support, written};
+use occ_syntax::{Memory, Name, Proc, Width};
 use std::alloc::Global;
 
 // Places of parts in a row: so many from `low` on, and those behind them in front of `high`.

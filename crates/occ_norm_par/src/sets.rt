@@ -6,7 +6,8 @@ ghost use Rattle.occ_norm_frame.specs.occ_dd.Store.{IsKnown, IsSet, Keeps, has};
 ghost use Rattle.occ_norm_frame.specs.occ_dd.Assignment.{with_bit};
 ghost use Rattle.occ_norm_par.specs.States.{AreStates, HasFreed, HasThose, set_at};
 
-use occ_norm_frame::{Memory, SetId, Store, has_bit};
+use occ_norm_frame::{SetId, Store, has_bit};
+use occ_syntax::Memory;
 
 // Some states, and those that differ from one of them in this bit alone, if it is among some bits.
 fn freed_at(store: &mut Store, bits: u64, bit: u32, set: SetId) -> Result<SetId, Memory>

@@ -1,13 +1,13 @@
 ghost use Rattle.std.specs.Prelude.{◌≡◌, ◌≤◌, ◌<◌, ◌&&◌, ◌++◌, ◌∷◌, [], List, length, nat_le, nat_lt, not, if◌then◌else◌, OnOk, IfOk};
-ghost use Rattle.occ_norm_frame.specs.occ_base.declared.names.Name.{Name};
+ghost use Rattle.occ_syntax.specs.occ_base.declared.names.Name.{Name};
 ghost use Rattle.occ_syntax.specs.View.{tree, trees};
 ghost use Rattle.indexmap.specs.IndexMap.{get};
 ghost use Rattle.occ_norm_par.specs.Sides.{AreUsers, closed_in, crossing, uses};
 ghost use Rattle.occ_norm_par.specs.Spans.{IsSpan, first_of, has_end_on, listed, noted, same_name, user_of};
 
 use indexmap::IndexMap;
-use occ_norm_frame::{Dir, Memory, Name, names_ends as ends};
-use occ_syntax::Proc;
+use occ_norm_frame::names_ends as ends;
+use occ_syntax::{Dir, Memory, Name, Proc};
 use std::alloc::Global;
 
 /// A closed channel, with the first and the last of the parts of a PAR that use it.

@@ -3,8 +3,8 @@ use Rattle.std.proofs.Common.{◌≡◌, ℕ, ◌+◌, ◌≤◌, true, nat_lt, 
 use Rattle.std.specs.List.{flat_map}
 use Rattle.std.proofs.lemmas.Bool.{and_parts}
 use Rattle.std.proofs.lemmas.List.{length-map}
-use Rattle.occ_usage.specs.occ_base.declared.names.Name.{Name}
-use Rattle.occ_usage.specs.occ_base.Names.{IsDistinct}
+use Rattle.occ_syntax.specs.occ_base.declared.names.Name.{Name}
+use Rattle.occ_syntax.specs.occ_base.Names.{IsDistinct}
 use Rattle.occ_syntax.specs.declared.scope.Kind.{Kind}
 use Rattle.occ_syntax.specs.declared.scope.Program.{Program}
 use Rattle.occ_syntax.specs.Counts.{controls, bits_of_scope, most_bits}
@@ -12,8 +12,8 @@ use Rattle.occ_syntax.specs.Scopes.{environment}
 use Rattle.occ_syntax.specs.Tree.{Tree}
 use Rattle.occ_syntax.specs.Types.{scope_kept, types_kept}
 use Rattle.occ_syntax.specs.View.{tree}
-use Rattle.occ_parse_layout.specs.occ_lex.Symbols.{Extends}
-use Rattle.occ_parse_layout.proofs.from_lex.Interned.{extends_trans}
+use Rattle.occ_parse_rules.specs.occ_lex.Symbols.{Extends}
+use Rattle.occ_parse_rules.proofs.from_lex.Interned.{extends_trans}
 use Rattle.occ_parse_rules.specs.occ_parse_forms.declared.form.Param.{Param}
 use Rattle.occ_parse_rules.specs.occ_parse_forms.Shape.{header, close}
 use Rattle.occ_parse_rules.specs.Forest.{Forest, no_line, and_line}

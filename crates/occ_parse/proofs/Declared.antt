@@ -4,9 +4,9 @@ use Rattle.std.specs.Str.{bytes_eq}
 use Rattle.std.specs.List.{AllByRecursion, list_all, flat_map, position_or_len}
 use Rattle.std.proofs.lemmas.Bool.{and_parts, and_from, ltb-true, lt-ltb, cases_lt, cases_Bool, eq-eqb}
 use Rattle.std.proofs.lemmas.List.Folds.{position_or_len_push}
-use Rattle.occ_usage.specs.occ_base.declared.names.Name.{Name}
-use Rattle.occ_usage.specs.occ_base.Names.{place_of}
-use Rattle.occ_usage.proofs.from_base.Naming.{place-le}
+use Rattle.occ_syntax.specs.occ_base.declared.names.Name.{Name}
+use Rattle.occ_syntax.specs.occ_base.Names.{place_of}
+use Rattle.occ_syntax.proofs.from_base.Naming.{place-le}
 use Rattle.occ_syntax.specs.declared.scope.Kind.{Kind}
 use Rattle.occ_syntax.specs.declared.scope.Kind.TheVariants.{Var, Chan}
 use Rattle.occ_syntax.specs.declared.scope.Program.{Program}
@@ -14,8 +14,8 @@ use Rattle.occ_syntax.specs.Declarations.{declaring, declaring_all}
 use Rattle.occ_syntax.specs.Tree.{Tree, Trees, no_tree, and_tree, Cases, no_case, and_case, Branches, no_branch, and_branch}
 use Rattle.occ_syntax.specs.Tree as syntax
 use Rattle.occ_syntax.specs.View.{tree}
-use Rattle.occ_parse_layout.specs.occ_lex.Symbols.{Extends}
-use Rattle.occ_parse_layout.proofs.from_lex.Interned.{extends_same}
+use Rattle.occ_parse_rules.specs.occ_lex.Symbols.{Extends}
+use Rattle.occ_parse_rules.proofs.from_lex.Interned.{extends_same}
 use Rattle.occ_parse_rules.specs.occ_parse_forms.declared.form.Declared.{Declared}
 use Rattle.occ_parse_rules.specs.occ_parse_forms.declared.form.Declared.TheVariants as declared
 use Rattle.occ_parse_rules.specs.occ_parse_forms.declared.form.Group.{Group}

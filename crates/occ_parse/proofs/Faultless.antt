@@ -1,7 +1,7 @@
 -- What follows where the lines of a text have no fault.
 use Rattle.std.proofs.Common.{◌≡◌, ℕ, ◌≤◌, Bool, true, false, nat_lt, if◌then◌else◌, List, [], Option, Some, None, refl, sym, ap, ◌∙◌}
 use Rattle.std.proofs.lemmas.Bool.{ltb-false}
-use Rattle.occ_usage.specs.occ_base.declared.names.Name.{Name}
+use Rattle.occ_syntax.specs.occ_base.declared.names.Name.{Name}
 use Rattle.occ_syntax.specs.Counts.{controls}
 use Rattle.occ_parse_rules.specs.occ_parse_forms.declared.form.Param.{Param}
 use Rattle.occ_parse_rules.specs.occ_parse_forms.Shape.{Shape, header, close}

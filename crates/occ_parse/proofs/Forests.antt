@@ -1,12 +1,12 @@
 -- Lines as a forest, and a text by its lines.
 use Rattle.std.proofs.Common.{◌≡◌, ℕ, Bool, false, List, Option, None, refl, sym, ap, subst, ◌∙◌, ◌⊎◌, inl, inr}
 use Rattle.std.specs.Prelude.{is_some, Result, Ok, Err, IfErr}
-use Rattle.occ_parse_layout.specs.occ_lex.declared.fault.LineFault.{LineFault}
-use Rattle.occ_parse_layout.specs.occ_lex.declared.token.Line.{Line}
-use Rattle.occ_parse_layout.specs.occ_lex.Rows.{reading_of}
-use Rattle.occ_parse_layout.specs.occ_lex.declared.symbol.Row.{Row}
-use Rattle.occ_parse_layout.specs.occ_lex.Symbols.{rows_of}
-use Rattle.occ_usage.specs.occ_base.declared.names.Name.{Name}
+use Rattle.occ_parse_rules.specs.occ_lex.declared.fault.LineFault.{LineFault}
+use Rattle.occ_parse_rules.specs.occ_lex.declared.token.Line.{Line}
+use Rattle.occ_parse_rules.specs.occ_lex.Rows.{reading_of}
+use Rattle.occ_parse_rules.specs.occ_lex.declared.symbol.Row.{Row}
+use Rattle.occ_parse_rules.specs.occ_lex.Symbols.{rows_of}
+use Rattle.occ_syntax.specs.occ_base.declared.names.Name.{Name}
 use Rattle.occ_syntax.specs.declared.scope.Kind.{Kind}
 use Rattle.occ_syntax.specs.Tree.{Tree}
 use Rattle.occ_parse_rules.specs.occ_parse_forms.declared.form.Param.{Param}

@@ -2,13 +2,13 @@
 use Rattle.std.proofs.Common.{◌≡◌, ℕ, ◌+◌, ◌<◌, Bool, true, nat_lt, List, [], ◌∷◌, ◌++◌, length, Option, Some, None, refl, sym, ap, subst, ◌∙◌, ◌&&◌}
 use Rattle.std.specs.List.{AllByRecursion, list_all}
 use Rattle.std.proofs.lemmas.Bool.{and_parts, and_from, ltb-true}
-use Rattle.occ_parse_layout.specs.occ_lex.declared.fault.LineFault.{LineFault}
-use Rattle.occ_parse_layout.specs.occ_lex.Rows.{reading_of}
-use Rattle.occ_parse_layout.proofs.from_lex.Placing.{reading_placed}
-use Rattle.occ_parse_layout.specs.occ_lex.declared.symbol.Row.{Row}
-use Rattle.occ_parse_layout.specs.occ_lex.declared.symbol.Symbol.{Symbol}
-use Rattle.occ_parse_layout.specs.occ_lex.Symbols.{Extends}
-use Rattle.occ_parse_layout.proofs.from_lex.Interned.{extends_same}
+use Rattle.occ_parse_rules.specs.occ_lex.declared.fault.LineFault.{LineFault}
+use Rattle.occ_parse_rules.specs.occ_lex.Rows.{reading_of}
+use Rattle.occ_parse_rules.proofs.from_lex.Placing.{reading_placed}
+use Rattle.occ_parse_rules.specs.occ_lex.declared.symbol.Row.{Row}
+use Rattle.occ_parse_rules.specs.occ_lex.declared.symbol.Symbol.{Symbol}
+use Rattle.occ_parse_rules.specs.occ_lex.Symbols.{Extends}
+use Rattle.occ_parse_rules.proofs.from_lex.Interned.{extends_same}
 use Rattle.occ_parse_rules.specs.occ_parse_forms.declared.form.Declared.{Declared}
 use Rattle.occ_parse_rules.specs.occ_parse_forms.declared.form.Declared.TheVariants as declared
 use Rattle.occ_parse_rules.specs.occ_parse_forms.declared.form.Item.{Item}
@@ -27,7 +27,7 @@ use Rattle.occ_parse.specs.declared.fault.Which.{Which}
 use Rattle.occ_parse.specs.Limits.{line_limit, stop_at, stopped}
 use Rattle.occ_parse.specs.Drafts.{header_name, header_params, header_below}
 use Rattle.occ_parse.specs.Reading.{AreForms, IsLaidOut, rows_in, names_in}
-use Rattle.occ_usage.specs.occ_base.declared.names.Name.{Name}
+use Rattle.occ_syntax.specs.occ_base.declared.names.Name.{Name}
 use Rattle.occ_parse_layout.specs.Whole.{IsProgram}
 use Rattle.occ_parse.proofs.Forests.{program_of}
 use Rattle.occ_parse.proofs.Texts.{AreOf, rows_are, OfNames, passes_all, small_all, in_table}

@@ -10,7 +10,6 @@ pub mod Faultless
 pub mod Checked
 pub mod Placed
 pub mod Declared
-pub use Rattle.occ_parse_layout.proofs.from_lex as from_lex
 pub use Rattle.occ_usage.proofs.from_names as from_names
 pub use Rattle.occ_parse_layout.proofs as from_parse_layout
 pub use Rattle.occ_parse_rules.proofs as from_parse_rules

@@ -1,14 +1,14 @@
 -- A text has one reading, since a line has one form and lines are those of one forest.
 use Rattle.std.proofs.Common.{◌≡◌, ℕ, true, false, List, [], ◌∷◌, Option, Some, None, refl, sym, ap, ◌∙◌}
 use Rattle.std.specs.Prelude.{is_some}
-use Rattle.occ_usage.specs.occ_base.declared.names.Name.{Name}
+use Rattle.occ_syntax.specs.occ_base.declared.names.Name.{Name}
 use Rattle.occ_syntax.specs.declared.scope.Kind.{Kind}
 use Rattle.occ_syntax.specs.Tree.{Tree}
-use Rattle.occ_parse_layout.specs.occ_lex.declared.symbol.Row.{Row}
-use Rattle.occ_parse_layout.specs.occ_lex.declared.symbol.Symbol.{Symbol}
+use Rattle.occ_parse_rules.specs.occ_lex.declared.symbol.Row.{Row}
+use Rattle.occ_parse_rules.specs.occ_lex.declared.symbol.Symbol.{Symbol}
 use Rattle.occ_parse_rules.specs.occ_parse_forms.Lines.{IsForm}
 use Rattle.occ_parse_rules.specs.occ_parse_forms.Shape.{Shape}
-use Rattle.occ_parse_layout.specs.occ_lex.Rows.{reading_of}
+use Rattle.occ_parse_rules.specs.occ_lex.Rows.{reading_of}
 use Rattle.occ_parse_rules.specs.Forest.{Forest, Laid, lines_at}
 use Rattle.occ_parse_rules.specs.Unrolled.{params_named, slot_process, lined}
 use Rattle.occ_parse_rules.specs.Programs.{param_scope}

@@ -6,12 +6,12 @@ use Rattle.std.proofs.lemmas.Bool.{and_parts, and_from, ltb-true, cases_lt}
 use Rattle.std.proofs.lemmas.Fmt.{decimal_injective}
 use Rattle.std.proofs.lemmas.Option.{slice_get-get_or, get_or_from_slice_get}
 use Rattle.std.proofs.Math.ListN.{get_or-append}
-use Rattle.occ_usage.specs.occ_base.Names.{place_of, with_text, IsDistinct}
-use Rattle.occ_usage.proofs.from_base.Naming.{naming, at_place, nowhere}
-use Rattle.occ_parse_layout.specs.occ_lex.Spelling.{is_name, is_name_byte, is_letter}
-use Rattle.occ_parse_layout.proofs.from_lex.Classes.{letter_name_byte}
-use Rattle.occ_parse_layout.specs.occ_lex.Symbols.{Extends}
-use Rattle.occ_parse_layout.proofs.from_lex.Interned.{extends_same, extends_trans, extends_text, longer}
+use Rattle.occ_syntax.specs.occ_base.Names.{place_of, with_text, IsDistinct}
+use Rattle.occ_syntax.proofs.from_base.Naming.{naming, at_place, nowhere}
+use Rattle.occ_parse_rules.specs.occ_lex.Spelling.{is_name, is_name_byte, is_letter}
+use Rattle.occ_parse_rules.proofs.from_lex.Classes.{letter_name_byte}
+use Rattle.occ_parse_rules.specs.occ_lex.Symbols.{Extends}
+use Rattle.occ_parse_rules.proofs.from_lex.Interned.{extends_same, extends_trans, extends_text, longer}
 use Rattle.occ_parse_rules.specs.occ_parse_forms.declared.form.Declared.{Declared}
 use Rattle.occ_parse_rules.specs.occ_parse_forms.declared.form.Declared.TheVariants as declared
 use Rattle.occ_parse_rules.specs.occ_parse_forms.declared.form.Param.{Param}

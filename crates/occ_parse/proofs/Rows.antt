@@ -1,8 +1,8 @@
 -- Rows that are judged one by one.
 use Rattle.std.proofs.Common.{◌≡◌, ℕ, ◌+◌, ◌<◌, ◌≤◌, List, [], ◌∷◌, ◌++◌, length, get_or, drop, Option, Some, refl, sym, ap, subst, ◌∙◌}
 use Rattle.std.proofs.lemmas.List.{append-nil, drop_more, drop_all}
-use Rattle.occ_parse_layout.specs.occ_lex.declared.fault.LineFault.{LineFault}
-use Rattle.occ_parse_layout.specs.occ_lex.declared.symbol.Row.{Row}
+use Rattle.occ_parse_rules.specs.occ_lex.declared.fault.LineFault.{LineFault}
+use Rattle.occ_parse_rules.specs.occ_lex.declared.symbol.Row.{Row}
 use Rattle.occ_parse_rules.specs.Forest.{Laid}
 use Rattle.occ_parse_layout.specs.declared.placed.Placed.{Placed}
 use Rattle.occ_parse_layout.specs.Layout.{laid_rows}

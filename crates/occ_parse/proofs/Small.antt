@@ -3,10 +3,10 @@ use Rattle.std.proofs.Common.{◌≡◌, Bool, true, nat_lt, List, [], ◌∷◌
 use Rattle.std.specs.List.{AllByRecursion, list_all}
 use Rattle.std.proofs.lemmas.Bool.{and_parts, and_from}
 use Rattle.std.proofs.lemmas.List.Folds.{list_all-append}
-use Rattle.occ_parse_layout.specs.occ_lex.declared.symbol.Keyword.TheVariants as word
-use Rattle.occ_parse_layout.specs.occ_lex.declared.symbol.Sign.TheVariants as sign
-use Rattle.occ_parse_layout.specs.occ_lex.declared.symbol.Symbol.{Symbol}
-use Rattle.occ_parse_layout.specs.occ_lex.declared.symbol.Symbol.TheVariants as symbol
+use Rattle.occ_parse_rules.specs.occ_lex.declared.symbol.Keyword.TheVariants as word
+use Rattle.occ_parse_rules.specs.occ_lex.declared.symbol.Sign.TheVariants as sign
+use Rattle.occ_parse_rules.specs.occ_lex.declared.symbol.Symbol.{Symbol}
+use Rattle.occ_parse_rules.specs.occ_lex.declared.symbol.Symbol.TheVariants as symbol
 use Rattle.occ_syntax.specs.declared.scope.Kind.{Kind}
 use Rattle.occ_parse_rules.specs.occ_parse_forms.declared.form.Declared.{Declared}
 use Rattle.occ_parse_rules.specs.occ_parse_forms.declared.form.Declared.TheVariants as declared

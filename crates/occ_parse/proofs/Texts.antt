@@ -6,24 +6,24 @@ use Rattle.std.specs.Str.{bytes_eq}
 use Rattle.std.proofs.lemmas.Bool.{and_from, leb-true}
 use Rattle.std.proofs.lemmas.Option.{slice_get-get_or, slice_get_within, get_or_from_slice_get}
 use Rattle.std.proofs.Math.ListN.{get_or-append}
-use Rattle.occ_usage.specs.occ_base.Names.{place_of, with_text}
-use Rattle.occ_usage.proofs.from_base.Naming.{naming}
-use Rattle.occ_parse_layout.specs.occ_lex.declared.fault.LineFault.TheVariants as fault
-use Rattle.occ_parse_layout.specs.occ_lex.declared.token.Line.{Line}
-use Rattle.occ_parse_layout.specs.occ_lex.declared.token.Token.{Token}
-use Rattle.occ_parse_layout.specs.occ_lex.declared.token.TokenKind.{TokenKind}
-use Rattle.occ_parse_layout.specs.occ_lex.declared.token.TokenKind.TheVariants as kind
-use Rattle.occ_parse_layout.specs.occ_lex.Placed.{IsTokenOf, IsLineOf}
-use Rattle.occ_parse_layout.specs.occ_lex.Spelling.{is_name, is_numeral, is_reserved, is_sign, kind_of, value_of}
-use Rattle.occ_parse_layout.specs.occ_lex.Token.{text_of}
-use Rattle.occ_parse_layout.specs.occ_lex.Tokens.{judged}
-use Rattle.occ_parse_layout.specs.occ_lex.declared.symbol.Keyword.{Keyword}
-use Rattle.occ_parse_layout.specs.occ_lex.declared.symbol.Keyword.TheVariants as word
-use Rattle.occ_parse_layout.specs.occ_lex.declared.symbol.Symbol.{Symbol}
-use Rattle.occ_parse_layout.specs.occ_lex.declared.symbol.Symbol.TheVariants as symbol
-use Rattle.occ_parse_layout.specs.occ_lex.Symbols.{Extends, names_with, rows_of, symbol_of, symbols_of, with_names, with_names_of_all}
-use Rattle.occ_parse_layout.specs.occ_lex.SymbolWords.{keyword_of, keywords, look_up}
-use Rattle.occ_parse_layout.proofs.from_lex.Interned.{extends_trans, extends_names, extends_all, longer}
+use Rattle.occ_syntax.specs.occ_base.Names.{place_of, with_text}
+use Rattle.occ_syntax.proofs.from_base.Naming.{naming}
+use Rattle.occ_parse_rules.specs.occ_lex.declared.fault.LineFault.TheVariants as fault
+use Rattle.occ_parse_rules.specs.occ_lex.declared.token.Line.{Line}
+use Rattle.occ_parse_rules.specs.occ_lex.declared.token.Token.{Token}
+use Rattle.occ_parse_rules.specs.occ_lex.declared.token.TokenKind.{TokenKind}
+use Rattle.occ_parse_rules.specs.occ_lex.declared.token.TokenKind.TheVariants as kind
+use Rattle.occ_parse_rules.specs.occ_lex.Placed.{IsTokenOf, IsLineOf}
+use Rattle.occ_parse_rules.specs.occ_lex.Spelling.{is_name, is_numeral, is_reserved, is_sign, kind_of, value_of}
+use Rattle.occ_parse_rules.specs.occ_lex.Token.{text_of}
+use Rattle.occ_parse_rules.specs.occ_lex.Tokens.{judged}
+use Rattle.occ_parse_rules.specs.occ_lex.declared.symbol.Keyword.{Keyword}
+use Rattle.occ_parse_rules.specs.occ_lex.declared.symbol.Keyword.TheVariants as word
+use Rattle.occ_parse_rules.specs.occ_lex.declared.symbol.Symbol.{Symbol}
+use Rattle.occ_parse_rules.specs.occ_lex.declared.symbol.Symbol.TheVariants as symbol
+use Rattle.occ_parse_rules.specs.occ_lex.Symbols.{Extends, names_with, rows_of, symbol_of, symbols_of, with_names, with_names_of_all}
+use Rattle.occ_parse_rules.specs.occ_lex.SymbolWords.{keyword_of, keywords, look_up}
+use Rattle.occ_parse_rules.proofs.from_lex.Interned.{extends_trans, extends_names, extends_all, longer}
 use Rattle.occ_parse_rules.specs.Passing.{keyword_passes, symbol_passes}
 
 -- ---- tables

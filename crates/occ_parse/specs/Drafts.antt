@@ -1,7 +1,7 @@
 -- What is wrong with lines that are well laid out, and the program that they stand for.
 use Rattle.std.specs.Prelude.{ℕ, Bool, true, false, nat_lt, if◌then◌else◌, List, [], Option, Some, None, length}
 use Rattle.std.specs.List.{flat_map}
-use Rattle.occ_usage.specs.occ_base.declared.names.Name.{Name}
+use Rattle.occ_syntax.specs.occ_base.declared.names.Name.{Name}
 use Rattle.occ_syntax.specs.Counts.{controls}
 use Rattle.occ_parse_rules.specs.occ_parse_forms.declared.form.Param.{Param}
 use Rattle.occ_parse_rules.specs.occ_parse_forms.Shape.{Shape, header}

@@ -3,8 +3,6 @@ pub mod Drafts
 pub mod Reading
 pub mod Laying
 pub mod Known
-pub use Rattle.occ_usage.specs.occ_base as occ_base
-pub use Rattle.occ_parse_layout.specs.occ_lex as occ_lex
 pub use Rattle.occ_usage.specs.occ_names as occ_names
 pub use Rattle.occ_parse_layout.specs as occ_parse_layout
 pub use Rattle.occ_parse_rules.specs as occ_parse_rules

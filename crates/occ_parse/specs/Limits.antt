@@ -1,11 +1,11 @@
 -- The limits on a text and on its lines.
 use Rattle.std.specs.Prelude.{ℕ, ◌+◌, Bool, true, false, nat_lt, ◌&&◌, if◌then◌else◌, List, [], ◌∷◌, length, Option, Some, None}
-use Rattle.occ_parse_layout.specs.occ_lex.declared.fault.LineFault.{LineFault}
-use Rattle.occ_parse_layout.specs.occ_lex.declared.symbol.Row.{Row}
-use Rattle.occ_parse_layout.specs.occ_lex.declared.symbol.Sign.{Sign}
-use Rattle.occ_parse_layout.specs.occ_lex.declared.symbol.Sign.TheVariants as sign
-use Rattle.occ_parse_layout.specs.occ_lex.declared.symbol.Symbol.{Symbol}
-use Rattle.occ_parse_layout.specs.occ_lex.declared.symbol.Symbol.TheVariants as symbol
+use Rattle.occ_parse_rules.specs.occ_lex.declared.fault.LineFault.{LineFault}
+use Rattle.occ_parse_rules.specs.occ_lex.declared.symbol.Row.{Row}
+use Rattle.occ_parse_rules.specs.occ_lex.declared.symbol.Sign.{Sign}
+use Rattle.occ_parse_rules.specs.occ_lex.declared.symbol.Sign.TheVariants as sign
+use Rattle.occ_parse_rules.specs.occ_lex.declared.symbol.Symbol.{Symbol}
+use Rattle.occ_parse_rules.specs.occ_lex.declared.symbol.Symbol.TheVariants as symbol
 use Rattle.occ_parse_layout.specs.declared.placed.Frame.{Frame}
 use Rattle.occ_parse_layout.specs.declared.placed.Frame.TheVariants as frame
 use Rattle.occ_parse.specs.declared.bound.Bound.{Bound}

@@ -1,11 +1,11 @@
 -- What a text reads as: its first fault, or a program.
 use Rattle.std.specs.Prelude.{ℕ, ◌≡◌, true, false, List, [], ◌∷◌, Option, Some, None, is_some}
-use Rattle.occ_usage.specs.occ_base.declared.names.Name.{Name}
+use Rattle.occ_syntax.specs.occ_base.declared.names.Name.{Name}
 use Rattle.occ_syntax.specs.declared.scope.Kind.{Kind}
 use Rattle.occ_syntax.specs.Tree.{Tree}
-use Rattle.occ_parse_layout.specs.occ_lex.Rows.{reading_of}
-use Rattle.occ_parse_layout.specs.occ_lex.declared.symbol.Row.{Row}
-use Rattle.occ_parse_layout.specs.occ_lex.Symbols.{rows_of, with_names_of_all}
+use Rattle.occ_parse_rules.specs.occ_lex.Rows.{reading_of}
+use Rattle.occ_parse_rules.specs.occ_lex.declared.symbol.Row.{Row}
+use Rattle.occ_parse_rules.specs.occ_lex.Symbols.{rows_of, with_names_of_all}
 use Rattle.occ_parse_rules.specs.occ_parse_forms.Lines.{IsForm}
 use Rattle.occ_parse_rules.specs.Forest.{Forest, Laid, lines_at}
 use Rattle.occ_parse_rules.specs.Unrolled.{params_named, slot_process, lined}

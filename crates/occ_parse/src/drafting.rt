@@ -14,7 +14,7 @@ use crate::{Bound, ParseFault, Which};
 use occ_parse_rules::{NameFault, Node, Param, ParseFormsDeclared as Declared, TypeFault};
 use occ_parse_types::{direction_fault, name_fault, type_fault};
 use occ_parse_unroll::{bits_fault, controls, count_fault};
-use occ_usage::Memory;
+use occ_syntax::Memory;
 use std::alloc::Global;
 
 const MOST_PARAMETERS: u64 = 16;

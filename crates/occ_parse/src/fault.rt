@@ -1,8 +1,8 @@
 ghost use Rattle.std.specs.Prelude.{◌≡◌};
 ghost use Rattle.occ_parse.specs.declared.fault.ParseFault.TheVariants as fault;
 
-use occ_parse_layout::LineFault;
-use occ_usage::Memory;
+use occ_parse_rules::LineFault;
+use occ_syntax::Memory;
 use thiserror::Error;
 
 /// A limit on texts.

@@ -3,7 +3,7 @@ ghost use Rattle.occ_parse_rules.specs.Forest.{forest};
 ghost use Rattle.occ_parse.specs.Drafts.{begins_with_header, header_below, header_line, header_name, header_params};
 
 use occ_parse_rules::{Form, Node, Param};
-use occ_usage::Name;
+use occ_syntax::Name;
 
 /// The header of a program: its line, the program's name and parameters, and the lines below it.
 #[derive(Clone, Copy, Debug)]

@@ -1,5 +1,5 @@
 ghost use Rattle.std.specs.Prelude.{◌≡◌, ℕ, List};
-ghost use Rattle.occ_usage.specs.occ_base.declared.names.Name.{Name};
+ghost use Rattle.occ_syntax.specs.occ_base.declared.names.Name.{Name};
 ghost use Rattle.occ_syntax.specs.declared.scope.Kind.{Kind};
 ghost use Rattle.occ_syntax.specs.Tree.{Tree};
 ghost use Rattle.occ_parse.specs.declared.bound.Bound.{Bound};

@@ -1,7 +1,7 @@
 //! The lines of a text as a forest.
 
 ghost use Rattle.std.specs.Prelude.{◌≡◌, ◌⊎◌, ◌<◌, length, false, IfOk, IfErr, OnOk};
-ghost use Rattle.occ_parse_layout.specs.occ_lex.Symbols.{Extends};
+ghost use Rattle.occ_parse_rules.specs.occ_lex.Symbols.{Extends};
 ghost use Rattle.occ_parse_rules.specs.Forest.{forest, in_nodes};
 ghost use Rattle.occ_parse.specs.Limits.{is_too_long};
 ghost use Rattle.occ_parse.specs.Reading.{AreJudged, IsLaidOut, IsRefused, names_in};
@@ -11,9 +11,9 @@ ghost use Rattle.occ_parse_layout.specs.Layout.{laid_rows};
 use crate::limits::frame_of;
 use crate::stopping::{Judged, judge_rows};
 use crate::{Bound, ParseFault};
-use occ_parse_layout::{grown, least_bad, rows};
-use occ_parse_rules::Nodes;
-use occ_usage::Names;
+use occ_parse_layout::{grown, least_bad};
+use occ_parse_rules::{Nodes, rows};
+use occ_syntax::Names;
 use std::alloc::Global;
 
 /// The forest of lines that are well laid out, where no faulty line stands behind them.
@@ -45,7 +45,7 @@ pub fn laid_out(
     ensures table { OnOk result (names.new ≡ names_in text.now names.old) }
     ensures extends { Extends names.old names.new }
 {
-    let reading = occ_parse_layout::read(alloc, text)?;
+    let reading = occ_parse_rules::read(alloc, text)?;
     let rows = rows(alloc, names, text, &reading.lines)?;
     let judged = judge_rows(alloc, bound, &rows, reading.fault)?;
     forest_of(alloc, bound, judged)

@@ -16,11 +16,9 @@ mod stopping;
 pub use bound::Bound;
 pub use fault::{ParseFault, Which};
 pub use laws::one_reading;
-pub use occ_parse_layout::{
-    Frame, LexFault, Line, Placed as ParseLayoutPlaced, grown, least_bad, lines, rows as lex_rows,
-};
+pub use occ_parse_layout::{Frame, Placed as ParseLayoutPlaced, grown, least_bad};
 pub use occ_parse_types::{Scopes, direction_fault_in, name_fault_in, type_fault_in};
 pub use occ_parse_unroll::{Context, Numbering, element, slot};
-pub use occ_usage::{Memory, Name, NameSet, Names};
+pub use occ_usage::NameSet;
 pub use reading::{LineNumbers, Text, parse};
 pub use stopping::{Judged, judge_rows};

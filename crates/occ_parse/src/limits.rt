@@ -4,7 +4,8 @@ ghost use Rattle.std.specs.Prelude.{◌≡◌, ◌≤◌};
 ghost use Rattle.occ_parse.specs.Limits.{counted, counts_nothing, frame_of as frame_in, is_limited as is_limited_by, is_too_long as is_longer, line_limit as limit_of, opens as opens_index, weight as weight_of};
 
 use crate::{Bound, Which};
-use occ_parse_layout::{Frame, Row, Sign, Symbol};
+use occ_parse_layout::Frame;
+use occ_parse_rules::{Row, Sign, Symbol};
 
 const MOST_BYTES: usize = 65_536;
 

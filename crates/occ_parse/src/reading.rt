@@ -1,6 +1,6 @@
 ghost use Rattle.std.specs.Prelude.{◌≡◌, ◌⊎◌, ◌<◌, length, true, IfOk, IfErr};
 ghost use Rattle.occ_syntax.specs.View.{tree};
-ghost use Rattle.occ_parse_layout.specs.occ_lex.Symbols.{Extends};
+ghost use Rattle.occ_parse_rules.specs.occ_lex.Symbols.{Extends};
 ghost use Rattle.occ_usage.specs.Accepted.{IsTyped};
 ghost use Rattle.occ_parse.specs.Limits.{is_limited};
 ghost use Rattle.occ_parse.specs.Reading.{IsRead, IsRefused};
@@ -12,8 +12,7 @@ use crate::laying::laid_out;
 use crate::limits::is_too_long;
 use crate::{Bound, ParseFault, Which};
 use occ_parse_unroll::unroll;
-use occ_syntax::Program;
-use occ_usage::{List, Names};
+use occ_syntax::{List, Names, Program};
 use std::alloc::Global;
 
 /// The numbers of lines.

@@ -7,9 +7,9 @@ ghost use Rattle.occ_parse.specs.Reading.{AreForms, IsSaid};
 
 use crate::limits::line_limit;
 use crate::{Bound, ParseFault};
-use occ_parse_layout::{LineFault, Placed, Row};
-use occ_parse_rules::read_form;
-use occ_usage::Memory;
+use occ_parse_layout::Placed;
+use occ_parse_rules::{LineFault, Row, read_form};
+use occ_syntax::Memory;
 use std::alloc::Global;
 
 /// The lines that are judged, and the fault of the line behind them, where there is one.

@@ -12,5 +12,4 @@ mod SoundExpressions
 mod SoundItems
 mod Splitting
 mod Statements
-pub use Rattle.occ_lex.proofs.from_base as from_base
 pub use Rattle.occ_lex.proofs as from_lex

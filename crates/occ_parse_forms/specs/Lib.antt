@@ -4,5 +4,4 @@ pub mod Reading
 pub mod Shape
 pub mod Symbols
 pub mod Written
-pub use Rattle.occ_lex.specs.occ_base as occ_base
 pub use Rattle.occ_lex.specs as occ_lex

@@ -15,8 +15,7 @@ mod reading;
 pub use form::{Count, Declaration, Declared, Form, Group, Item, Items, Param, Times, Wants};
 pub use laws::one_form;
 pub use occ_lex::{
-    Dir, Keyword, LexFault, Line, LineFault, Memory, Name, Names, Row, Sign, Symbol, Symbols,
-    Width, lines as lex_lines, read, rows,
+    Keyword, LexFault, Line, LineFault, Row, Sign, Symbol, Symbols, lines as lex_lines, read, rows,
 };
 pub use phrase::{Index, Phrase, Phrases};
 pub use reading::read_form;

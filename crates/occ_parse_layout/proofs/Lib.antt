@@ -5,4 +5,3 @@ pub mod Once
 pub mod Levels
 pub mod Framed
 pub mod Options
-pub use Rattle.occ_parse_rules.proofs.from_lex as from_lex

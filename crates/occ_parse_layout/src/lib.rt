@@ -15,8 +15,5 @@ pub use laws::{
     good_lines_nest, good_options_declare_nothing, good_parts_have_no_header,
     good_plain_lines_have_no_replicator, good_programs_have_one_header, one_forest,
 };
-pub use occ_parse_rules::{
-    LexFault, Line, LineFault, Row, Sign, Symbol, lex_lines as lines, read, rows,
-};
 pub use placed::{Frame, Placed};
 pub use reading::least_bad;

@@ -2,7 +2,7 @@
 use Rattle.std.proofs.Common.{◌≡◌, ℕ, zero, suc, ◌+◌, ◌-◌, ◌<◌, ◌≤◌, List, [], ◌∷◌, ◌++◌, length, get_or, drop, Some, refl, sym, ap, ◌∙◌, arith, append_assoc}
 use Rattle.std.specs.List.{AllByRecursion}
 use Rattle.std.proofs.lemmas.List.{drop_more, drop_all, append-nil}
-use Rattle.occ_parse.specs.occ_base.declared.names.Name.{Name}
+use Rattle.occ_syntax.specs.occ_base.declared.names.Name.{Name}
 use Rattle.occ_parse_rules.specs.Places.{elements_from}
 use Rattle.occ_parse.specs.occ_parse_unroll.Elements.{with_places}
 use Rattle.occ_parse.specs.occ_parse_unroll.Numbers.{number_in}

@@ -3,13 +3,13 @@ use Rattle.std.proofs.Common.{◌≡◌, ℕ, zero, suc, ◌+◌, ◌<◌, ◌�
 use Rattle.std.specs.List.{AllByRecursion, list_all, list_any, flat_map}
 use Rattle.std.proofs.lemmas.Bool.{and_from, eqb-true, ltb-true, cases_lt}
 use Rattle.std.proofs.lemmas.Grind.{flat_map-append}
-use Rattle.occ_parse.specs.occ_base.declared.names.Name.{Name}
-use Rattle.occ_parse.specs.occ_base.Names.{IsDistinct}
+use Rattle.occ_syntax.specs.occ_base.declared.names.Name.{Name}
+use Rattle.occ_syntax.specs.occ_base.Names.{IsDistinct}
 use Rattle.occ_syntax.specs.View.{numbers as numbers_of}
-use Rattle.occ_parse.specs.occ_lex.declared.token.Line.{Line}
-use Rattle.occ_parse.specs.occ_lex.Placed.{IsLineOf as IsTextLine}
-use Rattle.occ_parse.specs.occ_lex.Symbols.{Extends, with_names_of_all}
-use Rattle.occ_parse.proofs.from_lex.Interned.{extends_eq, extends_same}
+use Rattle.occ_parse_forms.specs.occ_lex.declared.token.Line.{Line}
+use Rattle.occ_parse_forms.specs.occ_lex.Placed.{IsLineOf as IsTextLine}
+use Rattle.occ_parse_forms.specs.occ_lex.Symbols.{Extends, with_names_of_all}
+use Rattle.occ_parse_forms.proofs.from_lex.Interned.{extends_eq, extends_same}
 use Rattle.occ_parse.specs.occ_names.Once.{has, same_number, with_one, with_all}
 use Rattle.occ_parse_forms.specs.declared.form.Declared.{Declared}
 use Rattle.occ_parse_forms.specs.declared.form.Declared.TheVariants as declared

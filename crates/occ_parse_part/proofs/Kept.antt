@@ -3,7 +3,7 @@ use Rattle.std.proofs.Common.{◌≡◌, ℕ, ◌+◌, ◌<◌, ◌≤◌, ◌==
 use mathlib.Core.Path.{fun_ext}
 use Rattle.std.proofs.lemmas.List.{drop_more, drop_all}
 use Rattle.std.specs.Map.{lookup}
-use Rattle.occ_parse.specs.occ_base.declared.names.Name.{Name}
+use Rattle.occ_syntax.specs.occ_base.declared.names.Name.{Name}
 use Rattle.occ_parse_forms.specs.declared.form.Declared.{Declared}
 use Rattle.occ_parse_forms.specs.declared.form.Declared.TheVariants as declared
 use Rattle.occ_parse_part.specs.Elements.{named_row, names_found, number_found, row_number, with_row, kept_in}

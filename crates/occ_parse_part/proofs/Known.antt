@@ -2,11 +2,11 @@
 use Rattle.std.proofs.Common.{◌≡◌, ℕ, ◌<◌, Bool, true, false, cond, nat_lt, List, [], ◌∷◌, ◌++◌, length, Option, Some, None, refl, ap, ◌∙◌}
 use Rattle.std.specs.List.{AllByRecursion, list_all, flat_map}
 use Rattle.std.proofs.lemmas.Bool.{and_parts, and_from, ltb-true}
-use Rattle.occ_parse.specs.occ_base.declared.names.Name.{Name}
+use Rattle.occ_syntax.specs.occ_base.declared.names.Name.{Name}
 use Rattle.occ_syntax.specs.View.{numbers}
-use Rattle.occ_parse.specs.occ_lex.declared.token.Line.{Line}
-use Rattle.occ_parse.specs.occ_lex.Placed.{IsLineOf as IsTextLine}
-use Rattle.occ_parse.specs.occ_lex.Symbols.{Extends, rows_of, with_names_of_all}
+use Rattle.occ_parse_forms.specs.occ_lex.declared.token.Line.{Line}
+use Rattle.occ_parse_forms.specs.occ_lex.Placed.{IsLineOf as IsTextLine}
+use Rattle.occ_parse_forms.specs.occ_lex.Symbols.{Extends, rows_of, with_names_of_all}
 use Rattle.occ_parse.specs.occ_names.Once.{has, same_number, with_one, with_all}
 use Rattle.occ_parse_forms.specs.declared.form.Declared.{Declared}
 use Rattle.occ_parse_forms.specs.declared.form.Declared.TheVariants as declared

@@ -1,11 +1,11 @@
 -- Lines as a part.
 use Rattle.std.proofs.Common.{◌≡◌, ℕ, Bool, true, false, List, [], ◌∷◌, map, Option, Some, None, refl, sym, ap, subst, ◌∙◌}
 use Rattle.std.specs.Prelude.{is_some}
-use Rattle.occ_parse.specs.occ_base.declared.names.Name.{Name}
+use Rattle.occ_syntax.specs.occ_base.declared.names.Name.{Name}
 use Rattle.occ_syntax.specs.View.{numbers}
-use Rattle.occ_parse.specs.occ_lex.declared.token.Line.{Line}
-use Rattle.occ_parse.specs.occ_lex.declared.symbol.Row.{Row}
-use Rattle.occ_parse.specs.occ_lex.Symbols.{rows_of}
+use Rattle.occ_parse_forms.specs.occ_lex.declared.token.Line.{Line}
+use Rattle.occ_parse_forms.specs.occ_lex.declared.symbol.Row.{Row}
+use Rattle.occ_parse_forms.specs.occ_lex.Symbols.{rows_of}
 use Rattle.occ_parse_rules.specs.Forest.{Forest, Laid, lines_at}
 use Rattle.occ_parse.specs.occ_parse_layout.declared.placed.Frame.TheVariants as frame
 use Rattle.occ_parse.specs.occ_parse_layout.Layout.{least_bad}

@@ -1,8 +1,8 @@
 -- Lines have one reading as a part, since a line has one form and lines are those of one forest.
 use Rattle.std.proofs.Common.{◌≡◌, ℕ, false, List, Option, Some, None, sym, ap, ◌∙◌}
 use Rattle.std.specs.Prelude.{is_some}
-use Rattle.occ_parse.specs.occ_lex.declared.token.Line.{Line}
-use Rattle.occ_parse.specs.occ_lex.Symbols.{rows_of}
+use Rattle.occ_parse_forms.specs.occ_lex.declared.token.Line.{Line}
+use Rattle.occ_parse_forms.specs.occ_lex.Symbols.{rows_of}
 use Rattle.occ_parse_rules.specs.Forest.{Forest, Laid}
 use Rattle.occ_parse.specs.occ_parse_layout.declared.placed.Frame.TheVariants as frame
 use Rattle.occ_parse.specs.occ_parse_layout.Layout.{least_bad}

@@ -4,8 +4,8 @@ use Rattle.occ_parse_forms.specs.declared.form.Declared.{Declared}
 use Rattle.occ_parse_forms.specs.declared.form.Declared.TheVariants as declared
 use Rattle.occ_parse_rules.specs.Agreement.{Known, AreKnown}
 use Rattle.occ_parse_rules.specs.Sound.{are_sound, are_placed}
-use Rattle.occ_parse.specs.occ_lex.declared.token.Line.{Line}
-use Rattle.occ_parse.specs.occ_lex.Symbols.{rows_of}
+use Rattle.occ_parse_forms.specs.occ_lex.declared.token.Line.{Line}
+use Rattle.occ_parse_forms.specs.occ_lex.Symbols.{rows_of}
 use Rattle.occ_parse_rules.specs.Forest.{Forest, Laid, lines_at}
 use Rattle.occ_parse.specs.occ_parse_layout.declared.placed.Frame.TheVariants as frame
 use Rattle.occ_parse.specs.occ_parse_layout.Layout.{least_bad}

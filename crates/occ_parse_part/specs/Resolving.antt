@@ -1,6 +1,6 @@
 -- A part in a scope: its faults, and the scope of its lines.
 use Rattle.std.specs.Prelude.{List, map, Option}
-use Rattle.occ_parse.specs.occ_base.declared.names.Name.{Name}
+use Rattle.occ_syntax.specs.occ_base.declared.names.Name.{Name}
 use Rattle.occ_syntax.specs.declared.scope.Kind.{Kind}
 use Rattle.occ_syntax.specs.Tree.{Tree}
 use Rattle.occ_parse_forms.specs.declared.form.Param.{Param}

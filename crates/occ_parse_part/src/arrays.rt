@@ -10,8 +10,9 @@ ghost use Rattle.occ_parse_rules.specs.Names.{items_in, items_in_all, items_of_w
 ghost use Rattle.occ_parse.specs.occ_parse_layout.Layout.{laid_rows};
 ghost use Rattle.occ_parse_part.specs.Arrays.{arrays_of, declared_array, item_array, line_arrays};
 
-use occ_parse::{Memory, NameSet, ParseLayoutPlaced as Placed};
+use occ_parse::{NameSet, ParseLayoutPlaced as Placed};
 use occ_parse_forms::{Declared, Form, Item, Param, Phrase, Wants};
+use occ_syntax::Memory;
 use std::alloc::Global;
 
 fn add_item(arrays: &mut NameSet, item: Item) -> Result<(), Memory>

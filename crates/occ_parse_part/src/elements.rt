@@ -5,8 +5,8 @@ ghost use Rattle.occ_parse_part.specs.Elements.{named_row, names_found, no_eleme
 ghost use Rattle.occ_parse_part.specs.Seen.{seen};
 
 use indexmap::IndexMap;
-use occ_parse::{Memory, Name};
 use occ_parse_forms::Declared;
+use occ_syntax::{Memory, Name};
 use std::alloc::Global;
 
 /// The names of the elements of arrays, to be looked up by array and place, and by name.

@@ -6,8 +6,9 @@ ghost use Rattle.occ_parse.specs.occ_parse_types.Asking.{plain_counters};
 ghost use Rattle.occ_parse.specs.Drafts.{name_fault_on, type_fault_on};
 ghost use Rattle.occ_parse_part.specs.Resolving.{fault_in};
 
-use occ_parse::{Memory, ParseFault, Scopes, direction_fault_in, name_fault_in, type_fault_in};
+use occ_parse::{ParseFault, Scopes, direction_fault_in, name_fault_in, type_fault_in};
 use occ_parse_rules::{NameFault, Node, TypeFault};
+use occ_syntax::Memory;
 use std::alloc::Global;
 
 fn of_names(line: u32, fault: NameFault) -> ParseFault

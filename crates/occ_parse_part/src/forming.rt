@@ -1,7 +1,7 @@
 ghost use Rattle.std.specs.Prelude.{◌≡◌, ◌⊎◌, ℕ, List, IfOk, IfErr};
 ghost use Rattle.std.specs.List.{AllByRecursion};
-ghost use Rattle.occ_parse.specs.occ_lex.Placed.{IsLineOf};
-ghost use Rattle.occ_parse.specs.occ_lex.Symbols.{Extends, with_names_of_all};
+ghost use Rattle.occ_parse_forms.specs.occ_lex.Placed.{IsLineOf};
+ghost use Rattle.occ_parse_forms.specs.occ_lex.Symbols.{Extends, with_names_of_all};
 ghost use Rattle.occ_parse_rules.specs.Forest.{forest, in_nodes, lines_at};
 ghost use Rattle.occ_parse.specs.occ_parse_layout.Layout.{laid_rows};
 ghost use Rattle.occ_parse_part.specs.Arrays.{array_names, arrays_of};
@@ -12,11 +12,10 @@ ghost use Rattle.occ_parse_part.specs.Parts.{IsIllLaid, IsNoPart, IsPart, IsWell
 use crate::arrays::arrays;
 use crate::raw::Raw;
 use crate::rows::elements;
-use occ_parse::{
-    Bound, Frame, Judged, Line, NameSet, Names, ParseFault, grown, judge_rows, least_bad,
-    lex_rows as rows,
-};
+use occ_parse::{Bound, Frame, Judged, NameSet, ParseFault, grown, judge_rows, least_bad};
+use occ_parse_forms::{Line, rows};
 use occ_parse_rules::Nodes;
+use occ_syntax::Names;
 use std::alloc::Global;
 
 /// Lines that are well laid out as a part, and the arrays that they name.

@@ -1,5 +1,5 @@
 ghost use Rattle.std.specs.Prelude.{◌≡◌, ℕ, List};
-ghost use Rattle.occ_parse.specs.occ_lex.declared.token.Line.{Line};
+ghost use Rattle.occ_parse_forms.specs.occ_lex.declared.token.Line.{Line};
 ghost use Rattle.occ_parse_rules.specs.Forest.{Forest};
 ghost use Rattle.occ_parse_part.specs.Parts.{IsNoPart, IsPart};
 ghost use Rattle.occ_parse.specs.declared.fault.ParseFault.{ParseFault};

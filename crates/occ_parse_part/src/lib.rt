@@ -15,9 +15,9 @@ mod rows;
 pub use forming::form;
 pub use laws::one_reading_of_a_part;
 pub use occ_parse::{
-    Bound, Frame, Judged, LexFault, ParseFault, ParseLayoutPlaced as Placed, Text, Which,
-    judge_rows, least_bad, lines, parse,
+    Bound, Frame, Judged, ParseFault, ParseLayoutPlaced as Placed, Text, Which, judge_rows,
+    least_bad, parse,
 };
-pub use occ_parse_forms::one_form;
+pub use occ_parse_forms::{LexFault, lex_lines as lines, one_form};
 pub use raw::Raw;
 pub use resolving::resolve;

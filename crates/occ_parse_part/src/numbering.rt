@@ -3,7 +3,8 @@
 ghost use Rattle.occ_parse_part.specs.Seen.{seen};
 
 use crate::elements::Elements;
-use occ_parse::{Memory, Name, Names, Numbering};
+use occ_parse::Numbering;
+use occ_syntax::{Memory, Name, Names};
 use std::alloc::Global;
 
 /// Elements that have names: nothing is brought into a table.

@@ -10,9 +10,9 @@ use crate::elements::Elements;
 use crate::faults::fault_in;
 use crate::numbering::Known;
 use crate::raw::Raw;
-use occ_parse::{Context, Memory, Name, Names, ParseFault, slot};
+use occ_parse::{Context, ParseFault, slot};
 use occ_parse_forms::Param;
-use occ_syntax::{Kind, Proc, Scope};
+use occ_syntax::{Kind, Memory, Name, Names, Proc, Scope};
 use std::alloc::Global;
 
 /// What is in scope, as declarations.

@@ -2,15 +2,16 @@
 
 ghost use Rattle.std.specs.Prelude.{◌≡◌, ◌<◌, ℕ, List, length, IfOk, OnOk};
 ghost use Rattle.std.specs.List.{AllByRecursion};
-ghost use Rattle.occ_parse.specs.occ_base.Names.{IsDistinct};
+ghost use Rattle.occ_syntax.specs.occ_base.Names.{IsDistinct};
 ghost use Rattle.occ_parse_rules.specs.Places.{elements_from};
-ghost use Rattle.occ_parse.specs.occ_lex.Symbols.{Extends};
+ghost use Rattle.occ_parse_forms.specs.occ_lex.Symbols.{Extends};
 ghost use Rattle.occ_parse.specs.occ_parse_unroll.Elements.{with_places};
 ghost use Rattle.occ_parse_part.specs.Elements.{elements_in, row_in, with_arrays};
 ghost use Rattle.occ_parse_part.specs.Seen.{seen};
 
 use crate::elements::Elements;
-use occ_parse::{Memory, Name, Names, element};
+use occ_parse::element;
+use occ_syntax::{Memory, Name, Names};
 use std::alloc::Global;
 
 /// How many elements of an array have names.

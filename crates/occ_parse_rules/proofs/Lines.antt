@@ -6,7 +6,7 @@ use Rattle.occ_meaning.specs.occ_base.declared.event.Dir.{Dir}
 use Rattle.occ_meaning.specs.occ_base.declared.event.Dir.TheVariants as dir
 use Rattle.occ_meaning.specs.occ_base.declared.width.Width.{Width}
 use Rattle.occ_meaning.specs.occ_base.declared.width.Width.TheVariants.{Bool as TruthValue, Word}
-use Rattle.occ_meaning.proofs.Facts.{none_not_some, true_not_false, false_not_true, some_is, at_itself, same_widths}
+use Rattle.occ_meaning.proofs.Facts.{none_not_some, true_not_false, false_not_true, some_is, at_itself}
 use Rattle.occ_meaning.specs.occ_syntax.Scopes.{Environment, variable_width, variable_kind, channel_width, channel_kind, allows, same_dir}
 use Rattle.occ_meaning.specs.occ_syntax.Types.{same_width, is_width, agree, type_of, is_condition, input_kept, output_kept, waiting_kept, pairs_kept}
 use Rattle.occ_parse_forms.specs.declared.form.Item.{Item}
@@ -22,6 +22,7 @@ use Rattle.occ_parse_rules.specs.Sound.{has_widths, waiting_has_widths, is_same_
 use Rattle.occ_parse_rules.specs.Agreement.{Known, IsOneToOne, Agrees, IsTaken, kind_of}
 use Rattle.occ_parse_rules.proofs.Taken.{none_taken}
 use Rattle.occ_parse_rules.proofs.Typed.{is_here, number_here, kind_here, expression_typed}
+use Rattle.occ_meaning.proofs.from_syntax.Widths.{same_widths}
 
 -- ---- variables and channels
 

@@ -4,7 +4,7 @@ use Rattle.std.proofs.lemmas.Bool.{or_parts, and_parts, and_from, not-false, ltb
 use Rattle.occ_meaning.specs.occ_base.declared.width.Width.{Width}
 use Rattle.occ_meaning.specs.occ_base.declared.width.Width.TheVariants.{Bool as TruthValue, Word}
 use Rattle.occ_meaning.specs.occ_base.Width.{bits_of}
-use Rattle.occ_meaning.proofs.Facts.{none_not_some, true_not_false, false_not_true, some_is, if_true, same_widths, at_itself}
+use Rattle.occ_meaning.proofs.Facts.{none_not_some, true_not_false, false_not_true, some_is, if_true}
 use Rattle.occ_meaning.specs.occ_syntax.declared.expr.Op.{Op}
 use Rattle.occ_meaning.specs.occ_syntax.declared.expr.Op.TheVariants as op
 use Rattle.occ_meaning.specs.occ_syntax.Scopes.{Environment, variable_kind}
@@ -23,6 +23,7 @@ use Rattle.occ_parse_rules.specs.Unrolled.{Numbers, number_of, item_number, item
 use Rattle.occ_parse_rules.specs.Sound.{has_widths}
 use Rattle.occ_parse_rules.specs.Agreement.{Known, Agrees, IsTaken, kind_of}
 use Rattle.occ_parse_rules.proofs.Taken.{index_most}
+use Rattle.occ_meaning.proofs.from_syntax.Widths.{same_as_itself, same_widths}
 
 -- where an item stands for something, it names a place in scope
 pub record IsHere (Γ : Sorts) (ρ : Indices) (i : Item) (s : Sort) : Type 0 where
@@ -122,14 +123,10 @@ item_typed D N Γ E ρ i w (Some (sort.Counter b n)) a t h e c =
     numeral_typed E w (min (ρ i.name.0) 255) h (fits_less w (min (ρ i.name.0) 255) (greatest b n) (least_most (ρ i.name.0) 255 (greatest b n) (subst (λ x. ρ x ≤ greatest b n) p.name most)) (not-false (fits w (greatest b n)) c))
 item_typed D N Γ E ρ i w None a t h e c = true_not_false c
 
-same_itself : (v : Width) → same_width v v ≡ true
-same_itself TruthValue = refl
-same_itself (Word bits) = at_itself bits
-
 two_typed : (E : Environment) (op : Op) (left right : Exp) (v w : Width) → type_of E left ≡ Some v → type_of E right ≡ Some v → type_given op v ≡ Some w
     → type_of E (tree.operation op left right) ≡ Some w
 two_typed E op left right v w l r g =
-    ap (λ o. type_of_two op o (type_of E right)) l ∙ (ap (type_of_two op (Some v)) r ∙ (if_true (same_width v v) (type_given op v) None (same_itself v) ∙ g))
+    ap (λ o. type_of_two op o (type_of E right)) l ∙ (ap (type_of_two op (Some v)) r ∙ (if_true (same_width v v) (type_given op v) None (same_as_itself v) ∙ g))
 
 -- what an operator gives to operands of the width that it asks them for
 given_words : (w v : Width) → is_truth_value w ≡ false → Some w ≡ Some v → of_words' v (Some v) ≡ Some w

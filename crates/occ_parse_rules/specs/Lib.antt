@@ -13,4 +13,5 @@ pub mod Programs
 pub mod Passing
 pub use Rattle.occ_meaning.specs.occ_base as occ_base
 pub use Rattle.occ_parse_forms.specs.occ_lex as occ_lex
+pub use Rattle.occ_meaning.specs as occ_meaning
 pub use Rattle.occ_parse_forms.specs as occ_parse_forms

@@ -1,7 +1,7 @@
 -- The elements that an item reaches as its index takes its values, by arithmetic alone.
 use Rattle.std.specs.Prelude.{ℕ, ◌+◌, ◌-◌, ◌==◌, Bool, false, ◌&&◌, ◌||◌, nat_lt, nat_le, if◌then◌else◌, List, [], ◌∷◌, Option, Some, None, is_none}
 use Rattle.std.specs.List.{list_any}
-use Rattle.occ_parse_rules.specs.occ_base.declared.names.Name.{Name}
+use Rattle.occ_syntax.specs.occ_base.declared.names.Name.{Name}
 use Rattle.occ_parse_forms.specs.declared.form.Item.{Item}
 use Rattle.occ_parse_forms.specs.declared.phrase.Index.{Index}
 use Rattle.occ_parse_forms.specs.declared.phrase.Index.TheVariants as index

@@ -10,6 +10,5 @@ mod uses;
 
 pub use law::some_values_are_values_that_the_indices_take;
 pub use names::{name_fault, name_fault_in};
-pub use occ_parse_rules::{Dir, List, Memory, Name, Names, Width};
 pub use passing::{counter_of, entry_of, sort_of};
 pub use scopes::Scopes;

@@ -11,8 +11,8 @@ use crate::reach::some_meet;
 use crate::uses::Check;
 use crate::{Scopes, entry_of};
 use occ_parse_forms::{Declared, Form, Param};
-use occ_parse_rules::{Memory, NameFault, Node};
-use occ_syntax::Kind;
+use occ_parse_rules::{NameFault, Node};
+use occ_syntax::{Kind, Memory};
 use std::alloc::Global;
 
 /// Whether a place that a declaration declares is in scope already.

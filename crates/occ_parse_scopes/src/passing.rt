@@ -5,8 +5,8 @@ ghost use Rattle.occ_parse_rules.specs.Judging.{inside, behind};
 
 use crate::Scopes;
 use occ_parse_forms::{Declared, Form, Param, Times};
-use occ_parse_rules::{Entry, Memory, Sort};
-use occ_syntax::Kind;
+use occ_parse_rules::{Entry, Sort};
+use occ_syntax::{Kind, Memory};
 
 /// What a name of that kind stands for. It takes no memory.
 pub fn sort_of(kind: Kind) -> Sort

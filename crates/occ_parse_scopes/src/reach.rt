@@ -6,7 +6,8 @@ ghost use Rattle.occ_parse_scopes.specs.Chain.{IsTableOf};
 
 use crate::Scopes;
 use occ_parse_forms::{Index, Item};
-use occ_parse_rules::{Memory, Name, Sort};
+use occ_parse_rules::Sort;
+use occ_syntax::{Memory, Name};
 use std::alloc::Global;
 
 /// The elements of an array that an item reaches: its index takes so many values from the base on, and the element is at

@@ -3,7 +3,8 @@ ghost use Rattle.occ_parse_rules.specs.Places.{declares, declares_some, has_elem
 ghost use Rattle.occ_parse_scopes.specs.Chain.{IsTableOf, declares_below, declares_element, has_elements_below, name_of};
 
 use occ_parse_forms::Declared;
-use occ_parse_rules::{Entry, Memory, Name, Sort};
+use occ_parse_rules::{Entry, Sort};
+use occ_syntax::{Memory, Name};
 use std::alloc::Global;
 use std::marker::Model;
 

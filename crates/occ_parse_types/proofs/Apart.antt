@@ -1,9 +1,8 @@
 -- Two items with different names in their indices: they agree for all values only where each has one width.
 use Rattle.std.proofs.Common.{◌≡◌, ℕ, zero, suc, ◌≤◌, Bool, true, false, not, ◌||◌, List, Option, Some, None, is_some, refl, sym, ap, ◌∙◌, subst, inl, inr, arith}
 use Rattle.std.specs.List.{list_any}
-use Rattle.std.proofs.lemmas.Bool.{both_ways, cases_Bool, eqb-true, eq-eqb, false_from_ne_true, not-false, or_left}
-use Rattle.occ_parse_scopes.specs.occ_base.declared.width.Width.{Width}
-use Rattle.occ_parse_scopes.specs.occ_base.declared.width.Width.TheVariants.{Bool as TruthValue, Word}
+use Rattle.std.proofs.lemmas.Bool.{both_ways, cases_Bool, false_from_ne_true, not-false, or_left}
+use Rattle.occ_syntax.specs.occ_base.declared.width.Width.{Width}
 use Rattle.occ_syntax.specs.Types.{same_width}
 use Rattle.occ_parse_forms.specs.declared.form.Item.{Item}
 use Rattle.occ_parse_rules.specs.declared.sort.Sort.{Sort}
@@ -16,22 +15,13 @@ use Rattle.occ_parse_types.specs.Asking.{items_clash, other_width, plain_counter
 use Rattle.occ_parse_types.specs.Turns.{name_in, same_name, sort_turn, turns}
 use Rattle.occ_parse_types.proofs.Turning.{any_same, some_apart, some_item}
 use Rattle.occ_parse_types.proofs.Widths.{element_no_counter}
+use Rattle.occ_syntax.proofs.Widths.{same_as_itself, same_widths}
 
 -- ---- widths
 
-same_is : (a b : Width) → same_width a b ≡ true → a ≡ b
-same_is TruthValue TruthValue h = refl
-same_is TruthValue (Word m) h = absurd (both_ways true (sym h) refl)
-same_is (Word n) TruthValue h = absurd (both_ways true (sym h) refl)
-same_is (Word n) (Word m) h = ap Word (eqb-true n m h)
-
-same_itself : (a : Width) → same_width a a ≡ true
-same_itself TruthValue = refl
-same_itself (Word n) = eq-eqb n n refl
-
 differs_too : (a w x : Width) → same_width a x ≡ true → same_width a w ≡ false → same_width w x ≡ false
 differs_too a w x h k = false_from_ne_true (same_width w x) (λ t.
-    both_ways (same_width a w) k (subst (λ v. same_width a v ≡ true) (same_is a x h ∙ sym (same_is w x t)) (same_itself a)))
+    both_ways (same_width a w) k (subst (λ v. same_width a v ≡ true) (same_widths a x h ∙ sym (same_widths w x t)) (same_as_itself a)))
 
 -- an item that agrees with one width clashes with each other one
 one_width : (a w : Width) (s : Option Sort) → is_counter s ≡ false → sort_clashes a s ≡ false → same_width a w ≡ false → sort_clashes w s ≡ true
@@ -45,7 +35,7 @@ one_width a w (Some (sort.Variable x)) c h k = ap not (differs_too a w x (not-fa
 turn_alike : (Γ : Sorts) (i : Item) (a : Width) (o : Option Width) → plain_counters Γ ≡ true → is_some (name_in i.index) ≡ true → for_some Γ (λ ρ. sort_clashes a (sort_here Γ ρ i)) ≡ false → for_some Γ (λ ρ. if_asked o (λ w. sort_clashes w (sort_here Γ ρ i))) ≡ if_asked o (λ w. not (same_width a w))
 turn_alike Γ i a None kept named h = for_some_still Γ false
 turn_alike Γ i a (Some w) kept named h = elim (cases_Bool (same_width a w)) [
-  | inl t ↦ ap (λ v. for_some Γ (λ ρ. sort_clashes v (sort_here Γ ρ i))) (sym (same_is a w t)) ∙ h ∙ sym (ap not t)
+  | inl t ↦ ap (λ v. for_some Γ (λ ρ. sort_clashes v (sort_here Γ ρ i))) (sym (same_widths a w t)) ∙ h ∙ sym (ap not t)
   | inr t ↦
       for_some_same Γ _ (λ ρ. true) (λ ρ k. one_width a w (sort_here Γ ρ i) (element_no_counter Γ ρ i kept named) (never Γ (λ ρ. sort_clashes a (sort_here Γ ρ i)) h ρ k) t)
       ∙ for_some_still Γ true

@@ -1,8 +1,8 @@
 -- Expressions that are asked for a width, whatever values the indices take.
 use Rattle.std.proofs.Common.{◌≡◌, Bool, true, false, not, ◌&&◌, ◌||◌, Option, Some, None, is_none, is_some, refl, sym, ap, ◌∙◌}
 use Rattle.std.proofs.lemmas.Bool.{both_ways}
-use Rattle.occ_parse_scopes.specs.occ_base.declared.width.Width.{Width}
-use Rattle.occ_parse_scopes.specs.occ_base.declared.width.Width.TheVariants.{Bool as TruthValue, Word}
+use Rattle.occ_syntax.specs.occ_base.declared.width.Width.{Width}
+use Rattle.occ_syntax.specs.occ_base.declared.width.Width.TheVariants.{Bool as TruthValue, Word}
 use Rattle.occ_syntax.specs.declared.expr.Op.{Op}
 use Rattle.occ_parse_forms.specs.Shape.{Said, negation, complement, operation}
 use Rattle.occ_parse_rules.specs.Places.{Sorts, for_some}

@@ -4,7 +4,7 @@ use Rattle.std.specs.List.{list_any}
 use Rattle.std.proofs.lemmas.Bool.{both_ways, false_from_ne_true, or_from}
 use Rattle.std.proofs.lemmas.List.{drop_more, drop_all}
 use Rattle.std.proofs.lemmas.List.Folds.{list_any_at}
-use Rattle.occ_parse_scopes.specs.occ_base.declared.width.Width.{Width}
+use Rattle.occ_syntax.specs.occ_base.declared.width.Width.{Width}
 use Rattle.occ_parse_forms.specs.declared.form.Item.{Item}
 use Rattle.occ_parse_forms.specs.declared.phrase.Phrase.{Phrase}
 use Rattle.occ_parse_forms.specs.declared.form.Form.{Form}

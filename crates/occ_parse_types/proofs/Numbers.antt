@@ -3,8 +3,8 @@ use Rattle.std.proofs.Common.{◌≡◌, ℕ, suc, ◌+◌, ◌-◌, ◌<◌, �
 use Rattle.std.specs.List.{list_any}
 use Rattle.std.proofs.Math.Nat.{pow-le-pow_right}
 use Rattle.std.proofs.lemmas.Bool.{le-leb, lt-ltb}
-use Rattle.occ_parse_scopes.specs.occ_base.declared.width.Width.{Width}
-use Rattle.occ_parse_scopes.specs.occ_base.declared.width.Width.TheVariants.{Bool as TruthValue, Word}
+use Rattle.occ_syntax.specs.occ_base.declared.width.Width.{Width}
+use Rattle.occ_syntax.specs.occ_base.declared.width.Width.TheVariants.{Bool as TruthValue, Word}
 use Rattle.occ_parse_rules.specs.Types.{fits}
 use Rattle.occ_parse_rules.specs.Places.{numbers_from}
 

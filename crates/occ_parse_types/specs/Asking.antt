@@ -1,8 +1,8 @@
 -- Who asks for a width, and what is asked.
 use Rattle.std.specs.Prelude.{Bool, not, ◌||◌, true, List, Option, Some, None, is_none, false, ◌≡◌}
 use Rattle.std.specs.List.{list_any, list_all}
-use Rattle.occ_parse_scopes.specs.occ_base.declared.width.Width.{Width}
-use Rattle.occ_parse_scopes.specs.occ_base.declared.width.Width.TheVariants.{Bool as TruthValue}
+use Rattle.occ_syntax.specs.occ_base.declared.width.Width.{Width}
+use Rattle.occ_syntax.specs.occ_base.declared.width.Width.TheVariants.{Bool as TruthValue}
 use Rattle.occ_syntax.specs.Types.{same_width}
 use Rattle.occ_parse_forms.specs.declared.form.Declared.{Declared}
 use Rattle.occ_parse_forms.specs.declared.form.Declared.TheVariants as declared

@@ -1,6 +1,6 @@
 -- What is asked of the places on a line.
 use Rattle.std.specs.Prelude.{Bool, not, ◌||◌, Option, is_none}
-use Rattle.occ_parse_scopes.specs.occ_base.declared.width.Width.{Width}
+use Rattle.occ_syntax.specs.occ_base.declared.width.Width.{Width}
 use Rattle.occ_parse_forms.specs.declared.form.Item.{Item}
 use Rattle.occ_parse_rules.specs.declared.sort.Sort.{Sort}
 use Rattle.occ_parse_rules.specs.Names.{index_counts}

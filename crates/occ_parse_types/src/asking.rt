@@ -1,13 +1,11 @@
 ghost use Rattle.std.specs.Prelude.{◌≡◌};
 ghost use Rattle.occ_syntax.specs.Scopes.{same_dir};
-ghost use Rattle.occ_syntax.specs.Types.{same_width};
 ghost use Rattle.occ_parse_rules.specs.Types.{channel_sort, class, fits, greatest, is_against, is_truth_value, sort_clashes, variable_sort, width_of_sort};
 ghost use Rattle.occ_parse_types.specs.Asking.{class_of, holds_of, refuses_width};
 
 use occ_parse_forms::Item;
 use occ_parse_rules::Sort;
-use occ_parse_scopes::{Dir, Width};
-use occ_syntax::Op;
+use occ_syntax::{Dir, Op, Width, same_width};
 
 /// Who asks for a width: something that has one, whatever values the indices take, or an item with the width that it
 /// has at their values.
@@ -80,21 +78,6 @@ pub fn class(op: Op) -> Classed
         Op::And | Op::Or => Classed::TruthValues,
         Op::Equal | Op::Differ => Classed::Comparing,
         Op::Less | Op::Greater | Op::AtMost | Op::AtLeast => Classed::Ordering,
-    }
-}
-
-fn same_width(left: Width, right: Width) -> bool
-    ensures { result ≡ same_width left right }
-{
-    match left {
-        Width::Bool => match right {
-            Width::Bool => true,
-            Width::Word(_) => false,
-        },
-        Width::Word(bits) => match right {
-            Width::Bool => false,
-            Width::Word(others) => bits == others,
-        },
     }
 }
 

@@ -10,7 +10,8 @@ use crate::asking::Test;
 use crate::turns::some_value;
 use occ_parse_forms::{Form, Wants};
 use occ_parse_rules::Node;
-use occ_parse_scopes::{Dir, Memory, Scopes};
+use occ_parse_scopes::Scopes;
+use occ_syntax::{Dir, Memory};
 use std::alloc::Global;
 
 fn wants_against(scopes: &Scopes, wants: &Wants) -> bool

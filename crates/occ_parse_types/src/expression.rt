@@ -8,7 +8,8 @@ ghost use Rattle.occ_parse_types.specs.Asking.{AllThere, HasWidth, IsWidth, aske
 use crate::asking::{Asked, Asker, Classed, Test, class, refuses_width, width_of_sort};
 use crate::turns::{clash_apart, clash_together, has_name, same_name, some_value, sort_turn};
 use occ_parse_forms::{Item, Phrase};
-use occ_parse_scopes::{Scopes, Width};
+use occ_parse_scopes::Scopes;
+use occ_syntax::Width;
 
 /// The width of an item, whatever values the indices take; None where it has none.
 pub fn item_width(scopes: &Scopes, item: Item) -> Option<Asker>

@@ -11,7 +11,8 @@ use crate::asking::{Asker, Place, Test};
 use crate::expression::{clashes, item_clashes, item_width, untyped};
 use crate::turns::some_value;
 use occ_parse_forms::{Form, Item, Phrase, Wants};
-use occ_parse_scopes::{Scopes, Width};
+use occ_parse_scopes::Scopes;
+use occ_syntax::Width;
 
 /// Whether an item stands for something else than its place on the line wants, for some values of the indices.
 fn misplaced(scopes: &Scopes, place: Place, item: Item) -> bool

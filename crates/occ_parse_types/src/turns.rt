@@ -8,7 +8,8 @@ ghost use Rattle.occ_parse_types.specs.Turns.{name_in, same_name, sort_turn, tur
 use crate::asking::{Test, holds_of, sort_clashes, width_of_sort};
 use occ_parse_forms::{Index, Item};
 use occ_parse_rules::Sort;
-use occ_parse_scopes::{Name, Scopes};
+use occ_parse_scopes::Scopes;
+use occ_syntax::Name;
 
 /// The number of the name in an index.
 fn name_in(index: Option<Index>) -> Option<usize>

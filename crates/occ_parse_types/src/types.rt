@@ -10,7 +10,8 @@ use crate::line::{line_clashes, line_untyped};
 use crate::lost::has_lost;
 use occ_parse_forms::Form;
 use occ_parse_rules::{Node, TypeFault};
-use occ_parse_scopes::{Memory, Scopes};
+use occ_parse_scopes::Scopes;
+use occ_syntax::Memory;
 use std::alloc::Global;
 
 /// The fault of a line's types, where its names are in order.

@@ -4,12 +4,12 @@ use Rattle.std.specs.Prelude.{option_to_list}
 use Rattle.std.specs.List.{flat_map}
 use Rattle.std.proofs.lemmas.Bool.{cases_lt}
 use Rattle.std.proofs.lemmas.Option.{get_or_from_slice_get}
-use Rattle.occ_parse_scopes.specs.occ_base.declared.memory.Memory.{Memory}
-use Rattle.occ_parse_scopes.specs.occ_base.declared.names.Name.{Name}
-use Rattle.occ_parse_scopes.specs.occ_base.Names.{with_text}
+use Rattle.occ_syntax.specs.occ_base.declared.memory.Memory.{Memory}
+use Rattle.occ_syntax.specs.occ_base.declared.names.Name.{Name}
+use Rattle.occ_syntax.specs.occ_base.Names.{with_text}
 use Rattle.std.proofs.lemmas.List.{drop_more, drop_all}
-use Rattle.occ_parse_scopes.specs.occ_lex.Symbols.{Extends}
-use Rattle.occ_parse_scopes.proofs.from_lex.Interned.{extends_same, extends_eq, extends_trans, extends_text}
+use Rattle.occ_parse_forms.specs.occ_lex.Symbols.{Extends}
+use Rattle.occ_parse_forms.proofs.from_lex.Interned.{extends_same, extends_eq, extends_trans, extends_text}
 use Rattle.occ_syntax.specs.declared.expr.Op.{Op}
 use Rattle.occ_parse_forms.specs.declared.form.Declared.{Declared}
 use Rattle.occ_parse_forms.specs.declared.form.Group.TheVariants as word

@@ -1,6 +1,6 @@
 -- What a line gives that is none of the lines asked for.
 use Rattle.std.proofs.Common.{◌≡◌, ℕ, ◌+◌, false, List, [], refl, ◌⊎◌, inl, inr}
-use Rattle.occ_parse_scopes.specs.occ_base.declared.names.Name.{Name}
+use Rattle.occ_syntax.specs.occ_base.declared.names.Name.{Name}
 use Rattle.occ_syntax.specs.declared.scope.Kind.{Kind}
 use Rattle.occ_syntax.specs.Tree.{and_tree}
 use Rattle.occ_syntax.specs.Declarations.{declaring_all}

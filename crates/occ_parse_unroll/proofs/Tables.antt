@@ -1,17 +1,17 @@
 -- Numbers of names in tables that grow.
 use Rattle.std.proofs.Common.{◌≡◌, ℕ, ◌+◌, ◌<◌, ◌≤◌, Bool, true, false, cond, not, List, [], ◌∷◌, ◌++◌, length, get_or, refl, sym, ap, subst, ◌∙◌, arith, ⊎_elim, slice_get, Some, Result, Ok, Err, IfOk, OnOk, length-append}
 use Rattle.std.proofs.lemmas.Slice.Eq.{bytes_eq-Decides}
-use Rattle.occ_parse_scopes.specs.occ_base.declared.memory.Memory.{Memory}
-use Rattle.occ_parse_scopes.specs.occ_base.declared.names.Name.{Name}
+use Rattle.occ_syntax.specs.occ_base.declared.memory.Memory.{Memory}
+use Rattle.occ_syntax.specs.occ_base.declared.names.Name.{Name}
 use Rattle.std.specs.List.{position_or_len}
 use Rattle.std.specs.Str.{bytes_eq}
 use Rattle.std.proofs.lemmas.Bool.{cases_Bool, cases_lt}
 use Rattle.std.proofs.Math.ListN.{get_or-append}
 use Rattle.std.proofs.lemmas.Option.{get_or_from_slice_get}
-use Rattle.occ_parse_scopes.specs.occ_base.Names.{place_of, with_text}
-use Rattle.occ_parse_scopes.proofs.from_base.Naming.{with_there, with_new, place-le}
-use Rattle.occ_parse_scopes.specs.occ_lex.Symbols.{Extends}
-use Rattle.occ_parse_scopes.proofs.from_lex.Interned.{extends_trans, extends_text}
+use Rattle.occ_syntax.specs.occ_base.Names.{place_of, with_text}
+use Rattle.occ_syntax.proofs.from_base.Naming.{with_there, with_new, place-le}
+use Rattle.occ_parse_forms.specs.occ_lex.Symbols.{Extends}
+use Rattle.occ_parse_forms.proofs.from_lex.Interned.{extends_trans, extends_text}
 use Rattle.occ_parse_forms.specs.declared.form.Item.{Item}
 use Rattle.occ_parse_forms.specs.declared.phrase.Index.{Index}
 use Rattle.occ_parse_rules.specs.Places.{Indices, index_at, place_with, element_at}

@@ -2,7 +2,7 @@
 -- copy of its line, and the table of names that has them.
 use Rattle.std.specs.Prelude.{ℕ, List, [], ◌∷◌, ◌++◌, Option, Some, None, slice_index_or, option_to_list}
 use Rattle.std.specs.List.{flat_map}
-use Rattle.occ_parse_scopes.specs.occ_base.Names.{with_text}
+use Rattle.occ_syntax.specs.occ_base.Names.{with_text}
 use Rattle.occ_parse_forms.specs.declared.form.Declared.{Declared}
 use Rattle.occ_parse_forms.specs.declared.form.Group.{Group}
 use Rattle.occ_parse_forms.specs.declared.form.Group.TheVariants as word

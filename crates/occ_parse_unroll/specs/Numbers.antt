@@ -1,6 +1,6 @@
 -- The numbers of names and of elements in a table of names.
 use Rattle.std.specs.Prelude.{ℕ, List, [], ◌++◌, Some, None, codes, decimal, slice_index_or}
-use Rattle.occ_parse_scopes.specs.occ_base.Names.{place_of}
+use Rattle.occ_syntax.specs.occ_base.Names.{place_of}
 use Rattle.occ_parse_rules.specs.Unrolled.{Numbers}
 
 -- the text of an element, by its array's text: the place stands in brackets behind it

@@ -7,7 +7,8 @@ ghost use Rattle.occ_parse_unroll.specs.Present.{present, values_of};
 use crate::values::Values;
 use occ_parse_forms::{Index, Item, Times};
 use occ_parse_rules::Sort;
-use occ_parse_scopes::{Memory, Name, Scopes, Width, counter_of};
+use occ_parse_scopes::{Scopes, counter_of};
+use occ_syntax::{Memory, Name, Width};
 use std::alloc::Global;
 
 /// Where a line stands: what is in scope there, and the values of the indices.

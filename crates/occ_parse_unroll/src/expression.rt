@@ -2,7 +2,7 @@ ghost use Rattle.std.specs.Prelude.{◌≡◌, ◌++◌, ℕ, List, length, map,
 ghost use Rattle.std.specs.List.{AllByRecursion};
 ghost use Rattle.occ_syntax.specs.View.{exp, exps, numbers, waiting as waiting_view};
 ghost use Rattle.occ_parse_forms.specs.Shape.{all_said, said, waiting as waiting_said};
-ghost use Rattle.occ_parse_scopes.specs.occ_lex.Symbols.{Extends};
+ghost use Rattle.occ_parse_forms.specs.occ_lex.Symbols.{Extends};
 ghost use Rattle.occ_parse_rules.specs.Types.{asks, channel_here, class, or_width, own as own_of, sort_here, width_of_sort};
 ghost use Rattle.occ_parse_rules.specs.Unrolled.{expression as expression_of, item_exp, item_number, value as value_of, values as all_values, waited};
 ghost use Rattle.occ_parse_unroll.specs.Elements.{item_places, items_places, operand_places, places_in, values_places, waiting_places, brought};
@@ -15,8 +15,7 @@ use crate::naming::item_name;
 use crate::numbering::Numbering;
 use occ_parse_forms::{Item, Phrase, Wants};
 use occ_parse_rules::Sort;
-use occ_parse_scopes::{Memory, Name, Names, Width};
-use occ_syntax::{Expr, Exprs, NameList, Op, Wait};
+use occ_syntax::{Expr, Exprs, Memory, Name, NameList, Names, Op, Wait, Width};
 use std::alloc::Global;
 
 /// The width that an expression has of its own. It takes no memory.

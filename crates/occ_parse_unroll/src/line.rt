@@ -3,7 +3,7 @@ ghost use Rattle.std.specs.List.{AllByRecursion};
 ghost use Rattle.occ_syntax.specs.Tree.{assign as assignment};
 ghost use Rattle.occ_syntax.specs.View.{exp, tree, waiting};
 ghost use Rattle.occ_parse_forms.specs.Shape.{all_said, shape};
-ghost use Rattle.occ_parse_scopes.specs.occ_lex.Symbols.{Extends};
+ghost use Rattle.occ_parse_forms.specs.occ_lex.Symbols.{Extends};
 ghost use Rattle.occ_parse_rules.specs.Unrolled.{Lines, item_number, process, values as all_values};
 ghost use Rattle.occ_parse_unroll.specs.Elements.{Elements, guard_places, items_places, process_places, values_places, brought};
 ghost use Rattle.occ_parse_unroll.specs.Guards.{guard_condition, guard_wait};
@@ -16,8 +16,7 @@ use crate::context::Context;
 use crate::expression::{expression, input, left_names, output, values, wait};
 use crate::numbering::Numbering;
 use occ_parse_forms::{Form, Item, Phrase};
-use occ_parse_scopes::{Memory, Names, Width};
-use occ_syntax::{Expr, Guard, Proc, Wait};
+use occ_syntax::{Expr, Guard, Memory, Names, Proc, Wait, Width};
 use std::alloc::Global;
 
 #[tactic(auto, unfolding(crate::specs::tree))]

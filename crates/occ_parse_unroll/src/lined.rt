@@ -9,7 +9,7 @@ use crate::counting::{copies, places};
 use crate::reading::{declaration, group};
 use occ_parse_forms::{Declared, Form, Group, Times};
 use occ_parse_rules::Node;
-use occ_parse_scopes::{List, Memory};
+use occ_syntax::{List, Memory};
 use std::alloc::Global;
 
 /// The number of the line of each process that the lines of slots stand for, the outer ones first. A declared name is a

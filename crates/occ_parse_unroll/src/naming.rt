@@ -1,6 +1,6 @@
 ghost use Rattle.std.specs.Prelude.{◌≡◌, ◌<◌, ◌++◌, ℕ, List, Some, length, OnOk, OnErr, IfOk};
 ghost use Rattle.std.specs.List.{AllByRecursion};
-ghost use Rattle.occ_parse_scopes.specs.occ_lex.Symbols.{Extends};
+ghost use Rattle.occ_parse_forms.specs.occ_lex.Symbols.{Extends};
 ghost use Rattle.occ_parse_rules.specs.Places.{declared_in, entries_of, places};
 ghost use Rattle.occ_parse_rules.specs.Unrolled.{all_named, item_number, named};
 ghost use Rattle.occ_parse_unroll.specs.Elements.{all_places, item_places, with_place, brought};
@@ -10,20 +10,18 @@ ghost use Rattle.occ_parse_unroll.specs.Present.{values_of};
 
 use crate::context::Context;
 use crate::numbering::Numbering;
-use itoa::Buffer;
 use occ_parse_forms::{Declared, Item};
 use occ_parse_rules::Entry;
-use occ_parse_scopes::{Memory, Name, Names, sort_of};
-use occ_syntax::{Kind, Scope};
+use occ_parse_scopes::sort_of;
+use occ_syntax::{Kind, Memory, Name, Names, Scope, push_number};
 use std::alloc::Global;
 
 fn element_text(alloc: Global, array: &[u8], k: u16) -> Result<Vec<u8>, Memory>
     ensures { IfOk result (λ text. text.items ≡ element_text_of array.now k) }
 {
-    let mut buffer = Buffer::new();
     let mut text = Vec::from_slice(alloc, array)?;
     text.push(b'[')?;
-    text.extend_from_slice(buffer.format(k).as_bytes())?;
+    push_number(&mut text, u64::from(k))?;
     text.push(b']')?;
     Ok(text)
 }

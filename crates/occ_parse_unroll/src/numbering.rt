@@ -1,12 +1,12 @@
 //! Where the numbers of the elements of arrays come from.
 
 ghost use Rattle.std.specs.Prelude.{◌≡◌, ◌<◌, ℕ, List, length, OnOk, IfOk};
-ghost use Rattle.occ_parse_scopes.specs.occ_lex.Symbols.{Extends};
+ghost use Rattle.occ_parse_forms.specs.occ_lex.Symbols.{Extends};
 ghost use Rattle.occ_parse_unroll.specs.Elements.{with_element};
 ghost use Rattle.occ_parse_unroll.specs.Numbers.{element_number};
 
 use crate::naming::element;
-use occ_parse_scopes::{Memory, Name, Names};
+use occ_syntax::{Memory, Name, Names};
 use std::alloc::Global;
 
 /// A source of the numbers of the elements of arrays. It may bring texts into a table of names, and never takes one out.

@@ -1,7 +1,7 @@
 ghost use Rattle.std.specs.Prelude.{◌≡◌, ◌++◌, ℕ, List, [], length, OnOk, IfOk};
 ghost use Rattle.std.specs.List.{AllByRecursion};
 ghost use Rattle.occ_syntax.specs.View.{tree};
-ghost use Rattle.occ_parse_scopes.specs.occ_lex.Symbols.{Extends};
+ghost use Rattle.occ_parse_forms.specs.occ_lex.Symbols.{Extends};
 ghost use Rattle.occ_parse_rules.specs.Forest.{forest};
 ghost use Rattle.occ_parse_rules.specs.Places.{declared_in, param_entries};
 ghost use Rattle.occ_parse_rules.specs.Unrolled.{lined, params_named, slot_process};
@@ -16,8 +16,8 @@ use crate::numbering::InTable;
 use crate::unrolling::slot;
 use occ_parse_forms::Param;
 use occ_parse_rules::{Entry, Node};
-use occ_parse_scopes::{List, Memory, Names, sort_of};
-use occ_syntax::{Proc, Scope};
+use occ_parse_scopes::sort_of;
+use occ_syntax::{List, Memory, Names, Proc, Scope};
 use std::alloc::Global;
 
 /// The program that lines stand for: its parameters, its body, and the number of the line of each process of the body, the

@@ -2,7 +2,7 @@ ghost use Rattle.std.specs.Prelude.{◌≡◌, ℕ, List, [], length, OnOk, IfOk
 ghost use Rattle.occ_syntax.specs.Tree.{no_branch, no_case, no_tree};
 ghost use Rattle.occ_syntax.specs.View.{branches, cases, in_alternatives, in_choices, in_procs, tree, trees};
 ghost use Rattle.occ_parse_forms.specs.Shape.{shape};
-ghost use Rattle.occ_parse_scopes.specs.occ_lex.Symbols.{Extends};
+ghost use Rattle.occ_parse_forms.specs.occ_lex.Symbols.{Extends};
 ghost use Rattle.occ_parse_rules.specs.Forest.{forest};
 ghost use Rattle.occ_parse_rules.specs.Unrolled.{as_parts, branch_line, branches_then, case_line, cases_then, construct as construct_of, copied, no_lines, process as process_of, slot as slot_of, trees_then, unrolled};
 ghost use Rattle.occ_parse_unroll.specs.Elements.{as_slots, branch_places, case_places, construct_places, copied_places, elements, process_places, brought};
@@ -19,8 +19,7 @@ use crate::numbering::Numbering;
 use crate::reading::{condition, declaration, group, is_guard, nested};
 use occ_parse_forms::{Form, Group, Times};
 use occ_parse_rules::Node;
-use occ_parse_scopes::{Memory, Names, Width};
-use occ_syntax::{Alternatives, Choices, Proc, Procs, Scope};
+use occ_syntax::{Alternatives, Choices, Memory, Names, Proc, Procs, Scope, Width};
 use std::alloc::Global;
 
 /// The process that the lines of a slot stand for: that of the first line that is no declaration, within the

@@ -3,7 +3,7 @@ ghost use Rattle.occ_parse_rules.specs.Places.{index_at};
 ghost use Rattle.occ_parse_unroll.specs.Present.{present, values_of};
 
 use occ_parse_forms::{Index, Times};
-use occ_parse_scopes::{Memory, Name};
+use occ_syntax::{Memory, Name};
 use std::alloc::Global;
 use std::marker::Model;
 

@@ -1,7 +1,7 @@
 -- The names of a program stand in a table of so many names.
 use Rattle.std.specs.Prelude.{ℕ, ◌<◌, List, length}
 use Rattle.std.specs.List.{AllByRecursion}
-use Rattle.occ_parse_forms.specs.occ_base.declared.names.Name.{Name}
+use Rattle.occ_syntax.specs.occ_base.declared.names.Name.{Name}
 use Rattle.occ_syntax.specs.declared.scope.Kind.{Kind}
 use Rattle.occ_parse_forms.specs.occ_lex.Symbols.{IsKnown}
 use Rattle.occ_print.specs.Lines.{TextLine}

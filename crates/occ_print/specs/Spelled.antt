@@ -1,8 +1,8 @@
 -- How lines are spelled: the text of each symbol, and the space between two symbols.
 use Rattle.std.specs.Prelude.{ℕ, ◌-◌, Bool, true, false, ◌&&◌, ◌||◌, if◌then◌else◌, List, [], ◌∷◌, ◌++◌, length, map, take, drop, Option, None, Some, codes, decimal, slice_get, unwrap_or}
 use Rattle.std.specs.List.{prefix_len}
-use Rattle.occ_parse_forms.specs.occ_base.declared.names.Name.{Name}
-use Rattle.occ_parse_forms.specs.occ_base.declared.width.Width.TheVariants as width
+use Rattle.occ_syntax.specs.occ_base.declared.names.Name.{Name}
+use Rattle.occ_syntax.specs.occ_base.declared.width.Width.TheVariants as width
 use Rattle.occ_syntax.specs.declared.scope.Kind.{Kind}
 use Rattle.occ_syntax.specs.Tree.{Tree}
 use Rattle.occ_parse_forms.specs.occ_lex.declared.token.TokenKind.{TokenKind}

@@ -1,8 +1,8 @@
 -- The symbols of each line of a printed program, from left to right. An element of an array is one name.
 use Rattle.std.specs.Prelude.{ℕ, Bool, true, false, not, ◌&&◌, ◌||◌, if◌then◌else◌, List, [], ◌∷◌, ◌++◌}
 use Rattle.std.specs.List.{flat_map}
-use Rattle.occ_parse_forms.specs.occ_base.declared.names.Name.{Name}
-use Rattle.occ_parse_forms.specs.occ_base.declared.width.Width.TheVariants as width
+use Rattle.occ_syntax.specs.occ_base.declared.names.Name.{Name}
+use Rattle.occ_syntax.specs.occ_base.declared.width.Width.TheVariants as width
 use Rattle.occ_syntax.specs.declared.expr.Op.{Op}
 use Rattle.occ_syntax.specs.declared.expr.Op.TheVariants as op
 use Rattle.occ_syntax.specs.declared.scope.Kind.{Kind}

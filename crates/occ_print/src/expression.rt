@@ -3,8 +3,8 @@ ghost use Rattle.occ_parse_forms.specs.Written.{op_word, truth_word};
 ghost use Rattle.occ_syntax.specs.View.{exp};
 ghost use Rattle.occ_print.specs.Symbols.{compares_numerals, exp_symbols, gives_word, goes_on, in_brackets, is_comparison, is_operation, numeral_symbols, of_numerals};
 
-use occ_parse_forms::{Keyword, Memory, Sign, Symbol, Symbols, Width};
-use occ_syntax::{Expr, Op};
+use occ_parse_forms::{Keyword, Sign, Symbol, Symbols};
+use occ_syntax::{Expr, Memory, Op, Width};
 
 /// Adds the symbols of an expression, whose numerals have their widths where `wide` says so.
 #[cycle(expression)]

@@ -3,8 +3,7 @@ ghost use Rattle.occ_print.specs.Greatest.{greatest, greatest_in, greatest_of_al
 ghost use Rattle.occ_syntax.specs.Declarations.{is_declaration};
 ghost use Rattle.occ_syntax.specs.View.{branches, cases, exp, exps, numbers, tree, trees, waiting};
 
-use occ_parse_forms::Name;
-use occ_syntax::{Expr, Guard, Proc, Wait};
+use occ_syntax::{Expr, Guard, Name, Proc, Wait};
 
 /// The greatest number of a name in a part, be it declared, read, written or a channel; 0 where there is no name. It takes no memory.
 pub fn greatest_name(part: &Proc) -> usize

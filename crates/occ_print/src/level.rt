@@ -1,7 +1,7 @@
 ghost use Rattle.std.specs.Prelude.{◌≡◌, ◌++◌, ◌*◌, replicate, OnOk};
 ghost use Rattle.occ_print.specs.Levels.{level_of};
 
-use occ_parse_forms::Memory;
+use occ_syntax::Memory;
 
 /// How deep a line stands. Each level is one below another, however deep a part is nested.
 #[derive(Drop)]

@@ -8,7 +8,8 @@ ghost use Rattle.occ_print.specs.Spelled.{gap, is_header, is_mark, is_numeral, i
 
 use crate::level::{Level, push_margin};
 use crate::spelling::push_symbol;
-use occ_parse_forms::{Keyword, Memory, Names, Sign, Symbol};
+use occ_parse_forms::{Keyword, Sign, Symbol};
+use occ_syntax::{Memory, Names};
 
 /// Adds a line: its margin, its symbols and a line feed.
 pub fn push_line(

@@ -14,8 +14,8 @@ use crate::expression::push_expression;
 use crate::level::Level;
 use crate::line::push_line;
 use crate::simple::{push_assignment, push_declaration, push_guard, push_input, push_output};
-use occ_parse_forms::{Keyword, Memory, Name, Names, Symbol, Symbols};
-use occ_syntax::{Expr, Guard, Kind, Proc};
+use occ_parse_forms::{Keyword, Symbol, Symbols};
+use occ_syntax::{Expr, Guard, Kind, Memory, Name, Names, Proc};
 use std::alloc::Global;
 
 /// Adds the lines of a part at a level. A row of declarations is gone through in a loop, since there may be thousands.

@@ -7,8 +7,8 @@ use crate::level::Level;
 use crate::line::push_line;
 use crate::part::push_part;
 use crate::simple::push_header;
-use occ_parse_forms::{Memory, Names, Sign, Symbol, Symbols};
-use occ_syntax::{Proc, Program};
+use occ_parse_forms::{Sign, Symbol, Symbols};
+use occ_syntax::{Memory, Names, Proc, Program};
 use std::alloc::Global;
 
 /// The text of a program: its header, its body one level below, and the closing line. Its names are names of the table;

@@ -4,8 +4,8 @@ ghost use Rattle.occ_syntax.specs.View.{exp, exps, numbers, waiting};
 ghost use Rattle.occ_print.specs.Symbols.{assign_symbols, comma_behind, declaration_symbols, guard_symbols, header_symbols, is_ready, is_true, name_symbol, named_symbols, receive_symbols, send_symbols, separated, waiting_symbols, whole_symbols};
 
 use crate::expression::push_expression;
-use occ_parse_forms::{Dir, Keyword, Memory, Name, Sign, Symbol, Symbols};
-use occ_syntax::{Expr, Guard, Kind, Wait};
+use occ_parse_forms::{Keyword, Sign, Symbol, Symbols};
+use occ_syntax::{Dir, Expr, Guard, Kind, Memory, Name, Wait};
 
 /// Adds the symbols of an assignment.
 pub fn push_assignment(symbols: &mut Symbols, vars: &[Name], values: &[Expr]) -> Result<(), Memory>

@@ -1,9 +1,9 @@
-ghost use Rattle.std.specs.Prelude.{◌≡◌, ◌++◌, ◌<◌, length, decimal, OnOk};
+ghost use Rattle.std.specs.Prelude.{◌≡◌, ◌++◌, ◌<◌, length, OnOk};
 ghost use Rattle.occ_parse_forms.specs.occ_lex.Symbols.{IsKnown};
 ghost use Rattle.occ_print.specs.Spelled.{word_text, keyword_text, sign_text, symbol_text};
 
-use itoa::Buffer;
-use occ_parse_forms::{Keyword, Memory, Names, Sign, Symbol, Width};
+use occ_parse_forms::{Keyword, Sign, Symbol};
+use occ_syntax::{Memory, Names, Width, push_number};
 
 /// Adds the text of a symbol.
 pub fn push_symbol(text: &mut Vec<u8>, names: &Names, symbol: Symbol) -> Result<(), Memory>
@@ -12,18 +12,10 @@ pub fn push_symbol(text: &mut Vec<u8>, names: &Names, symbol: Symbol) -> Result<
 {
     match symbol {
         Symbol::Name(name) => text.extend_from_slice(names.text(name))?,
-        Symbol::Numeral(value) => push_number(text, value)?,
+        Symbol::Numeral(value) => push_number(text, u64::from(value))?,
         Symbol::Keyword(keyword) => push_keyword(text, keyword)?,
         Symbol::Sign(sign) => text.extend_from_slice(spelled_sign(sign).as_bytes())?,
     }
-    Ok(())
-}
-
-fn push_number(text: &mut Vec<u8>, number: u8) -> Result<(), Memory>
-    ensures { OnOk result (text.new.items ≡ text.old.items ++ decimal number) }
-{
-    let mut buffer = Buffer::new();
-    text.extend_from_slice(buffer.format(number).as_bytes())?;
     Ok(())
 }
 
@@ -32,7 +24,7 @@ fn push_keyword(text: &mut Vec<u8>, keyword: Keyword) -> Result<(), Memory>
 {
     text.extend_from_slice(spelled_word(keyword).as_bytes())?;
     match keyword {
-        Keyword::Width(Width::Word(bits)) => push_number(text, bits),
+        Keyword::Width(Width::Word(bits)) => push_number(text, u64::from(bits)),
         _ => Ok(()),
     }
 }

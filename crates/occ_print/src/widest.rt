@@ -7,8 +7,7 @@ ghost use Rattle.occ_print.specs.Symbols.{declaration_symbols, exp_symbols, guar
 
 use crate::expression::{has_numerals_alone, has_operator, is_chained};
 use crate::simple::has_no_condition;
-use occ_parse_forms::Name;
-use occ_syntax::{Expr, Guard, Kind, Proc, Wait};
+use occ_syntax::{Expr, Guard, Kind, Name, Proc, Wait};
 
 /// The greatest number of tokens on a printed line of a part. An element of an array counts as one token, as a name
 /// does. A count that no `u64` holds is answered as the greatest `u64`. It takes no memory.

@@ -2,7 +2,7 @@
 use Rattle.std.proofs.Common.{◌≡◌, ℕ, ◌<◌, ◌^◌, Bool, true, false, not, ◌&&◌, ◌||◌, eqb, nat_lt, List, [], ◌∷◌, ◌++◌, Option, None, Some, refl, ap, sym, ◌∙◌, arith}
 use Rattle.std.specs.Prelude.{if◌then◌else◌, is_none}
 use Rattle.std.specs.List.{AllByRecursion, list_any}
-use Rattle.std.proofs.lemmas.Bool.{and_parts, and_from, eq-eqb, lt-ltb, ltb-true}
+use Rattle.std.proofs.lemmas.Bool.{and_parts, and_from, lt-ltb, ltb-true}
 use Rattle.occ_print.specs.occ_base.declared.width.Width.{Width}
 use Rattle.occ_print.specs.occ_base.declared.width.Width.TheVariants.{Bool as TruthValue, Word}
 use Rattle.occ_print.specs.occ_syntax.declared.expr.Op.{Op}
@@ -24,6 +24,7 @@ use Rattle.occ_print.specs.Known.{ExpIsKnown}
 use Rattle.occ_print_back.specs.Said.{item_of, numeral_said, said}
 use Rattle.occ_print_back.specs.Scoped.{IsNumbered, IsScope}
 use Rattle.occ_print_back.proofs.Widths.{operands_of, Widths, words, truth_values, compared, ordered, widths_of, Both, both_is, both_none, both_of, own_width, variable_back}
+use Rattle.occ_print.proofs.from_syntax.Widths.{same_as_itself}
 
 -- ---- tests of indices that always fail
 
@@ -47,10 +48,6 @@ never Γ test h = never_from Γ test h (λ i. 0)
 
 -- ---- types
 
-pub same_self : (w : Width) → same_width w w ≡ true
-same_self TruthValue = refl
-same_self (Word b) = eq-eqb b b refl
-
 truth_from : (t : Option Width) (w : Width) → if_truth_value t ≡ Some w → (w ≡ TruthValue) × (t ≡ Some TruthValue)
 truth_from (Some TruthValue) w h = (cc, refl)
 truth_from (Some (Word b)) w h = absurd (cc)
@@ -71,7 +68,7 @@ module _ (count : ℕ) (P : ℕ → Place) (N : Numbers) (numbered : IsNumbered 
   numeral_clashes true bits v w true h e =
       let f : w ≡ Word bits = cc in
       ap (λ u. not (same_width u (Word bits)) || not (nat_lt v (2 ^ bits))) f
-      ∙ ap (λ b. not b || not (nat_lt v (2 ^ bits))) (same_self (Word bits)) ∙ ap not (and_parts (is_width (Word bits)) (nat_lt v (2 ^ bits)) h).1
+      ∙ ap (λ b. not b || not (nat_lt v (2 ^ bits))) (same_as_itself (Word bits)) ∙ ap not (and_parts (is_width (Word bits)) (nat_lt v (2 ^ bits)) h).1
 
   abbrev operands : Bool → Exp → Exp → Option Width
   operands wide left right = or_width (own Γ ρ (said P wide left)) (own Γ ρ (said P wide right))
@@ -114,7 +111,7 @@ module _ (count : ℕ) (P : ℕ → Place) (N : Numbers) (numbered : IsNumbered 
       (ap (λ u. refuses ordering u (operands (wide || compares_numerals o left right) left right)) f ∙ ap (refuses ordering TruthValue) v ∙ ap is_truth_value e) v (ap is_none v)
 
   pub exp_clashes : (wide : Bool) (e : Exp) (w : Width) → ExpIsKnown count e → type_of E e ≡ Some w → clashes Γ ρ (said P wide e) w ≡ false
-  exp_clashes wide (variable x) w h e = ap (sort_clashes w) (variable_back count P N numbered E Γ scope ρ x w h e) ∙ ap not (same_self w)
+  exp_clashes wide (variable x) w h e = ap (sort_clashes w) (variable_back count P N numbered E Γ scope ρ x w h e) ∙ ap not (same_as_itself w)
   exp_clashes wide (numeral bits v) w h e = numeral_clashes wide bits v w (is_width (Word bits) && nat_lt v (2 ^ bits)) refl e
   exp_clashes wide (truth b) w h e = let f : w ≡ TruthValue = cc in ap (λ u. not (is_truth_value u)) f
   exp_clashes wide (negation e) w h k =

@@ -36,7 +36,8 @@ use Rattle.occ_print_back.specs.Program.{params_said, header_scope, body_forest,
 use Rattle.occ_print_back.proofs.Widths.{operands_of, variable_sort_is, variable_back, sort_back}
 use Rattle.occ_print_back.proofs.Standing.{agree_is, channel_sort_is, not_ready, scope_more}
 use Rattle.occ_print_back.proofs.Programs.{header_scoped}
-use Rattle.occ_print_back.proofs.Clashing.{never, same_self, exp_clashes, exp_typed, IsItem, item_at, AreItems, items-append, none_undeclared, none_outside, none_lost}
+use Rattle.occ_print_back.proofs.Clashing.{never, exp_clashes, exp_typed, IsItem, item_at, AreItems, items-append, none_undeclared, none_outside, none_lost}
+use Rattle.occ_print.proofs.from_syntax.Widths.{same_as_itself}
 
 -- ---- what is asked of a line
 
@@ -230,7 +231,7 @@ module _ (count : ℕ) (P : ℕ → Place) (N : Numbers) (numbered : IsNumbered 
           agreeing = λ ρ.
               let c_is : channel_here Γ ρ (item_of (P c)) ≡ Some a.0 = ap channel_sort (sort_back count P N numbered E Γ scope ρ c h) ∙ channel_sort_is (E c) a.0 a.1 in
               let x_is : variable_here Γ ρ (item_of (P x)) ≡ Some a.0 = ap variable_sort (variable_back count P N numbered E Γ scope ρ x a.0 k a.2) in
-              ap (λ u. widths_differ u (variable_here Γ ρ (item_of (P x)))) c_is ∙ ap (widths_differ (Some a.0)) x_is ∙ ap not (same_self a.0);
+              ap (λ u. widths_differ u (variable_here Γ ρ (item_of (P x)))) c_is ∙ ap (widths_differ (Some a.0)) x_is ∙ ap not (same_as_itself a.0);
           typed = λ ρ. refl;
           directed = λ ρ. against_never dir.Input c h parts.0 ρ;
         }

@@ -24,7 +24,8 @@ use Rattle.occ_print.specs.Known.{ExpIsKnown, WaitingIsKnown, PartIsKnown, Parts
 use Rattle.occ_print_back.specs.Said.{item_of, declared_at, declared_of, whole_said, bare_guard, waited_for, guard_shape}
 use Rattle.occ_print_back.specs.Forest.{height, part_forest, parts_forest, cases_forest, branches_forest}
 use Rattle.occ_print_back.specs.Scoped.{IsNumbered, IsScope, sort_in}
-use Rattle.occ_print_back.proofs.Widths.{same_width_is, item_back, sort_back, variable_back, expression_back}
+use Rattle.occ_print_back.proofs.Widths.{item_back, sort_back, variable_back, expression_back}
+use Rattle.occ_print.proofs.from_syntax.Widths.{same_widths}
 
 -- ---- a declaration more
 
@@ -76,7 +77,7 @@ module _ (count : ℕ) (P : ℕ → Place) (N : Numbers) (numbered : IsNumbered 
 -- ---- values
 
 pub agree_is : (a b : Option Width) → agree a b ≡ true → (w : Width) × (a ≡ Some w) × (b ≡ Some w)
-agree_is (Some a) (Some b) h = (b, ap Some (same_width_is a b h), refl)
+agree_is (Some a) (Some b) h = (b, ap Some (same_widths a b h), refl)
 agree_is (Some a) None h = absurd (cc)
 agree_is None b h = absurd (cc)
 

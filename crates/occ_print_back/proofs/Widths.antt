@@ -1,7 +1,6 @@
 -- The widths that are asked for in printed expressions are those of the program's.
 use Rattle.std.proofs.Common.{◌≡◌, ℕ, ◌<◌, Bool, true, false, ◌&&◌, ◌||◌, Option, None, Some, refl, ap, sym, ◌∙◌, subst}
 use Rattle.std.specs.Prelude.{unwrap_or, if◌then◌else◌}
-use Rattle.std.proofs.lemmas.Bool.{eqb-true}
 use Rattle.occ_print.specs.occ_base.declared.width.Width.{Width}
 use Rattle.occ_print.specs.occ_base.declared.width.Width.TheVariants.{Bool as TruthValue, Word}
 use Rattle.occ_print.specs.occ_base.Width.{bits_of}
@@ -22,12 +21,7 @@ use Rattle.occ_print.specs.Symbols.{gives_word, is_comparison, of_numerals, comp
 use Rattle.occ_print.specs.Known.{ExpIsKnown}
 use Rattle.occ_print_back.specs.Said.{item_of, numeral_said, said}
 use Rattle.occ_print_back.specs.Scoped.{IsNumbered, IsScope, sort_in}
-
-pub same_width_is : (a b : Width) → same_width a b ≡ true → a ≡ b
-same_width_is TruthValue TruthValue h = refl
-same_width_is (Word a) (Word b) h = ap Word (eqb-true a b h)
-same_width_is TruthValue (Word b) h = absurd (cc)
-same_width_is (Word a) TruthValue h = absurd (cc)
+use Rattle.occ_print.proofs.from_syntax.Widths.{same_widths}
 
 -- ---- what the types of two operands say
 
@@ -38,7 +32,7 @@ pub record Operands (o : Op) (left right : Option Width) (w : Width) : Type 0 wh
   pub given : type_given o width ≡ Some w
 
 operands_if : (o : Op) (a b w : Width) (t : Bool) → same_width a b ≡ t → (if t then type_given o a else None) ≡ Some w → Operands o (Some a) (Some b) w
-operands_if o a b w true h e = record { width = a; left_is = refl; right_is = ap Some (sym (same_width_is a b h)); given = e }
+operands_if o a b w true h e = record { width = a; left_is = refl; right_is = ap Some (sym (same_widths a b h)); given = e }
 operands_if o a b w false h e = absurd (cc)
 
 pub operands_of : (o : Op) (left right : Option Width) (w : Width) → type_of_two o left right ≡ Some w → Operands o left right w

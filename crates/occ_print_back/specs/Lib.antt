@@ -13,5 +13,4 @@ pub use Rattle.occ_parse.specs.occ_parse_layout as occ_parse_layout
 pub use Rattle.occ_parse.specs.occ_parse_rules as occ_parse_rules
 pub use Rattle.occ_parse.specs.occ_parse_unroll as occ_parse_unroll
 pub use Rattle.occ_print.specs as occ_print
-pub use Rattle.occ_print.specs.occ_syntax as occ_syntax
 pub use Rattle.occ_parse.specs.occ_usage as occ_usage

@@ -4,8 +4,8 @@ use Rattle.std.specs.Prelude.{codes}
 use Rattle.std.specs.Str.{bytes_eq}
 use Rattle.std.proofs.lemmas.Bool.{cases_Bool, cond-false, cond-true}
 use Rattle.std.proofs.lemmas.List.{length-map}
-use Rattle.occ_renamed.specs.occ_base.Names.{IsDistinct}
-use Rattle.occ_renamed.specs.occ_base.declared.names.Name.{Name}
+use Rattle.occ_nform.specs.occ_base.Names.{IsDistinct}
+use Rattle.occ_nform.specs.occ_base.declared.names.Name.{Name}
 use Rattle.occ_renamed.specs.occ_lex.Rows.{rows}
 use Rattle.occ_read_renamed.proofs.Exchanges.{applied, exchanges_one}
 use Rattle.occ_read_renamed.proofs.Headers.{AreLike, Table, again, grown, headers}
@@ -27,7 +27,7 @@ use Rattle.occ_nform.proofs.from_nform_table.TextTables.{reads_back}
 use Rattle.occ_nform.proofs.from_nform_table.Whole.{normal_text}
 use Rattle.occ_renamed.specs.Renamed.{kinds_renamed}
 use Rattle.occ_renamed.specs.Standing.{IsOneForOne}
-use Rattle.occ_renamed.specs.occ_syntax.declared.scope.Kind.{Kind}
+use Rattle.occ_nform.specs.occ_syntax.declared.scope.Kind.{Kind}
 
 -- ---- what is known of a text that reads as a table
 

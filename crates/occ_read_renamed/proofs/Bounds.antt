@@ -1,10 +1,10 @@
 -- A number above all names of a part.
 use Rattle.std.proofs.Common.{◌≡◌, ℕ, suc, ◌+◌, ◌<◌, ◌==◌, Bool, true, ◌||◌, List, [], ◌∷◌, arith, inl, inr}
 use Rattle.std.proofs.lemmas.Bool.{eqb-true, or_cases}
-use Rattle.occ_nform.proofs.from_meaning.Facts.{false_not_true}
-use Rattle.occ_nform.specs.occ_meaning.Rename.{stands, stands_in_branches, stands_in_cases, stands_in_some, stands_in_waiting}
-use Rattle.occ_renamed.specs.occ_syntax.Names.{is_in, names, some_names}
-use Rattle.occ_renamed.specs.occ_syntax.Tree.{Branches, Cases, Exp, Tree, Trees, Waiting, alt, and_branch, and_case, and_tree, assign, complement, connect, declare, input, negation, no_branch, no_case, no_tree, numeral, operation, output, par, ready, receive, select, send, seq, skip, stop, truth, variable}
+use Rattle.occ_renamed.proofs.from_meaning.Facts.{false_not_true}
+use Rattle.occ_renamed.specs.occ_meaning.Rename.{stands, stands_in_branches, stands_in_cases, stands_in_some, stands_in_waiting}
+use Rattle.occ_nform.specs.occ_syntax.Names.{is_in, names, some_names}
+use Rattle.occ_nform.specs.occ_syntax.Tree.{Branches, Cases, Exp, Tree, Trees, Waiting, alt, and_branch, and_case, and_tree, assign, complement, connect, declare, input, negation, no_branch, no_case, no_tree, numeral, operation, output, par, ready, receive, select, send, seq, skip, stop, truth, variable}
 
 abbrev exp_top : Exp → ℕ
 exp_top (variable x) = suc x

@@ -3,16 +3,16 @@
 use Rattle.std.proofs.Common.{◌≡◌, ◌↔◌, if◌then◌else◌, ℕ, zero, suc, ◌<◌, ◌≤◌, ◌==◌, List, [], ◌∷◌, refl, sym, ap, ap₂, subst, ◌∙◌, arith, inl, inr, ⊎_elim}
 use Rattle.std.proofs.lemmas.Bool.{cases_lt, eq-eqb, ne_eqb}
 use Rattle.std.proofs.lemmas.Bool.Decides.{eqb_tells}
-use Rattle.occ_nform.proofs.from_meaning.Exchanged.{exchanged}
-use Rattle.occ_nform.proofs.from_meaning.Facts.{at_itself, false_not_true, if_false, if_true}
-use Rattle.occ_nform.proofs.from_meaning.Redeclared.{itself_replaced}
-use Rattle.occ_nform.proofs.from_meaning.RenamedTrees.{trees_agree}
-use Rattle.occ_nform.proofs.from_meaning.Renaming.{exchange_is}
-use Rattle.occ_nform.specs.occ_meaning.Rename.{all_renamed, branches_renamed, cases_renamed, exchanging, renamed, renamed_event, renamed_exp, renamed_exps, renamed_names, renamed_outcome, renamed_trace, renamed_waiting, replacing, under}
+use Rattle.occ_renamed.proofs.from_meaning.Exchanged.{exchanged}
+use Rattle.occ_renamed.proofs.from_meaning.Facts.{at_itself, false_not_true, if_false, if_true}
+use Rattle.occ_renamed.proofs.from_meaning.Redeclared.{itself_replaced}
+use Rattle.occ_renamed.proofs.from_meaning.RenamedTrees.{trees_agree}
+use Rattle.occ_renamed.proofs.from_meaning.Renaming.{exchange_is}
+use Rattle.occ_renamed.specs.occ_meaning.Rename.{all_renamed, branches_renamed, cases_renamed, exchanging, renamed, renamed_event, renamed_exp, renamed_exps, renamed_names, renamed_outcome, renamed_trace, renamed_waiting, replacing, under}
 use Rattle.occ_renamed.specs.Standing.{IsOneForOne}
-use Rattle.occ_renamed.specs.occ_syntax.Meaning.{Outcome, ended, meaning, refusing}
-use Rattle.occ_renamed.specs.occ_syntax.Scopes.{Environment, Trace, Values}
-use Rattle.occ_renamed.specs.occ_syntax.Tree.{Branches, Cases, Exp, Tree, Trees, Waiting, alt, and_branch, and_case, and_tree, assign, complement, connect, declare, input, negation, no_branch, no_case, no_tree, numeral, operation, output, par, ready, receive, select, send, seq, skip, stop, truth, variable}
+use Rattle.occ_nform.specs.occ_syntax.Meaning.{Outcome, ended, meaning, refusing}
+use Rattle.occ_nform.specs.occ_syntax.Scopes.{Environment, Trace, Values}
+use Rattle.occ_nform.specs.occ_syntax.Tree.{Branches, Cases, Exp, Tree, Trees, Waiting, alt, and_branch, and_case, and_tree, assign, complement, connect, declare, input, negation, no_branch, no_case, no_tree, numeral, operation, output, par, ready, receive, select, send, seq, skip, stop, truth, variable}
 
 -- ---- two maps one after the other
 

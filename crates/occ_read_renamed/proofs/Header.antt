@@ -5,9 +5,9 @@ use Rattle.std.specs.Prelude.{is_ok, IsTrue}
 use Rattle.std.specs.List.{AllByRecursion, list_all}
 use Rattle.std.proofs.lemmas.Bool.{and_parts, and_from, lt-ltb}
 use Rattle.std.proofs.lemmas.Option.{slice_get_within, get_or_from_slice_get}
-use Rattle.occ_renamed.specs.occ_base.declared.names.Name.{Name}
-use Rattle.occ_renamed.specs.occ_base.Names.{place_of, with_text, IsDistinct}
-use Rattle.occ_renamed.proofs.from_base.Naming.{naming}
+use Rattle.occ_nform.specs.occ_base.declared.names.Name.{Name}
+use Rattle.occ_nform.specs.occ_base.Names.{place_of, with_text, IsDistinct}
+use Rattle.occ_nform.proofs.from_base.Naming.{naming}
 use Rattle.occ_renamed.specs.occ_lex.declared.fault.LineFault.TheVariants as fault
 use Rattle.occ_renamed.specs.occ_lex.declared.token.Line.{Line}
 use Rattle.occ_renamed.specs.occ_lex.declared.token.Token.{Token}

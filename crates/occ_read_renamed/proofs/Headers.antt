@@ -2,15 +2,15 @@
 use Rattle.std.proofs.Common.{◌≡◌, ℕ, suc, ◌+◌, ◌<◌, cond, not, nat_lt, nat_le, ◌&&◌, ◌||◌, List, [], ◌∷◌, ◌++◌, length, slice_get, unwrap_or, Option, Some, None, refl, sym, ap, ap₂, subst, ◌∙◌, arith}
 use Rattle.std.specs.List.{list_any}
 use Rattle.std.specs.Str.{bytes_eq}
-use Rattle.occ_renamed.proofs.from_base.Naming.{naming}
-use Rattle.occ_renamed.specs.occ_base.Names.{IsDistinct, place_of, with_text}
-use Rattle.occ_renamed.specs.occ_base.declared.names.Name.{Name}
+use Rattle.occ_nform.proofs.from_base.Naming.{naming}
+use Rattle.occ_nform.specs.occ_base.Names.{IsDistinct, place_of, with_text}
+use Rattle.occ_nform.specs.occ_base.declared.names.Name.{Name}
 use Rattle.occ_nform.specs.occ_nform_table.Lines.{AreNamed, can_follow, next_param, param_of, text_of}
 use Rattle.occ_nform.specs.occ_nform_table.Reading.{Header, Lines, either, params_in}
 use Rattle.occ_nform.specs.occ_nform_table.Words.{then_read}
 use Rattle.occ_nform.proofs.from_nform_table.Names.{Keeps, all_push, keeps_with, named_kept, place_within, text_there}
-use Rattle.occ_renamed.specs.occ_syntax.Counts.{bits_of_kind, bits_of_scope}
-use Rattle.occ_renamed.specs.occ_syntax.declared.scope.Kind.{Kind}
+use Rattle.occ_nform.specs.occ_syntax.Counts.{bits_of_kind, bits_of_scope}
+use Rattle.occ_nform.specs.occ_syntax.declared.scope.Kind.{Kind}
 
 abbrev pub Table : Type 0
 Table = List (List ℕ)

@@ -10,7 +10,7 @@ use Rattle.occ_renamed.specs.occ_lex.declared.symbol.Symbol.TheVariants as symbo
 use Rattle.occ_renamed.specs.occ_lex.Symbols.{AreKnown, Extends, IsKnown}
 use Rattle.occ_renamed.proofs.from_lex.Interned.{longer, rows_known}
 use Rattle.occ_renamed.proofs.from_parse.Knowing.{stopped_keeps}
-use Rattle.occ_renamed.specs.occ_base.Names.{IsDistinct}
+use Rattle.occ_nform.specs.occ_base.Names.{IsDistinct}
 use Rattle.occ_renamed.proofs.from_parse_layout.Once.{one_forest_of}
 use Rattle.occ_renamed.specs.occ_parse.declared.bound.Bound.{Bound}
 use Rattle.occ_renamed.specs.occ_parse.declared.fault.ParseFault.{ParseFault}

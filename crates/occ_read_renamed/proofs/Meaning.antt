@@ -1,9 +1,9 @@
 -- Programs mean the same exactly where they do under other names.
 use Rattle.std.proofs.Common.{◌≡◌, ◌↔◌, ℕ, ◌+◌, List, sym, ap, subst, ◌∙◌, arith}
 use mathlib.Core.Path.{fun_ext}
-use Rattle.occ_renamed.specs.occ_base.declared.names.Name.{Name}
-use Rattle.occ_nform.proofs.from_meaning.RenamedTrees.{trees_agree}
-use Rattle.occ_nform.specs.occ_meaning.Rename.{renamed, renamed_event, renamed_trace, under}
+use Rattle.occ_nform.specs.occ_base.declared.names.Name.{Name}
+use Rattle.occ_renamed.proofs.from_meaning.RenamedTrees.{trees_agree}
+use Rattle.occ_renamed.specs.occ_meaning.Rename.{renamed, renamed_event, renamed_trace, under}
 use Rattle.occ_read_renamed.proofs.Bounds.{below_top, top}
 use Rattle.occ_read_renamed.proofs.Exchanges.{Exchanges, applied, back_and_there, carried, exchanges_one, so_below, unapplied}
 use Rattle.occ_read_renamed.proofs.Standing.{event_back, trace_back}
@@ -11,11 +11,11 @@ use Rattle.occ_read_renamed.proofs.RenamedTables.{environment_same}
 use Rattle.occ_read_renamed.proofs.Texts.{kinds_agree, kinds_top}
 use Rattle.occ_renamed.specs.Renamed.{kinds_renamed}
 use Rattle.occ_renamed.specs.Standing.{IsOneForOne}
-use Rattle.occ_renamed.specs.occ_syntax.Meaning.{ended, ends, fails, meaning, refusing}
-use Rattle.occ_renamed.specs.occ_syntax.Same.{SAME}
-use Rattle.occ_renamed.specs.occ_syntax.Scopes.{Environment, EventSet, IsState, IsWithin, Trace, Values, channel_kind, environment, has_width, variable_kind}
-use Rattle.occ_renamed.specs.occ_syntax.Tree.{Tree}
-use Rattle.occ_renamed.specs.occ_syntax.declared.scope.Kind.{Kind}
+use Rattle.occ_nform.specs.occ_syntax.Meaning.{ended, ends, fails, meaning, refusing}
+use Rattle.occ_nform.specs.occ_syntax.Same.{SAME}
+use Rattle.occ_nform.specs.occ_syntax.Scopes.{Environment, EventSet, IsState, IsWithin, Trace, Values, channel_kind, environment, has_width, variable_kind}
+use Rattle.occ_nform.specs.occ_syntax.Tree.{Tree}
+use Rattle.occ_nform.specs.occ_syntax.declared.scope.Kind.{Kind}
 
 module _ (pairs : Exchanges) (params : List (Name × Kind)) where
   abbrev f : ℕ → ℕ

@@ -4,8 +4,8 @@ use Rattle.std.specs.Prelude.{decimal, unwrap_or}
 use Rattle.std.specs.List.{AllByRecursion, list_all, position_or_len}
 use Rattle.std.proofs.lemmas.Bool.{and_parts, and_from, cond-true, cond-false, ltb-true, lt-ltb, le-ltb, le-leb}
 use Rattle.std.proofs.lemmas.Option.{slice_get-get_or, slice_get_within, get_or_from_slice_get}
-use Rattle.occ_renamed.specs.occ_base.declared.names.Name.{Name}
-use Rattle.occ_renamed.proofs.from_base.Naming.{at_place}
+use Rattle.occ_nform.specs.occ_base.declared.names.Name.{Name}
+use Rattle.occ_nform.proofs.from_base.Naming.{at_place}
 use Rattle.occ_renamed.specs.occ_lex.declared.token.TokenKind.{TokenKind}
 use Rattle.occ_renamed.specs.occ_lex.declared.token.TokenKind.TheVariants as kind
 use Rattle.occ_renamed.specs.occ_lex.Spelling.{is_letter, is_name, is_name_byte, kind_of}

@@ -3,8 +3,8 @@ use Rattle.std.proofs.Common.{◌≡◌, ◌⊎◌, inl, inr, ⊎_elim, ℕ, ◌
 use Rattle.std.proofs.lemmas.Bool.{cases_lt, eq-eqb, le-ltb, ne_eqb}
 use Rattle.std.proofs.lemmas.Bool.Decides.{eqb_tells}
 use Rattle.std.proofs.lemmas.Option.{slice_get-get_or, slice_get_within}
-use Rattle.occ_renamed.specs.occ_base.Names.{IsDistinct, place_of, with_text}
-use Rattle.occ_renamed.proofs.from_base.Naming.{at_place, naming, nowhere, with_new, with_there}
+use Rattle.occ_nform.specs.occ_base.Names.{IsDistinct, place_of, with_text}
+use Rattle.occ_nform.proofs.from_base.Naming.{at_place, naming, nowhere, with_new, with_there}
 use Rattle.occ_renamed.specs.Standing.{IsOneForOne}
 use Rattle.occ_read_renamed.specs.Readings.{IsRenumbering, StandIn}
 

@@ -5,16 +5,16 @@ use Rattle.std.specs.Str.{bytes_eq}
 use Rattle.std.proofs.lemmas.Bool.{and_parts, and_from, or_from, both_ways, eq-eqb, false_from_ne_true, leb-true, le-leb, lt-ltb, not_from_false}
 use Rattle.std.proofs.lemmas.List.{length-map}
 use Rattle.std.proofs.lemmas.Slice.Eq.{bytes_eq-Decides}
-use Rattle.occ_renamed.specs.occ_base.declared.names.Name.{Name}
-use Rattle.occ_renamed.specs.occ_base.declared.width.Width.{Width}
-use Rattle.occ_renamed.specs.occ_base.declared.width.Width.TheVariants.{Bool as Truth, Word}
-use Rattle.occ_renamed.specs.occ_base.Names.{IsDistinct}
-use Rattle.occ_renamed.specs.occ_base.Width.{IsWidth}
-use Rattle.occ_renamed.specs.occ_syntax.declared.scope.Kind.{Kind}
-use Rattle.occ_renamed.specs.occ_syntax.declared.scope.Kind.TheVariants.{Var, Chan}
-use Rattle.occ_renamed.specs.occ_syntax.Counts.{bits_of_kind, bits_of_scope}
-use Rattle.occ_renamed.specs.occ_syntax.Scopes.{environment}
-use Rattle.occ_renamed.specs.occ_syntax.Types.{can_declare, is_width, scope_kept, width_of_kind}
+use Rattle.occ_nform.specs.occ_base.declared.names.Name.{Name}
+use Rattle.occ_nform.specs.occ_base.declared.width.Width.{Width}
+use Rattle.occ_nform.specs.occ_base.declared.width.Width.TheVariants.{Bool as Truth, Word}
+use Rattle.occ_nform.specs.occ_base.Names.{IsDistinct}
+use Rattle.occ_nform.specs.occ_base.Width.{IsWidth}
+use Rattle.occ_nform.specs.occ_syntax.declared.scope.Kind.{Kind}
+use Rattle.occ_nform.specs.occ_syntax.declared.scope.Kind.TheVariants.{Var, Chan}
+use Rattle.occ_nform.specs.occ_syntax.Counts.{bits_of_kind, bits_of_scope}
+use Rattle.occ_nform.specs.occ_syntax.Scopes.{environment}
+use Rattle.occ_nform.specs.occ_syntax.Types.{can_declare, is_width, scope_kept, width_of_kind}
 use Rattle.occ_renamed.specs.occ_parse_forms.declared.form.Param.{Param}
 use Rattle.occ_renamed.specs.occ_parse_forms.Lines.{IsMarked}
 use Rattle.occ_renamed.specs.occ_parse_rules.Forest.{no_line}

@@ -3,12 +3,12 @@ use Rattle.std.proofs.Common.{◌≡◌, ℕ, true, List, [], ◌∷◌, ◌++�
 use Rattle.std.specs.List.{AllByRecursion, flat_map}
 use Rattle.std.proofs.lemmas.Bool.{and_parts}
 use Rattle.std.proofs.lemmas.List.{length-map}
-use Rattle.occ_renamed.specs.occ_base.declared.names.Name.{Name}
-use Rattle.occ_renamed.specs.occ_base.Names.{IsDistinct}
+use Rattle.occ_nform.specs.occ_base.declared.names.Name.{Name}
+use Rattle.occ_nform.specs.occ_base.Names.{IsDistinct}
 use Rattle.occ_renamed.specs.occ_lex.Rows.{reading_of}
 use Rattle.occ_renamed.specs.occ_lex.Symbols.{Extends}
 use Rattle.occ_renamed.proofs.from_lex.Interned.{extends_eq, extends_same, longer}
-use Rattle.occ_nform.specs.occ_meaning.Rename.{renamed}
+use Rattle.occ_renamed.specs.occ_meaning.Rename.{renamed}
 use Rattle.occ_renamed.proofs.from_parse.Faultless.{below_judged, lines_of, no_fault}
 use Rattle.occ_renamed.proofs.from_parse.Forests.{program_of}
 use Rattle.occ_renamed.proofs.from_parse.Knowing.{lines_known, params_known}
@@ -47,8 +47,8 @@ use Rattle.occ_read_renamed.proofs.Numbers.{Table, number_in_other, renumbering}
 use Rattle.occ_read_renamed.proofs.Rows.{lines_distinct, lines_stand}
 use Rattle.occ_read_renamed.proofs.Tables.{alike_from, places_numbered, places_stand}
 use Rattle.occ_script_table.proofs.Below.{IsLow, program_low}
-use Rattle.occ_renamed.specs.occ_syntax.declared.scope.Kind.{Kind}
-use Rattle.occ_renamed.specs.occ_syntax.Tree.{Tree}
+use Rattle.occ_nform.specs.occ_syntax.declared.scope.Kind.{Kind}
+use Rattle.occ_nform.specs.occ_syntax.Tree.{Tree}
 
 -- ---- lines below a header without a fault
 

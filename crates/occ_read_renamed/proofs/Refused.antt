@@ -2,12 +2,12 @@
 use Rattle.std.proofs.Common.{◌≡◌, ℕ, ◌+◌, false, nat_lt, if◌then◌else◌, List, [], ◌∷◌, map, Option, Some, None, refl, sym, ap, ap₂, ◌∙◌}
 use Rattle.std.specs.List.{AllByRecursion}
 use Rattle.std.specs.Prelude.{is_some}
-use Rattle.occ_renamed.specs.occ_base.Names.{IsDistinct}
-use Rattle.occ_renamed.specs.occ_base.declared.names.Name.{Name}
+use Rattle.occ_nform.specs.occ_base.Names.{IsDistinct}
+use Rattle.occ_nform.specs.occ_base.declared.names.Name.{Name}
 use Rattle.occ_renamed.specs.occ_lex.Rows.{reading_of}
 use Rattle.occ_renamed.proofs.from_lex.Interned.{extends_same}
-use Rattle.occ_nform.proofs.from_meaning.Facts.{none_not_some, true_not_false}
-use Rattle.occ_nform.specs.occ_meaning.Rename.{all_renamed, branches_renamed, cases_renamed, renamed}
+use Rattle.occ_renamed.proofs.from_meaning.Facts.{none_not_some, true_not_false}
+use Rattle.occ_renamed.specs.occ_meaning.Rename.{all_renamed, branches_renamed, cases_renamed, renamed}
 use Rattle.occ_renamed.proofs.from_parse.Forests.{program_of}
 use Rattle.occ_renamed.proofs.from_parse.Placed.{good_are_placed}
 use Rattle.occ_renamed.specs.occ_parse_forms.declared.form.Param.{Param}
@@ -40,9 +40,9 @@ use Rattle.occ_read_renamed.proofs.Outlines.{least_same}
 use Rattle.occ_read_renamed.proofs.Numbers.{Table, number_in_other, renumbering}
 use Rattle.occ_read_renamed.proofs.Programs.{AreGood, below_so, good, params_so}
 use Rattle.occ_read_renamed.proofs.Rows.{lines_distinct, lines_stand}
-use Rattle.occ_renamed.specs.occ_syntax.Counts.{controls, controls_of_all, controls_of_branches, controls_of_cases}
-use Rattle.occ_renamed.specs.occ_syntax.Tree.{Branches, Cases, Tree, Trees, alt, and_branch, and_case, and_tree, assign, connect, declare, no_branch, no_case, no_tree, par, receive, select, send, seq, skip, stop}
-use Rattle.occ_renamed.specs.occ_syntax.declared.scope.Kind.{Kind}
+use Rattle.occ_nform.specs.occ_syntax.Counts.{controls, controls_of_all, controls_of_branches, controls_of_cases}
+use Rattle.occ_nform.specs.occ_syntax.Tree.{Branches, Cases, Tree, Trees, alt, and_branch, and_case, and_tree, assign, connect, declare, no_branch, no_case, no_tree, par, receive, select, send, seq, skip, stop}
+use Rattle.occ_nform.specs.occ_syntax.declared.scope.Kind.{Kind}
 
 -- ---- controls don't see names
 

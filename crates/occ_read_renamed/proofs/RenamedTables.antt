@@ -6,13 +6,13 @@ use Rattle.std.specs.Str.{bytes_eq}
 use Rattle.std.proofs.lemmas.Bool.{and_parts, cases_Bool, cond-false, eqb-true, false≢true}
 use Rattle.std.proofs.lemmas.List.{length-map}
 use mathlib.Core.Path.{fun_ext}
-use Rattle.occ_renamed.specs.occ_base.declared.event.Event.{Event}
-use Rattle.occ_renamed.specs.occ_base.declared.names.Name.{Name}
-use Rattle.occ_renamed.specs.occ_base.Width.{bits_of}
+use Rattle.occ_nform.specs.occ_base.declared.event.Event.{Event}
+use Rattle.occ_nform.specs.occ_base.declared.names.Name.{Name}
+use Rattle.occ_nform.specs.occ_base.Width.{bits_of}
 use Rattle.occ_nform.specs.occ_behaviour.Places.{place_in}
 use Rattle.occ_nform.specs.occ_behaviour.States.{is_state}
 use Rattle.occ_nform.specs.occ_behaviour.Texts.{event_text, mark_text, set_text, spaced, state_text}
-use Rattle.occ_nform.specs.occ_meaning.Rename.{renamed_event}
+use Rattle.occ_renamed.specs.occ_meaning.Rename.{renamed_event}
 use Rattle.occ_nform.specs.occ_nform_table.declared.table.TableRow.{TableRow}
 use Rattle.occ_nform.specs.occ_nform_table.declared.table.TableFault.TheVariants as fault
 use Rattle.occ_nform.specs.occ_nform_table.Judging.{accept_mark, accept_marks, accepts_text, comes_after, contains, ends_text, follows, has_event, height_over, is_none, is_offered, is_reached, list_marks, offers_text, placed, reached, row_marks, row_text, rows_marks, set_less}
@@ -23,10 +23,10 @@ use Rattle.occ_nform.specs.occ_nform_table.Texts.{param_text, params_text, rows_
 use Rattle.occ_nform.proofs.from_nform_table.Names.{all_push}
 use Rattle.occ_renamed.specs.Renamed.{kinds_renamed}
 use Rattle.occ_renamed.specs.Standing.{IsOneForOne}
-use Rattle.occ_renamed.specs.occ_syntax.Counts.{bits_of_kind, bits_of_scope}
-use Rattle.occ_renamed.specs.occ_syntax.Scopes.{allows, channel_kind, environment, has_width, in_interface}
-use Rattle.occ_renamed.specs.occ_syntax.declared.scope.Kind.{Kind}
-use Rattle.occ_renamed.specs.occ_syntax.declared.scope.Kind.TheVariants.{Chan, Var}
+use Rattle.occ_nform.specs.occ_syntax.Counts.{bits_of_kind, bits_of_scope}
+use Rattle.occ_nform.specs.occ_syntax.Scopes.{allows, channel_kind, environment, has_width, in_interface}
+use Rattle.occ_nform.specs.occ_syntax.declared.scope.Kind.{Kind}
+use Rattle.occ_nform.specs.occ_syntax.declared.scope.Kind.TheVariants.{Chan, Var}
 
 -- ---- lists
 

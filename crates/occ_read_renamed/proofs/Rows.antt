@@ -1,7 +1,7 @@
 -- The rows of a text with two tables: the same ones under other numbers of names.
 use Rattle.std.proofs.Common.{◌≡◌, ℕ, List, [], ◌∷◌, map, Some, slice_get, refl, ap, ap₂}
-use Rattle.occ_renamed.specs.occ_base.Names.{IsDistinct, place_of, with_text}
-use Rattle.occ_renamed.proofs.from_base.Naming.{naming}
+use Rattle.occ_nform.specs.occ_base.Names.{IsDistinct, place_of, with_text}
+use Rattle.occ_nform.proofs.from_base.Naming.{naming}
 use Rattle.occ_renamed.specs.occ_lex.declared.token.Line.{Line}
 use Rattle.occ_renamed.specs.occ_lex.declared.token.Token.{Token}
 use Rattle.occ_renamed.specs.occ_lex.declared.token.TokenKind.{TokenKind}

@@ -4,11 +4,11 @@ use Rattle.std.specs.List.{list_all, list_any}
 use Rattle.std.proofs.lemmas.Option.{slice_get-map}
 use Rattle.std.specs.Option.{option_map}
 use mathlib.Core.Path.{fun_ext}
-use Rattle.occ_renamed.specs.occ_base.declared.event.Event.{Event}
-use Rattle.occ_renamed.specs.occ_base.declared.names.Name.{Name}
+use Rattle.occ_nform.specs.occ_base.declared.event.Event.{Event}
+use Rattle.occ_nform.specs.occ_base.declared.names.Name.{Name}
 use Rattle.occ_nform.specs.occ_behaviour.States.{is_state}
-use Rattle.occ_nform.proofs.from_meaning.Facts.{false_not_true}
-use Rattle.occ_nform.specs.occ_meaning.Rename.{renamed, renamed_event, renamed_trace, under}
+use Rattle.occ_renamed.proofs.from_meaning.Facts.{false_not_true}
+use Rattle.occ_renamed.specs.occ_meaning.Rename.{renamed, renamed_event, renamed_trace, under}
 use Rattle.occ_read_renamed.proofs.Exchanges.{Exchanges, applied, back_and_there, carried, exchanges_one, unapplied}
 use Rattle.occ_read_renamed.proofs.RenamedTables.{any_map, environment_same, events_renamed, every_map, interface_same, is_state_same, offer_renamed, row_renamed, rows_renamed, state_place_same, state_renamed}
 use Rattle.occ_nform.specs.occ_nform_table.declared.table.TableRow.{TableRow}
@@ -16,10 +16,10 @@ use Rattle.occ_nform.specs.occ_nform_table.Behaviours.{IsOfInterface, Stands, go
 use Rattle.occ_nform.specs.occ_nform_table.Lines.{state_place}
 use Rattle.occ_renamed.specs.Renamed.{kinds_renamed}
 use Rattle.occ_renamed.specs.Standing.{IsOneForOne}
-use Rattle.occ_renamed.specs.occ_syntax.Meaning.{ended, ends, fails, meaning, refusing}
-use Rattle.occ_renamed.specs.occ_syntax.Scopes.{Environment, EventSet, Trace, Values, environment, in_interface, same_dir, same_event, values}
-use Rattle.occ_renamed.specs.occ_syntax.Tree.{Tree}
-use Rattle.occ_renamed.specs.occ_syntax.declared.scope.Kind.{Kind}
+use Rattle.occ_nform.specs.occ_syntax.Meaning.{ended, ends, fails, meaning, refusing}
+use Rattle.occ_nform.specs.occ_syntax.Scopes.{Environment, EventSet, Trace, Values, environment, in_interface, same_dir, same_event, values}
+use Rattle.occ_nform.specs.occ_syntax.Tree.{Tree}
+use Rattle.occ_nform.specs.occ_syntax.declared.scope.Kind.{Kind}
 
 module _ (f : ℕ → ℕ) (one : IsOneForOne f) where
   -- ---- what rows do

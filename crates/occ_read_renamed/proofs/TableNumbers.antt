@@ -2,13 +2,13 @@
 use Rattle.std.proofs.Common.{◌≡◌, ℕ, true, ◌==◌, not, ◌&&◌, List, [], ◌∷◌, refl, sym, ap, ap₂, ◌∙◌}
 use Rattle.std.specs.List.{list_all}
 use Rattle.std.proofs.lemmas.Bool.{and_parts, both_ways, eq-eqb, not-true}
-use Rattle.occ_renamed.specs.occ_base.declared.names.Name.{Name}
-use Rattle.occ_nform.specs.occ_meaning.Rename.{exchanging}
+use Rattle.occ_nform.specs.occ_base.declared.names.Name.{Name}
+use Rattle.occ_renamed.specs.occ_meaning.Rename.{exchanging}
 use Rattle.occ_read_renamed.proofs.Exchanges.{Exchanges, applied, exchanges_one, left_alone, to_second}
 use Rattle.occ_read_renamed.proofs.Headers.{AreLike, Table}
 use Rattle.occ_nform.proofs.from_nform_table.ReadEvents.{Apart}
 use Rattle.occ_renamed.specs.Renamed.{kinds_renamed}
-use Rattle.occ_renamed.specs.occ_syntax.declared.scope.Kind.{Kind}
+use Rattle.occ_nform.specs.occ_syntax.declared.scope.Kind.{Kind}
 
 -- no parameter has the number
 abbrev lack : ℕ → (ℕ → ℕ) → List (Name × Kind) → Type 0

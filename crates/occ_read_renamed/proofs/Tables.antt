@@ -4,8 +4,8 @@ use Rattle.std.specs.List.{AllByRecursion}
 use Rattle.std.specs.Prelude.{IfSome}
 use Rattle.std.proofs.lemmas.Option.{get_or_from_slice_get, slice_get-get_or, slice_get_within}
 use Rattle.std.proofs.Math.ListN.{get_or-append}
-use Rattle.occ_renamed.specs.occ_base.Names.{IsDistinct, place_of, with_text}
-use Rattle.occ_renamed.proofs.from_base.Naming.{naming}
+use Rattle.occ_nform.specs.occ_base.Names.{IsDistinct, place_of, with_text}
+use Rattle.occ_nform.proofs.from_base.Naming.{naming}
 use Rattle.occ_renamed.specs.occ_lex.Symbols.{Extends}
 use Rattle.occ_renamed.proofs.from_lex.Interned.{extends_text, extends_trans, longer}
 use Rattle.occ_renamed.proofs.from_parse.Texts.{stays}

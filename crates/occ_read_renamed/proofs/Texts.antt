@@ -4,11 +4,11 @@ use Rattle.std.specs.Prelude.{codes, decimal}
 use Rattle.std.proofs.lemmas.Bool.{cases_lt}
 use Rattle.std.proofs.lemmas.List.{length-map}
 use Rattle.std.proofs.lemmas.Option.{slice_get-get_or, slice_get_cases, slice_get_within}
-use Rattle.occ_renamed.specs.occ_base.declared.event.Event.{Event}
-use Rattle.occ_renamed.specs.occ_base.declared.names.Name.{Name}
-use Rattle.occ_renamed.specs.occ_base.Names.{IsDistinct}
-use Rattle.occ_nform.proofs.from_meaning.RenamedTrees.{trees_agree}
-use Rattle.occ_nform.specs.occ_meaning.Rename.{renamed, renamed_event}
+use Rattle.occ_nform.specs.occ_base.declared.event.Event.{Event}
+use Rattle.occ_nform.specs.occ_base.declared.names.Name.{Name}
+use Rattle.occ_nform.specs.occ_base.Names.{IsDistinct}
+use Rattle.occ_renamed.proofs.from_meaning.RenamedTrees.{trees_agree}
+use Rattle.occ_renamed.specs.occ_meaning.Rename.{renamed, renamed_event}
 use Rattle.occ_nform.specs.Written.{IsNormalText}
 use Rattle.occ_read_renamed.proofs.Bounds.{below_top, top}
 use Rattle.occ_read_renamed.proofs.Exchanges.{applied, so_below}
@@ -25,8 +25,8 @@ use Rattle.occ_nform.proofs.from_nform_table.TextTables.{reads_back}
 use Rattle.occ_nform.proofs.from_nform_table.Whole.{normal_text}
 use Rattle.occ_renamed.specs.Renamed.{kinds_renamed}
 use Rattle.occ_read_renamed.specs.Readings.{IsRenumbering}
-use Rattle.occ_renamed.specs.occ_syntax.Tree.{Tree}
-use Rattle.occ_renamed.specs.occ_syntax.declared.scope.Kind.{Kind}
+use Rattle.occ_nform.specs.occ_syntax.Tree.{Tree}
+use Rattle.occ_nform.specs.occ_syntax.declared.scope.Kind.{Kind}
 
 -- ---- two maps that agree below a number
 

@@ -1,10 +1,10 @@
 -- The parameters of a program that was read are an interface.
 use Rattle.std.proofs.Common.{◌≡◌, ℕ, ◌≤◌, true, false, List, [], length, None, refl, sym, ap, subst, ◌∙◌, arith}
-use Rattle.occ_renamed.specs.occ_base.declared.names.Name.{Name}
-use Rattle.occ_renamed.specs.occ_base.Names.{IsDistinct}
-use Rattle.occ_renamed.specs.occ_syntax.declared.scope.Kind.{Kind}
-use Rattle.occ_renamed.specs.occ_syntax.Counts.{bits_of_scope}
-use Rattle.occ_renamed.specs.occ_syntax.Tree.{Tree}
+use Rattle.occ_nform.specs.occ_base.declared.names.Name.{Name}
+use Rattle.occ_nform.specs.occ_base.Names.{IsDistinct}
+use Rattle.occ_nform.specs.occ_syntax.declared.scope.Kind.{Kind}
+use Rattle.occ_nform.specs.occ_syntax.Counts.{bits_of_scope}
+use Rattle.occ_nform.specs.occ_syntax.Tree.{Tree}
 use Rattle.occ_renamed.specs.occ_lex.Rows.{reading_of}
 use Rattle.occ_renamed.specs.occ_lex.Symbols.{Extends}
 use Rattle.occ_renamed.proofs.from_lex.Interned.{extends_trans}

@@ -1,11 +1,11 @@
 -- What one text reads as with two tables of names.
 use Rattle.std.specs.Prelude.{ℕ, ◌≡◌, ◌≤◌, List, length, slice_get, Some}
-use Rattle.occ_renamed.specs.occ_base.declared.names.Name.{Name}
-use Rattle.occ_nform.specs.occ_meaning.Rename.{renamed}
+use Rattle.occ_nform.specs.occ_base.declared.names.Name.{Name}
+use Rattle.occ_renamed.specs.occ_meaning.Rename.{renamed}
 use Rattle.occ_renamed.specs.Renamed.{kinds_renamed, name_renamed}
 use Rattle.occ_renamed.specs.Standing.{IsOneForOne}
-use Rattle.occ_renamed.specs.occ_syntax.declared.scope.Kind.{Kind}
-use Rattle.occ_renamed.specs.occ_syntax.Tree.{Tree}
+use Rattle.occ_nform.specs.occ_syntax.declared.scope.Kind.{Kind}
+use Rattle.occ_nform.specs.occ_syntax.Tree.{Tree}
 
 -- each text of the one table stands somewhere in the other
 abbrev pub StandIn : List (List ℕ) → List (List ℕ) → Type 0

@@ -1,9 +1,9 @@
-ghost use Rattle.occ_renamed.specs.occ_base.Names.{IsDistinct};
-ghost use Rattle.occ_renamed.specs.occ_base.declared.names.Name.{Name};
+ghost use Rattle.occ_nform.specs.occ_base.Names.{IsDistinct};
+ghost use Rattle.occ_nform.specs.occ_base.declared.names.Name.{Name};
 ghost use Rattle.occ_renamed.specs.occ_parse.Reading.{IsRead};
 ghost use Rattle.occ_renamed.specs.occ_parse.declared.bound.Bound.TheVariants as bound;
-ghost use Rattle.occ_renamed.specs.occ_syntax.Tree.{Tree};
-ghost use Rattle.occ_renamed.specs.occ_syntax.declared.scope.Kind.{Kind};
+ghost use Rattle.occ_nform.specs.occ_syntax.Tree.{Tree};
+ghost use Rattle.occ_nform.specs.occ_syntax.declared.scope.Kind.{Kind};
 ghost use Rattle.occ_nform.specs.occ_nform_table.Tables.{are_params, IsInterface};
 ghost use Rattle.std.specs.Prelude.{[], List, true, ℕ, ◌≡◌};
 

@@ -2,19 +2,19 @@
 //! nothing.
 
 ghost use Rattle.std.specs.Prelude.{ℕ, ◌≡◌, ◌<◌, ◌^◌, ◌↔◌, List, Ok, length};
-ghost use Rattle.occ_renamed.specs.occ_base.Names.{IsDistinct};
-ghost use Rattle.occ_renamed.specs.occ_base.declared.names.Name.{Name};
-ghost use Rattle.occ_nform.specs.occ_meaning.Rename.{renamed};
+ghost use Rattle.occ_nform.specs.occ_base.Names.{IsDistinct};
+ghost use Rattle.occ_nform.specs.occ_base.declared.names.Name.{Name};
+ghost use Rattle.occ_renamed.specs.occ_meaning.Rename.{renamed};
 ghost use Rattle.occ_nform.specs.Written.{IsNormalText};
 ghost use Rattle.occ_read_renamed.specs.Read.{IsReadWith};
 ghost use Rattle.occ_nform.specs.occ_nform_table.Normal.{Parts, text_read};
 ghost use Rattle.occ_renamed.specs.Renamed.{kinds_renamed};
 ghost use Rattle.occ_renamed.specs.Standing.{IsOneForOne};
 ghost use Rattle.occ_read_renamed.specs.Readings.{IsRenumbering};
-ghost use Rattle.occ_renamed.specs.occ_syntax.Same.{SAME};
-ghost use Rattle.occ_renamed.specs.occ_syntax.Scopes.{environment};
-ghost use Rattle.occ_renamed.specs.occ_syntax.Tree.{Tree};
-ghost use Rattle.occ_renamed.specs.occ_syntax.declared.scope.Kind.{Kind};
+ghost use Rattle.occ_nform.specs.occ_syntax.Same.{SAME};
+ghost use Rattle.occ_nform.specs.occ_syntax.Scopes.{environment};
+ghost use Rattle.occ_nform.specs.occ_syntax.Tree.{Tree};
+ghost use Rattle.occ_nform.specs.occ_syntax.declared.scope.Kind.{Kind};
 
 /// The normal text of a program is the normal text of the program under other numbers, by a table in which each name has its text under
 /// its other number. A text in memory has fewer than 2 ^ 64 bytes.

@@ -2,14 +2,14 @@
 //! contract of a function without a body of its own.
 
 ghost use Rattle.std.specs.Prelude.{ℕ, List};
-ghost use Rattle.occ_renamed.specs.occ_base.Names.{IsDistinct};
-ghost use Rattle.occ_renamed.specs.occ_base.declared.names.Name.{Name};
+ghost use Rattle.occ_nform.specs.occ_base.Names.{IsDistinct};
+ghost use Rattle.occ_nform.specs.occ_base.declared.names.Name.{Name};
 ghost use Rattle.occ_renamed.specs.occ_parse.Reading.{IsRead, IsRefused};
 ghost use Rattle.occ_renamed.specs.occ_parse.declared.fault.ParseFault.{ParseFault};
 ghost use Rattle.occ_renamed.specs.occ_parse.declared.bound.Bound.{Bound};
 ghost use Rattle.occ_read_renamed.specs.Readings.{AreRenamed, StandIn};
-ghost use Rattle.occ_renamed.specs.occ_syntax.Tree.{Tree};
-ghost use Rattle.occ_renamed.specs.occ_syntax.declared.scope.Kind.{Kind};
+ghost use Rattle.occ_nform.specs.occ_syntax.Tree.{Tree};
+ghost use Rattle.occ_nform.specs.occ_syntax.declared.scope.Kind.{Kind};
 
 use occ_renamed::one_form;
 

@@ -1,9 +1,9 @@
 -- From the roots of two programs to the programs.
 use Rattle.std.proofs.Common.{◌≡◌, ◌<◌, ◌≤◌, ◌^◌, ◌↔◌, ℕ, Bool, true, false, cond, List, [], ◌∷◌, Option, Some, None, is_some, Result, Ok, Err, IfOk, refl, sym, ap, ◌∙◌, subst, arith}
 use mathlib.Core.Path.{fun_ext}
-use Rattle.occ_norm.specs.occ_base.declared.event.Event.{Event}
-use Rattle.occ_norm.specs.occ_base.declared.names.Name.{Name}
-use Rattle.occ_norm.specs.occ_base.declared.width.Width.{Width}
+use Rattle.occ_syntax.specs.occ_base.declared.event.Event.{Event}
+use Rattle.occ_syntax.specs.occ_base.declared.names.Name.{Name}
+use Rattle.occ_syntax.specs.occ_base.declared.width.Width.{Width}
 use Rattle.occ_syntax.specs.declared.scope.Kind.{Kind}
 use Rattle.occ_syntax.specs.Counts.{bits_of_scope}
 use Rattle.occ_syntax.specs.Meaning.{ended, refusing, fails as part_fails, ends as part_ends}
@@ -32,7 +32,7 @@ use Rattle.occ_norm.specs.occ_behaviour.Members.{IsRight}
 use Rattle.occ_norm.specs.occ_behaviour.States.{is_state}
 use Rattle.occ_norm.specs.occ_compare.Interface.{AreComparable, IsOfInterface}
 use Rattle.occ_norm.specs.occ_compare.Places.{state_at}
-use Rattle.occ_norm.specs.occ_base.declared.memory.Memory.{Memory}
+use Rattle.occ_syntax.specs.occ_base.declared.memory.Memory.{Memory}
 use Rattle.occ_norm.specs.occ_compare.Verdicts.{BelongsToOne, IsFirst as IsRowFirst, IsMember, IsPrintable, MeanTheSame, Stands}
 use Rattle.occ_norm.specs.occ_compare.Walk.{IsFirstDifference as IsRowDifference}
 use Rattle.occ_norm.proofs.from_compare.Found.{node_at}

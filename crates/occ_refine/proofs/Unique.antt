@@ -1,6 +1,6 @@
 -- Two programs have one verdict.
 use Rattle.std.proofs.Common.{◌≡◌, List, refl, sym, ap}
-use Rattle.occ_norm.specs.occ_base.declared.names.Name.{Name}
+use Rattle.occ_syntax.specs.occ_base.declared.names.Name.{Name}
 use Rattle.occ_syntax.specs.declared.scope.Kind.{Kind}
 use Rattle.occ_syntax.specs.Tree.{Tree}
 use Rattle.occ_norm.specs.occ_behaviour.declared.behaviour.Side.TheVariants.{First, Second}

@@ -3,8 +3,8 @@ use Rattle.std.proofs.Common.{◌≡◌, ◌⊎◌, ◌≤◌, ◌||◌, ◌&&�
 use Rattle.std.proofs.Math.Bool.{or_comm}
 use Rattle.std.proofs.lemmas.Bool.{both_ways}
 use Rattle.std.specs.Ordering.{is_lt}
-use Rattle.occ_norm.specs.occ_base.declared.event.Event.{Event}
-use Rattle.occ_norm.specs.occ_base.declared.names.Name.{Name}
+use Rattle.occ_syntax.specs.occ_base.declared.event.Event.{Event}
+use Rattle.occ_syntax.specs.occ_base.declared.names.Name.{Name}
 use Rattle.occ_syntax.specs.declared.scope.Kind.{Kind}
 use Rattle.occ_syntax.specs.Counts.{bits_of_scope}
 use Rattle.occ_syntax.specs.Types.{scope_kept}

@@ -1,9 +1,9 @@
 -- All events of an interface.
 use Rattle.std.specs.Prelude.{ℕ, ◌==◌, ◌^◌, ◌&&◌, ◌||◌, Bool, true, false, nat_lt, List, [], ◌∷◌, Option, Some, None}
-use Rattle.occ_norm.specs.occ_base.declared.event.Dir.{Dir}
-use Rattle.occ_norm.specs.occ_base.declared.event.Event.{Event}
-use Rattle.occ_norm.specs.occ_base.declared.names.Name.{Name}
-use Rattle.occ_norm.specs.occ_base.Width.{bits_of}
+use Rattle.occ_syntax.specs.occ_base.declared.event.Dir.{Dir}
+use Rattle.occ_syntax.specs.occ_base.declared.event.Event.{Event}
+use Rattle.occ_syntax.specs.occ_base.declared.names.Name.{Name}
+use Rattle.occ_syntax.specs.occ_base.Width.{bits_of}
 use Rattle.occ_syntax.specs.declared.scope.Kind.{Kind}
 use Rattle.occ_syntax.specs.declared.scope.Kind.TheVariants.{Var, Chan}
 use Rattle.occ_syntax.specs.Scopes.{same_dir}

@@ -3,8 +3,8 @@ ghost use Rattle.occ_syntax.specs.Counts.{bits_of_scope};
 ghost use Rattle.occ_norm.specs.occ_dd.Store.{IsKnown};
 ghost use Rattle.occ_refine.specs.Rows.{is_extra, IsLeastExtra, NoExtra};
 
-use occ_norm::{Name, SetId, Store, assignment, last_number};
-use occ_syntax::Kind;
+use occ_norm::{SetId, Store, assignment, last_number};
+use occ_syntax::{Kind, Name};
 
 // Whether the one set has an assignment that the other hasn't.
 fn is_extra(store: &Store, own: SetId, other: SetId, bits: u64) -> bool

@@ -1,6 +1,6 @@
 ghost use Rattle.std.specs.Prelude.{◌≡◌, ◌||◌, ◌≤◌, ◌^◌, true, OnOk, IfOk};
-ghost use Rattle.occ_norm.specs.occ_base.declared.event.Event.{Event};
-ghost use Rattle.occ_norm.specs.occ_base.Width.{bits_of};
+ghost use Rattle.occ_syntax.specs.occ_base.declared.event.Event.{Event};
+ghost use Rattle.occ_syntax.specs.occ_base.Width.{bits_of};
 ghost use Rattle.occ_syntax.specs.Types.{scope_kept};
 ghost use Rattle.occ_syntax.specs.Scopes.{environment, in_interface};
 ghost use Rattle.occ_norm.specs.occ_accept.Order.{strict};
@@ -8,8 +8,8 @@ ghost use Rattle.occ_norm.specs.occ_accept.Accept.{in_set};
 ghost use Rattle.occ_norm.specs.occ_compare.Orders.{print_cmp};
 ghost use Rattle.occ_refine.specs.Interfaces.{in_values, in_marked, in_params};
 
-use occ_norm::{Dir, Event, Events, Memory, Name, in_order, listed};
-use occ_syntax::Kind;
+use occ_norm::{in_order, listed};
+use occ_syntax::{Dir, Event, Events, Kind, Memory, Name};
 use std::alloc::Global;
 
 // Adds the events of a channel in one direction, with values below 2 to the number of bits.

@@ -4,8 +4,8 @@ ghost use Rattle.occ_norm.specs.occ_accept.Accept.{is_part};
 ghost use Rattle.occ_norm.specs.occ_compare.Orders.{set_cmp};
 ghost use Rattle.occ_refine.specs.Rows.{is_met, AllMet, IsLeastUnmet};
 
-use occ_norm::{AcceptSet, Event, Memory, Name, in_order, is_less};
-use occ_syntax::Kind;
+use occ_norm::{AcceptSet, in_order, is_less};
+use occ_syntax::{Event, Kind, Memory, Name};
 use std::alloc::Global;
 
 // Whether each event of a set is in the other.

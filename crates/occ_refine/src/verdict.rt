@@ -4,7 +4,8 @@ ghost use Rattle.occ_norm.specs.occ_behaviour.Members.{IsRight};
 ghost use Rattle.occ_norm.specs.occ_compare.Verdicts.{IsPrintable};
 ghost use Rattle.occ_refine.specs.Verdict.{IsVerdictOf};
 
-use occ_norm::{Accepted, Memory, Verdict, World, compare, normalise};
+use occ_norm::{Accepted, Verdict, World, compare, normalise};
+use occ_syntax::Memory;
 use std::alloc::Global;
 
 /// Whether two accepted programs of one interface mean the same, and else a behaviour that belongs to exactly the one of them

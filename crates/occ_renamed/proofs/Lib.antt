@@ -19,7 +19,6 @@ mod Symbols
 pub mod ScriptLines
 pub mod Texts
 pub mod Moving
-pub use Rattle.occ_replay_rules.proofs.from_base as from_base
 pub use Rattle.occ_replay_rules.proofs.from_lex as from_lex
 pub use Rattle.occ_replay_rules.proofs.from_meaning as from_meaning
 pub use Rattle.occ_replay_rules.proofs.from_parse as from_parse
@@ -29,4 +28,5 @@ pub use Rattle.occ_replay_rules.proofs.from_parse_rules as from_parse_rules
 pub use Rattle.occ_replay_rules.proofs.from_parse_unroll as from_parse_unroll
 pub use Rattle.occ_replay_rules.proofs.from_print as from_print
 pub use Rattle.occ_replay_rules.proofs.from_script_lines as from_script_lines
+pub use Rattle.occ_replay_rules.proofs.from_syntax as from_syntax
 pub use Rattle.occ_replay_rules.proofs.from_usage as from_usage

@@ -18,8 +18,8 @@ ghost use Rattle.occ_replay_rules.specs.occ_parse_rules.Unrolled.{Numbers, param
 ghost use Rattle.occ_replay_rules.specs.occ_parse_rules.Programs.{param_scope};
 ghost use Rattle.occ_replay_rules.specs.occ_parse_unroll.Elements.{program_places};
 
-/// Symbols under other names say, and say no more than, what they said, with the other names, where no two names have one other name, and
-/// the names of the symbols come back by a second such map.
+/// Renaming commutes with reading: where symbols read as a form, the renamed symbols read as the renamed form. No two names have one new
+/// name, and a second such map leads the names of the symbols back.
 pub fn forms_are_renamed()
     ensures { (f back : ℕ → ℕ) (symbols : List Symbol) (s : Shape) → IsOneForOne f → IsOneForOne back
         → symbols_renamed back (symbols_renamed f symbols) ≡ symbols → IsForm symbols s

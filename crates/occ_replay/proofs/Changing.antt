@@ -1,9 +1,9 @@
 -- A part put into a program.
 use Rattle.std.proofs.Common.{◌≡◌, ℕ, true, List, Option, Some, None, refl, sym, ap, subst, ◌∙◌}
 use Rattle.std.proofs.lemmas.Option.{same_Some}
-use Rattle.occ_script.specs.occ_base.declared.names.Name.{Name}
-use Rattle.occ_script.specs.occ_meaning.Context.{environment_at, part_at, put}
-use Rattle.occ_script.proofs.from_meaning.Places.{part_keeps, put_scope, put_there}
+use Rattle.occ_syntax.specs.occ_base.declared.names.Name.{Name}
+use Rattle.occ_law_any.specs.occ_meaning.Context.{environment_at, part_at, put}
+use Rattle.occ_law_any.proofs.from_meaning.Places.{part_keeps, put_scope, put_there}
 use Rattle.occ_script.specs.occ_parse_part.Parts.{Part}
 use Rattle.occ_script.specs.occ_parse_part.Resolving.{part_fault, part_process}
 use Rattle.occ_replay.specs.declared.change.Change.{Change}

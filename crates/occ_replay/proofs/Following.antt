@@ -1,6 +1,6 @@
 -- Steps that are taken one after the other.
 use Rattle.std.proofs.Common.{◌≡◌, ℕ, ◌+◌, ◌<◌, zero, suc, true, add-one, List, [], ◌∷◌, ◌++◌, length, map, take, drop, get_or, Some, refl, sym, ap, subst, ◌∙◌, arith}
-use Rattle.occ_script.specs.occ_base.declared.names.Name.{Name}
+use Rattle.occ_syntax.specs.occ_base.declared.names.Name.{Name}
 use Rattle.occ_replay.specs.Changes.{IsStopped, IsTaken}
 use Rattle.occ_replay.specs.declared.change.Stopped.{Stopped}
 use Rattle.occ_replay.specs.declared.change.Stopped.TheVariants as stopped

@@ -1,7 +1,7 @@
 -- A part put into a program, and a step that is taken or isn't.
 use Rattle.std.specs.Prelude.{◌≡◌, List, Option, None, Some}
-use Rattle.occ_script.specs.occ_base.declared.names.Name.{Name}
-use Rattle.occ_script.specs.occ_meaning.Context.{part_at}
+use Rattle.occ_syntax.specs.occ_base.declared.names.Name.{Name}
+use Rattle.occ_law_any.specs.occ_meaning.Context.{part_at}
 use Rattle.occ_script.specs.occ_parse_part.Parts.{Part}
 use Rattle.occ_script.specs.occ_parse_part.Resolving.{part_fault, part_process}
 use Rattle.occ_replay.specs.declared.change.Change.{Change}

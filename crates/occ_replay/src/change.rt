@@ -1,7 +1,7 @@
 //! A part put into a program, and whether a law joins the old part and the new one.
 
 ghost use Rattle.std.specs.Prelude.{◌≡◌, ◌↔◌, IfErr, IfOk, IsTrue, IsSome, true};
-ghost use Rattle.occ_script.specs.occ_meaning.Context.{part_at};
+ghost use Rattle.occ_law_any.specs.occ_meaning.Context.{part_at};
 ghost use Rattle.occ_script.specs.occ_parse_part.Shown.{part_of};
 ghost use Rattle.occ_replay.specs.Changes.{IsChange, IsRefused, IsResolved, IsUnresolved};
 ghost use Rattle.occ_replay.specs.Scripts.{step_of};
@@ -15,8 +15,8 @@ ghost use Rattle.occ_law_any.specs.occ_usage.Accepted.{KeepsRules};
 ghost use Rattle.occ_replay.specs.declared.change.Stopped.TheVariants as stopped;
 
 use occ_law_any::keeps_exchanged;
-use occ_script::{Direction, LawId, Memory, ParseFault, Raw, Step, Store, at, replace, resolve};
-use occ_syntax::{Proc, Program, Scope};
+use occ_script::{Direction, LawId, ParseFault, Raw, Step, Store, at, replace, resolve};
+use occ_syntax::{Memory, Proc, Program, Scope};
 use std::alloc::Global;
 
 /// Why a step isn't taken.

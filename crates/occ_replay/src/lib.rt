@@ -6,11 +6,12 @@ mod replaying;
 mod result;
 mod step;
 
-pub use occ_law_any::{Accepted, UsageFault, check};
-pub use occ_replay_rules::{derivations_join_the_same, scripts_have_one_answer};
+pub use occ_replay_rules::{
+    derivations_join_the_same, parts_are_known_up_to_their_greatest_name, scripts_have_one_answer,
+};
 pub use occ_script::{
-    Direction, LawId, LineFault, Path, Raw, Script, ScriptFault, Step, at, law_name as name,
-    one_orders, one_script, orders, read, replace, resolve, scope_at,
+    Direction, LawId, LineFault, Path, Raw, Script, ScriptFault, Step, at, name, one_orders,
+    one_script, orders, read, replace, resolve, scope_at,
 };
 pub use replaying::replay;
 pub use result::{Joined, Rejected};

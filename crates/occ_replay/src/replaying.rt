@@ -8,8 +8,8 @@ use crate::change::Stopped;
 use crate::step::take_step;
 use crate::{Joined, Rejected};
 use occ_law_any::{Accepted, UsageFault, check};
-use occ_script::{Name, Script, Step, Store};
-use occ_syntax::{Kind, Program, same_proc};
+use occ_script::{Script, Step, Store};
+use occ_syntax::{Program, same_proc};
 use std::alloc::Global;
 
 /// Why a step isn't taken, with its number.
@@ -45,34 +45,11 @@ fn follow(alloc: Global, from: &Program, steps: &[Step]) -> Result<Program, Reje
     Ok(program)
 }
 
-fn is_same_parameter(left: (Name, Kind), right: (Name, Kind)) -> bool
-    ensures { IsTrue result ↔ (left ≡ right) }
-{
-    left == right
-}
-
-fn same_parameters(left: &[(Name, Kind)], right: &[(Name, Kind)]) -> bool
-    ensures { IsTrue result ↔ (left.now ≡ right.now) }
-{
-    match left {
-        [] => right.is_empty(),
-        [first, left @ ..] => match right {
-            [] => false,
-            [second, right @ ..] => {
-                is_same_parameter(*first, *second) && same_parameters(left, right)
-            }
-        },
-    }
-}
-
 /// Whether two programs are the same tree, with one name and the same parameters. It takes no memory.
 fn same_program(left: &Program, right: &Program) -> bool
     ensures { IsTrue result ↔ IsEndOf left.now right.now }
 {
-    if left.name != right.name {
-        return false;
-    }
-    if !same_parameters(left.params.items(), right.params.items()) {
+    if !left.has_header_of(right) {
         return false;
     }
     same_proc(&left.body, &right.body)

@@ -1,6 +1,5 @@
 use occ_law_any::UsageFault;
-use occ_script::Memory;
-use occ_syntax::Program;
+use occ_syntax::{Memory, Program};
 use thiserror::Error;
 
 /// The two programs that a script joins, and how many steps it has.

@@ -1,8 +1,8 @@
 -- What holds along a derivation.
 use Rattle.std.proofs.Common.{◌≡◌, ℕ, true, List, [], ◌∷◌, ◌++◌, refl, sym, subst, ◌∙◌}
-use Rattle.occ_script_lines.specs.occ_base.declared.names.Name.{Name}
+use Rattle.occ_print.specs.occ_base.declared.names.Name.{Name}
 use Rattle.occ_law_sound.specs.occ_law.RuleTable.{LAW}
-use Rattle.occ_law_sound.proofs.from_meaning.Alike.{same_back, same_itself, same_through}
+use Rattle.occ_parse_part.proofs.from_meaning.Alike.{same_back, same_itself, same_through}
 use Rattle.occ_replay_rules.specs.Steps.{Derives, IsGoodStep, Joins, Step, and_step, new_part, new_whole, no_step, scope_there}
 use Rattle.occ_script_lines.specs.declared.direction.Direction.{Direction}
 use Rattle.occ_script_lines.specs.declared.direction.Direction.TheVariants as direction

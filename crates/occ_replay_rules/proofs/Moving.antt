@@ -1,13 +1,13 @@
 -- What is followed and granted are moves, and moves lead to what means the same.
 use Rattle.std.proofs.Common.{◌≡◌, ◌∙◌, ℕ, ◌==◌, Bool, true, false, MatchBool, ◌⊎◌, inl, List, [], ◌∷◌, Option, Some, None, refl, ap, sym, subst}
 use Rattle.std.proofs.lemmas.Bool.{eqb-true}
-use Rattle.occ_script_lines.specs.occ_base.declared.names.Name.{Name}
+use Rattle.occ_print.specs.occ_base.declared.names.Name.{Name}
 use Rattle.occ_replay_rules.specs.Expansion.{Grants, IsExpanded, and_wish, no_wish}
 use Rattle.occ_replay_rules.specs.Moves.{IsAdmitted, IsApplied, IsGranted, IsMove, Move, Moves, Wish, and_move, no_move}
 use Rattle.occ_replay_rules.specs.Orders.{Follows, Order, and_order, no_order}
 use Rattle.occ_law_sound.specs.occ_law.RuleTable.{DIRECT_SIDES, IsDirect, LAW, SIDES, has_direct}
-use Rattle.occ_law_sound.proofs.from_meaning.Alike.{same_back, same_itself, same_through}
-use Rattle.occ_law_sound.specs.occ_meaning.Context.{part_at, put}
+use Rattle.occ_parse_part.proofs.from_meaning.Alike.{same_back, same_itself, same_through}
+use Rattle.occ_parse_part.specs.occ_meaning.Context.{part_at, put}
 use Rattle.occ_replay_rules.specs.Steps.{Joins}
 use Rattle.occ_script_lines.proofs.Scoping.{put_in_same}
 use Rattle.occ_script_lines.specs.declared.direction.Direction.{Direction}

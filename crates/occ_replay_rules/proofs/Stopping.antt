@@ -1,6 +1,6 @@
 -- Steps stop at one place for one lack, and steps that stop derive nothing.
 use Rattle.std.proofs.Common.{◌≡◌, ℕ, ◌+◌, List, [], ◌∷◌, ◌++◌, length, Option, Some, None, refl, sym, ap, subst, ◌∙◌, arith}
-use Rattle.occ_script_lines.specs.occ_base.declared.names.Name.{Name}
+use Rattle.occ_print.specs.occ_base.declared.names.Name.{Name}
 use Rattle.occ_replay_rules.specs.Steps.{Derives, IsGoodStep, Joins, Lack, Lacks, Step, Stops, new_part, new_whole, nowhere, scope_there, unacceptable, unjoined, unnamed}
 use Rattle.occ_replay_rules.proofs.Deriving.{begun, ended}
 use Rattle.occ_print.specs.occ_syntax.declared.scope.Kind.{Kind}

@@ -1,10 +1,10 @@
 -- A PAR of two parts expanded: each part is made an ALT first, and then par-expand is used.
 use Rattle.std.specs.Prelude.{ℕ, ◌≡◌, List, [], ◌∷◌, ◌++◌, Option, Some, None}
-use Rattle.occ_script_lines.specs.occ_base.declared.names.Name.{Name}
+use Rattle.occ_print.specs.occ_base.declared.names.Name.{Name}
 use Rattle.occ_replay_rules.specs.Moves.{IsAdmitted, IsApplied, IsGranted, Move, Wish}
 use Rattle.occ_law_sound.specs.occ_law.Choice.{and_skip}
-use Rattle.occ_law_sound.specs.occ_meaning.Context.{part_at, put}
-use Rattle.occ_law_sound.specs.occ_meaning.Parallel.{two}
+use Rattle.occ_parse_part.specs.occ_meaning.Context.{part_at, put}
+use Rattle.occ_parse_part.specs.occ_meaning.Parallel.{two}
 use Rattle.occ_script_lines.specs.declared.direction.Direction.TheVariants as direction
 use Rattle.occ_script_lines.specs.Places.{scope_list}
 use Rattle.occ_print.specs.occ_syntax.declared.scope.Kind.{Kind}

@@ -1,8 +1,8 @@
 -- Moves: laws used on parts of a process, one after the other.
 use Rattle.std.specs.Prelude.{ℕ, ◌≡◌, ◌≤◌, List, [], ◌∷◌, Option, Some, None}
-use Rattle.occ_script_lines.specs.occ_base.declared.names.Name.{Name}
+use Rattle.occ_print.specs.occ_base.declared.names.Name.{Name}
 use Rattle.occ_law_sound.specs.occ_law.RuleTable.{IsDirect}
-use Rattle.occ_law_sound.specs.occ_meaning.Context.{part_at, put}
+use Rattle.occ_parse_part.specs.occ_meaning.Context.{part_at, put}
 use Rattle.occ_print.specs.Lines.{most_symbols, part_lines}
 use Rattle.occ_replay_rules.specs.Steps.{Joins}
 use Rattle.occ_script_lines.specs.declared.direction.Direction.{Direction}

@@ -1,8 +1,8 @@
 -- What steps derive from a process, and why they stop.
 use Rattle.std.specs.Prelude.{ℕ, ◌≡◌, ◌+◌, List, [], ◌∷◌, ◌++◌, length, Option, Some, None}
-use Rattle.occ_script_lines.specs.occ_base.declared.names.Name.{Name}
+use Rattle.occ_print.specs.occ_base.declared.names.Name.{Name}
 use Rattle.occ_law_sound.specs.occ_law.RuleTable.{LAW}
-use Rattle.occ_law_sound.specs.occ_meaning.Context.{part_at, put}
+use Rattle.occ_parse_part.specs.occ_meaning.Context.{part_at, put}
 use Rattle.occ_parse_part.specs.Parts.{Part}
 use Rattle.occ_parse_part.specs.Resolving.{part_fault, part_process}
 use Rattle.occ_script_lines.specs.declared.direction.Direction.{Direction}

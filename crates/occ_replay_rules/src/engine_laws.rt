@@ -2,7 +2,7 @@
 //! definitions and their laws; the engine itself stands on them.
 
 ghost use Rattle.std.specs.Prelude.{ℕ, ◌≡◌, List, true};
-ghost use Rattle.occ_script_lines.specs.occ_base.declared.names.Name.{Name};
+ghost use Rattle.occ_print.specs.occ_base.declared.names.Name.{Name};
 ghost use Rattle.occ_replay_rules.specs.Expansion.{IsExpanded};
 ghost use Rattle.occ_replay_rules.specs.Moves.{Move, Moves};
 ghost use Rattle.occ_replay_rules.specs.Orders.{Follows, Order};

@@ -2,7 +2,7 @@
 //! their laws; the replay itself stands on them.
 
 ghost use Rattle.std.specs.Prelude.{◌≡◌, ◌++◌, List};
-ghost use Rattle.occ_script_lines.specs.occ_base.declared.names.Name.{Name};
+ghost use Rattle.occ_print.specs.occ_base.declared.names.Name.{Name};
 ghost use Rattle.occ_replay_rules.specs.Replays.{IsDerivation, Replayed, Replays};
 ghost use Rattle.occ_replay_rules.specs.Steps.{Derives, Step};
 ghost use Rattle.occ_print.specs.occ_syntax.Same.{SAME};

@@ -1,7 +1,7 @@
 -- Control trees after a step.
 use Rattle.std.proofs.Common.{◌≡◌, List, [], ◌∷◌, refl, ap}
-use Rattle.occ_behaviour.specs.occ_base.declared.names.Name.{Name}
-use Rattle.occ_behaviour.specs.occ_base.declared.width.Width.{Width}
+use Rattle.occ_syntax.specs.occ_base.declared.names.Name.{Name}
+use Rattle.occ_syntax.specs.occ_base.declared.width.Width.{Width}
 use Rattle.occ_run_steps.specs.Control.{Control, channel}
 use Rattle.occ_run.specs.Effects.{Effect, applied}
 use Rattle.occ_run.specs.View.{in_channels}

@@ -3,8 +3,8 @@ use Rattle.std.proofs.Common.{◌≡◌, ◌==◌, ℕ, None, List, [], ◌∷�
 use Rattle.std.specs.List.{filter}
 use Rattle.std.proofs.Common.{Result, Ok, Err, IfOk}
 use Rattle.occ_syntax.specs.Tree.{Trees}
-use Rattle.occ_behaviour.specs.occ_base.declared.names.Name.{Name}
-use Rattle.occ_behaviour.specs.occ_base.declared.width.Width.{Width}
+use Rattle.occ_syntax.specs.occ_base.declared.names.Name.{Name}
+use Rattle.occ_syntax.specs.occ_base.declared.width.Width.{Width}
 use Rattle.occ_syntax.specs.declared.scope.Kind.TheVariants.{Chan, Var}
 use Rattle.occ_syntax.specs.Scopes.{Environment, Values, with_name, with_value}
 use Rattle.occ_run_steps.proofs.from_meaning.Facts.{value_at}

@@ -1,8 +1,8 @@
 -- CHANs in a row, taken one by one.
 use Rattle.std.proofs.Common.{◌≡◌, ◌≤◌, Bool, true, false, None, List, [], ◌∷◌, ◌++◌, if◌then◌else◌, refl, ap, sym, subst, ◌∙◌, append_assoc, arith}
 use Rattle.std.proofs.lemmas.Bool.{and_from, and_parts}
-use Rattle.occ_behaviour.specs.occ_base.declared.names.Name.{Name}
-use Rattle.occ_behaviour.specs.occ_base.declared.width.Width.{Width}
+use Rattle.occ_syntax.specs.occ_base.declared.names.Name.{Name}
+use Rattle.occ_syntax.specs.occ_base.declared.width.Width.{Width}
 use Rattle.occ_syntax.specs.declared.scope.Kind.{Kind}
 use Rattle.occ_syntax.specs.declared.scope.Kind.TheVariants.{Chan}
 use Rattle.occ_syntax.specs.Scopes.{Environment, Values, environment, with_name}

@@ -5,9 +5,9 @@ use Rattle.std.proofs.lemmas.List.Elements.{filter-append}
 use Rattle.std.proofs.lemmas.Option.{slice_get_past}
 use Rattle.std.specs.List.{filter}
 use mathlib.Core.Path.{fun_ext}
-use Rattle.occ_behaviour.specs.occ_base.declared.event.Event.{Event}
-use Rattle.occ_behaviour.specs.occ_base.declared.names.Name.{Name}
-use Rattle.occ_behaviour.specs.occ_base.declared.width.Width.{Width}
+use Rattle.occ_syntax.specs.occ_base.declared.event.Event.{Event}
+use Rattle.occ_syntax.specs.occ_base.declared.names.Name.{Name}
+use Rattle.occ_syntax.specs.occ_base.declared.width.Width.{Width}
 use Rattle.occ_syntax.specs.Scopes.{Environment, Values, with_name, with_value}
 use Rattle.occ_syntax.specs.Tree.{Tree, Trees}
 use Rattle.occ_syntax.specs.declared.scope.Kind.TheVariants.{Chan, Var}
@@ -24,7 +24,7 @@ use Rattle.occ_run.specs.Effects.{Effect, alone_of, applied, in_body, off_all, o
 use Rattle.occ_run.specs.Founds.{IsAt, asked, asks, each_effects, effects, leaves}
 use Rattle.occ_run.specs.Offers.{AreOffers, Gives}
 use Rattle.occ_run.specs.View.{control, controls, in_channels, with_channels}
-use Rattle.occ_behaviour.specs.occ_base.declared.memory.Memory.{Memory}
+use Rattle.occ_syntax.specs.occ_base.declared.memory.Memory.{Memory}
 use Rattle.occ_run.proofs.Bodies.{at_place, gives_after, gives_channels, gives_local, on_ok}
 use Rattle.occ_run.proofs.Fronts.{front_is}
 use Rattle.occ_run.proofs.Lists.{filter_all, filter_map, filter_twice, get_map}

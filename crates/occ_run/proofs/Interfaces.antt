@@ -3,9 +3,9 @@ use Rattle.std.proofs.Common.{◌≡◌, ◌^◌, ◌==◌, ◌&&◌, ℕ, true,
 use Rattle.std.proofs.lemmas.Bool.{and_from, and_parts, lt-ltb}
 use Rattle.std.proofs.lemmas.Bool.Decides.{eqb_tells}
 use Rattle.occ_run_steps.proofs.from_meaning.Facts.{at_itself, if_false, if_true, false_not_true, none_not_some}
-use Rattle.occ_behaviour.specs.occ_base.declared.names.Name.{Name}
-use Rattle.occ_behaviour.specs.occ_base.declared.width.Width.{Width}
-use Rattle.occ_behaviour.specs.occ_base.Width.{bits_of}
+use Rattle.occ_syntax.specs.occ_base.declared.names.Name.{Name}
+use Rattle.occ_syntax.specs.occ_base.declared.width.Width.{Width}
+use Rattle.occ_syntax.specs.occ_base.Width.{bits_of}
 use Rattle.occ_behaviour.specs.States.{is_state}
 use Rattle.occ_syntax.specs.declared.scope.Kind.{Kind}
 use Rattle.occ_syntax.specs.declared.scope.Kind.TheVariants.{Chan, Var}

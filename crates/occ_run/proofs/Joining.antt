@@ -4,8 +4,8 @@ use Rattle.std.proofs.lemmas.Bool.{and_parts}
 use Rattle.std.specs.List.{filter}
 use Rattle.std.specs.declared.rc.Rc.{Rc}
 use mathlib.Core.Path.{fun_ext}
-use Rattle.occ_behaviour.specs.occ_base.Event.{counterpart}
-use Rattle.occ_behaviour.specs.occ_base.declared.event.Event.{Event}
+use Rattle.occ_syntax.specs.occ_base.Event.{counterpart}
+use Rattle.occ_syntax.specs.occ_base.declared.event.Event.{Event}
 use Rattle.occ_syntax.specs.Scopes.{Environment, Values}
 use Rattle.occ_run_steps.specs.Control.{Control}
 use Rattle.occ_run_steps.specs.Kept.{all_types_held, types_held}
@@ -24,8 +24,8 @@ use Rattle.occ_run.proofs.Meetings.{filter_events, met_is}
 use Rattle.occ_run.proofs.Pairing.{PairAt}
 use Rattle.occ_run.proofs.Sizes.{size, sizes}
 use Rattle.std.proofs.lemmas.Option.{slice_get_read}
-use Rattle.occ_behaviour.specs.occ_base.declared.names.Name.{Name}
-use Rattle.occ_behaviour.specs.occ_base.declared.width.Width.{Width}
+use Rattle.occ_syntax.specs.occ_base.declared.names.Name.{Name}
+use Rattle.occ_syntax.specs.occ_base.declared.width.Width.{Width}
 
 -- ---- one of controls at once
 

@@ -1,7 +1,7 @@
 -- Where the numbers of a schedule lead.
 use Rattle.std.proofs.Common.{◌≡◌, ◌+◌, ◌++◌, ℕ, List, [], ◌∷◌, Option, None, Some, Ok, refl, sym, ap, subst, ◌∙◌, append_assoc, slice_get}
 use Rattle.std.proofs.lemmas.List.{append-nil}
-use Rattle.occ_behaviour.specs.occ_base.declared.event.Event.{Event}
+use Rattle.occ_syntax.specs.occ_base.declared.event.Event.{Event}
 use Rattle.occ_syntax.specs.Scopes.{Trace}
 use Rattle.occ_run_steps.specs.Control.{Control}
 use Rattle.occ_run_steps.specs.Leads.{at_rest, by_step}

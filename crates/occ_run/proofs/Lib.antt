@@ -33,3 +33,4 @@ pub mod Tables
 pub mod Behind
 pub use Rattle.occ_run_steps.proofs.from_meaning as from_meaning
 pub use Rattle.occ_run_steps.proofs as from_run_steps
+pub use Rattle.occ_usage.proofs as from_usage

@@ -3,8 +3,8 @@ use Rattle.std.proofs.Common.{◌≡◌, ◌+◌, ◌++◌, ℕ, Bool, true, fal
 use Rattle.std.proofs.lemmas.List.{length-append, length-map}
 use Rattle.std.specs.List.{filter}
 use mathlib.Core.Path.{fun_ext}
-use Rattle.occ_behaviour.specs.occ_base.Event.{counterpart}
-use Rattle.occ_behaviour.specs.occ_base.declared.event.Event.{Event}
+use Rattle.occ_syntax.specs.occ_base.Event.{counterpart}
+use Rattle.occ_syntax.specs.occ_base.declared.event.Event.{Event}
 use Rattle.occ_run_steps.proofs.from_meaning.Facts.{event_itself}
 use Rattle.occ_run_steps.specs.Step.{Step, answers, is_event, joint, meet, meetings, same}
 use Rattle.occ_run.specs.MeetingRuns.{events, met}

@@ -11,7 +11,7 @@ use Rattle.occ_run_steps.specs.Settled.{begun, settled}
 use Rattle.occ_syntax.specs.Tree.{Tree}
 use Rattle.occ_syntax.specs.Types.{types_kept}
 use Rattle.occ_syntax.specs.Usage.{Keeps}
-use Rattle.occ_behaviour.specs.occ_base.declared.names.Name.{Name}
+use Rattle.occ_syntax.specs.occ_base.declared.names.Name.{Name}
 use Rattle.occ_syntax.specs.declared.scope.Kind.{Kind}
 use Rattle.occ_syntax.specs.Scopes.{IsState, Trace, Values, environment, values}
 use Rattle.occ_run_steps.proofs.Leading.{numbered_is, stepped_kept}

@@ -7,13 +7,13 @@ use Rattle.std.proofs.lemmas.Option.{slice_get-get_or}
 use Rattle.std.specs.List.{range_with_len}
 use Rattle.std.proofs.lemmas.Bool.{and_parts}
 use Rattle.std.proofs.lemmas.Bool.Decides.{nat_tests}
-use Rattle.occ_behaviour.specs.occ_base.declared.event.Event.{Event}
+use Rattle.occ_syntax.specs.occ_base.declared.event.Event.{Event}
 use Rattle.occ_run_steps.proofs.from_meaning.Facts.{at_itself, event_itself, same_events}
 use Rattle.occ_syntax.specs.Scopes.{same_event}
-use Rattle.occ_behaviour.specs.occ_base.Width.{bits_of}
-use Rattle.occ_behaviour.specs.occ_base.declared.event.Dir.TheVariants.{Input}
-use Rattle.occ_behaviour.specs.occ_base.declared.names.Name.{Name}
-use Rattle.occ_behaviour.specs.occ_base.declared.width.Width.{Width}
+use Rattle.occ_syntax.specs.occ_base.Width.{bits_of}
+use Rattle.occ_syntax.specs.occ_base.declared.event.Dir.TheVariants.{Input}
+use Rattle.occ_syntax.specs.occ_base.declared.names.Name.{Name}
+use Rattle.occ_syntax.specs.occ_base.declared.width.Width.{Width}
 use Rattle.occ_syntax.specs.Eval.{is_true}
 use Rattle.occ_syntax.specs.Scopes.{Environment, Values}
 use Rattle.occ_syntax.specs.Tree.{Exp, Tree, assign, declare}
@@ -31,7 +31,7 @@ use Rattle.occ_run.specs.declared.found.Found.{Found}
 use Rattle.occ_run.specs.declared.found.Found.TheVariants.{Step as Here, Past}
 use Rattle.occ_run.specs.Effects.{Effect, leaf, off_all}
 use Rattle.occ_run.specs.Founds.{IsAt, IsOver, asked, asks, input_of, inputs, inputs_from, leaves}
-use Rattle.occ_behaviour.specs.occ_base.declared.memory.Memory.{Memory}
+use Rattle.occ_syntax.specs.occ_base.declared.memory.Memory.{Memory}
 use Rattle.occ_run.proofs.Bodies.{on_ok}
 use Rattle.occ_run.proofs.Fronts.{front_is}
 use Rattle.occ_run.proofs.Lists.{map_after}

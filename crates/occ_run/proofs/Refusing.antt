@@ -3,9 +3,9 @@ use Rattle.std.proofs.Common.{◌≡◌, ◌+◌, ◌++◌, ◌∷◌, [], ℕ, 
 use Rattle.std.proofs.lemmas.List.{append-nil}
 use Rattle.std.proofs.lemmas.List.FromFn.{filter_of_map_range_with_len_more}
 use Rattle.std.specs.List.{filter}
-use Rattle.occ_behaviour.specs.occ_base.declared.event.Dir.{Dir}
-use Rattle.occ_behaviour.specs.occ_base.declared.event.Event.{Event}
-use Rattle.occ_behaviour.specs.occ_base.declared.names.Name.{Name}
+use Rattle.occ_syntax.specs.occ_base.declared.event.Dir.{Dir}
+use Rattle.occ_syntax.specs.occ_base.declared.event.Event.{Event}
+use Rattle.occ_syntax.specs.occ_base.declared.names.Name.{Name}
 use Rattle.occ_run.specs.Stands.{events_below}
 
 -- those of a list that aren't heard

@@ -5,9 +5,9 @@ use Rattle.std.proofs.lemmas.Bool.{and_from, cases_Bool, or_left, or_parts, or_r
 use mathlib.Core.Path.{fun_ext}
 use Rattle.occ_run_steps.proofs.from_meaning.Facts.{event_itself, false_not_true, same_events}
 use Rattle.occ_run_steps.proofs.from_meaning.Frame.{part_value, written_in_scope}
-use Rattle.occ_behaviour.specs.occ_base.declared.event.Event.{Event}
-use Rattle.occ_behaviour.specs.occ_base.declared.names.Name.{Name}
-use Rattle.occ_behaviour.specs.occ_base.declared.width.Width.{Width}
+use Rattle.occ_syntax.specs.occ_base.declared.event.Event.{Event}
+use Rattle.occ_syntax.specs.occ_base.declared.names.Name.{Name}
+use Rattle.occ_syntax.specs.occ_base.declared.width.Width.{Width}
 use Rattle.occ_behaviour.specs.States.{is_state}
 use Rattle.occ_run.proofs.Holding.{holds_state}
 use Rattle.occ_syntax.specs.Meaning.{ended, ends, fails, meaning, refusing}

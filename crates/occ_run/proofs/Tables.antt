@@ -4,7 +4,7 @@ use Rattle.std.proofs.lemmas.Bool.{eqb-true}
 use Rattle.std.proofs.lemmas.List.{append-nil, length-append, take_all, take_more}
 use Rattle.std.proofs.lemmas.List.Elements.{filter-append}
 use Rattle.std.specs.List.{filter}
-use Rattle.occ_behaviour.specs.occ_base.declared.names.Name.{Name}
+use Rattle.occ_syntax.specs.occ_base.declared.names.Name.{Name}
 use Rattle.occ_run_steps.proofs.from_meaning.Facts.{same_turned}
 use Rattle.occ_run.specs.declared.run.Run.{Run}
 use Rattle.occ_run.specs.declared.run.Run.TheVariants.{Unseen, Sends, Takes}

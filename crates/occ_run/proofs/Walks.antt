@@ -1,8 +1,8 @@
 -- What a walk over a control tree needs where it goes on: at the parts of controls at once, and in the body of CHANs in a row.
 use Rattle.std.proofs.Common.{◌≡◌, ◌<◌, Global, List, ◌∷◌, Vec, ap, arith, sym, true, ◌∙◌}
 use Rattle.std.specs.declared.rc.Rc.{Rc}
-use Rattle.occ_behaviour.specs.occ_base.declared.names.Name.{Name}
-use Rattle.occ_behaviour.specs.occ_base.declared.width.Width.{Width}
+use Rattle.occ_syntax.specs.occ_base.declared.names.Name.{Name}
+use Rattle.occ_syntax.specs.occ_base.declared.width.Width.{Width}
 use Rattle.occ_syntax.specs.Scopes.{Environment}
 use Rattle.occ_run_steps.specs.Control.{Control as Left, both}
 use Rattle.occ_run_steps.specs.Kept.{all_types_held, types_held}

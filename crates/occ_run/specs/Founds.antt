@@ -1,10 +1,10 @@
 -- All steps of a control with their effects, as a list that no code makes, and what stands at a number of it.
 use Rattle.std.specs.Prelude.{ℕ, ◌+◌, ◌≡◌, ◌&&◌, Bool, None, List, [], ◌∷◌, ◌++◌, map, Option, Some, slice_get, length}
 use Rattle.std.specs.List.{filter, range_with_len}
-use Rattle.occ_behaviour.specs.occ_base.declared.event.Dir.TheVariants.{Input}
-use Rattle.occ_behaviour.specs.occ_base.declared.event.Event.{Event}
-use Rattle.occ_behaviour.specs.occ_base.declared.names.Name.{Name}
-use Rattle.occ_behaviour.specs.occ_base.declared.width.Width.{Width}
+use Rattle.occ_syntax.specs.occ_base.declared.event.Dir.TheVariants.{Input}
+use Rattle.occ_syntax.specs.occ_base.declared.event.Event.{Event}
+use Rattle.occ_syntax.specs.occ_base.declared.names.Name.{Name}
+use Rattle.occ_syntax.specs.occ_base.declared.width.Width.{Width}
 use Rattle.occ_syntax.specs.Scopes.{Environment, Values, with_name, with_value}
 use Rattle.occ_syntax.specs.declared.scope.Kind.TheVariants.{Chan, Var}
 use Rattle.occ_run_steps.specs.Control.{Control, done, unbegun, after, both, local, channel, Controls, no_control, and_control}

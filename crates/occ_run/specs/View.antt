@@ -2,8 +2,8 @@
 use Rattle.std.specs.Prelude.{Bool, true, ◌&&◌, None, List, [], ◌∷◌, if◌then◌else◌}
 use Rattle.std.specs.declared.rc.Rc.{Rc}
 use Rattle.std.specs.declared.alloc.Global.{Global}
-use Rattle.occ_behaviour.specs.occ_base.declared.names.Name.{Name}
-use Rattle.occ_behaviour.specs.occ_base.declared.width.Width.{Width}
+use Rattle.occ_syntax.specs.occ_base.declared.names.Name.{Name}
+use Rattle.occ_syntax.specs.occ_base.declared.width.Width.{Width}
 use Rattle.occ_syntax.specs.Tree.{Waiting, truth, input, output, Tree, skip, stop, alt, connect, no_branch, and_branch}
 use Rattle.occ_syntax.specs.View.{exp, tree, trees}
 use Rattle.occ_syntax.specs.Scopes.{Environment, with_name}

@@ -1,7 +1,7 @@
 ghost use Rattle.std.specs.Prelude.{◌≡◌};
 ghost use Rattle.occ_run.specs.declared.answer.StepFault.TheVariants as fault;
 
-use occ_behaviour::{Event, Events, Memory, State};
+use occ_syntax::{Event, Events, Memory, State};
 use thiserror::Error;
 
 /// What is seen of a step.

@@ -4,13 +4,13 @@ ghost use Rattle.occ_run.specs.Effects.{part_of, value_of, next_left};
 ghost use Rattle.occ_run.specs.View.{control as left};
 ghost use Rattle.occ_run_steps.specs.Step.{changed as after_changes};
 ghost use Rattle.occ_syntax.specs.Scopes.{values};
-ghost use Rattle.occ_behaviour.specs.occ_base.declared.names.Name.{Name as TheName};
+ghost use Rattle.occ_syntax.specs.occ_base.declared.names.Name.{Name as TheName};
 ghost use Rattle.std.specs.List.{list_any};
 ghost use Rattle.occ_run.specs.Offers.{IsPartOf};
 
 use crate::control::Control;
 use crate::effect::{Effect, Next};
-use occ_behaviour::{Memory, Name};
+use occ_syntax::{Memory, Name};
 use std::alloc::Global;
 use std::rc::Rc;
 

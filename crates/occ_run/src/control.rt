@@ -2,8 +2,7 @@ ghost use Rattle.std.specs.Prelude.{◌≡◌};
 ghost use Rattle.occ_run_steps.specs.Control.{is_done};
 ghost use Rattle.occ_run.specs.View.{control as left};
 
-use occ_behaviour::{Name, Width};
-use occ_syntax::{Expr, Proc};
+use occ_syntax::{Expr, Name, Proc, Width};
 use std::rc::Rc;
 
 /// What is left to be done of a program. Processes are borrowed from the program and never copied.

@@ -1,8 +1,7 @@
 ghost use Rattle.std.specs.Prelude.{◌≡◌, IfOk};
 ghost use Rattle.occ_run.specs.Effects.{offered};
 
-use occ_behaviour::{Event, Memory, Name, Width};
-use occ_syntax::Proc;
+use occ_syntax::{Event, Memory, Name, Proc, Width};
 use std::alloc::Global;
 use std::rc::Rc;
 

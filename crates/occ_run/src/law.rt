@@ -1,7 +1,7 @@
 //! What a schedule's steps have to do with the definitions of steps, and with the program.
 
 ghost use Rattle.std.specs.Prelude.{List, Ok, true, ◌≡◌, ℕ};
-ghost use Rattle.occ_behaviour.specs.occ_base.declared.names.Name.{Name};
+ghost use Rattle.occ_syntax.specs.occ_base.declared.names.Name.{Name};
 ghost use Rattle.occ_behaviour.specs.States.{is_state};
 ghost use Rattle.occ_syntax.specs.Same.{HasTrace};
 ghost use Rattle.occ_syntax.specs.Scopes.{environment, values};

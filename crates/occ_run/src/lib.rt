@@ -33,11 +33,11 @@ pub use law::{
 pub use machine::{Machine, Point};
 pub use meeting::{Met, Pair, pair_at};
 pub use occ_behaviour::{
-    Behaviour, Event, Events, Last, List, Memory, Name, Names, Side, State, Verdict, Width,
-    behaviour_text, interface_bits, push_event, push_state, verdict_text,
+    Behaviour, Last, Side, Verdict, behaviour_text, interface_bits, push_event, push_state,
+    verdict_text,
 };
 pub use occ_run_steps::events_are_of_the_interface;
-pub use occ_usage::Accepted;
+pub use occ_usage::{Accepted, UsageFault, check, keeps_scope, keeps_types};
 pub use offers::process_offers;
 pub use pairs::{add_alone, is_same};
 pub use place::Place;

@@ -6,7 +6,7 @@ ghost use Rattle.occ_run.specs.View.{control as left};
 
 use crate::control::Control;
 use crate::place::Place;
-use occ_behaviour::Event;
+use occ_syntax::Event;
 
 /// A program at work, but for its trace: the values of its parameters, and what is left to be done, which is settled.
 #[derive(Drop)]

@@ -11,7 +11,7 @@ use crate::control::{Control, is_over};
 use crate::effect::Effect;
 use crate::place::Place;
 use crate::settle::{begun_turn, in_channels, settled, side_by_side};
-use occ_behaviour::Memory;
+use occ_syntax::Memory;
 use std::rc::Rc;
 
 /// What a control with nothing left to settle comes to by a step with that effect. Only what the step changes is made anew and

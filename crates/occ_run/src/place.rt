@@ -7,8 +7,7 @@ ghost use Rattle.occ_syntax.specs.View.{exp};
 ghost use Rattle.std.specs.Prelude.{IsSome};
 ghost use Rattle.occ_run.specs.View.{can_connect, with_channels};
 
-use occ_behaviour::{Memory, Name, Width};
-use occ_syntax::{Expr, Kind, value};
+use occ_syntax::{Expr, Kind, Memory, Name, Width, value};
 use std::alloc::Global;
 
 /// Where a control stands: the names in scope and the values of the variables, the innermost first.

@@ -11,8 +11,7 @@ ghost use Rattle.occ_run.specs.View.{connecting, control as left, controls, roun
 
 use crate::control::{Control, is_over};
 use crate::place::Place;
-use occ_behaviour::{Memory, Name, Width};
-use occ_syntax::{Expr, Proc};
+use occ_syntax::{Expr, Memory, Name, Proc, Width};
 use std::alloc::Global;
 use std::rc::Rc;
 

@@ -16,8 +16,7 @@ use crate::machine::Machine;
 use crate::offers::size_of;
 use crate::place::Place;
 use crate::stepping::moves_in;
-use occ_behaviour::{Dir, Event, Events, Memory, Name, State};
-use occ_syntax::Kind;
+use occ_syntax::{Dir, Event, Events, Kind, Memory, Name, State};
 use std::alloc::Global;
 
 impl<'a> Machine<'a> {

@@ -1,11 +1,11 @@
 ghost use Rattle.std.specs.Prelude.{◌≡◌, ◌++◌, ◌∷◌, IfOk, None, OnOk, [], cond, if◌then◌else◌};
 ghost use Rattle.indexmap.specs.IndexMap.{get};
-ghost use Rattle.occ_behaviour.specs.occ_base.declared.names.Name.{Name};
+ghost use Rattle.occ_syntax.specs.occ_base.declared.names.Name.{Name};
 ghost use Rattle.occ_run.specs.Tables.{HaveMore, Lists, row_at, row_of, same_name};
 
 use crate::run::Run;
 use indexmap::IndexMap;
-use occ_behaviour::{Memory, Name};
+use occ_syntax::{Memory, Name};
 use std::alloc::Global;
 
 /// Runs by the channels that they are on. Those of one channel stand in the order in which they came.

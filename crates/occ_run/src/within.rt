@@ -4,7 +4,7 @@ ghost use Rattle.occ_run.specs.Effects.{changes_of, in_body, off_all, off_channe
 ghost use Rattle.occ_run.specs.Effects.{value_after as value_behind};
 
 use crate::effect::{Effect, Offer};
-use occ_behaviour::{Event, Memory, Name, Width};
+use occ_syntax::{Event, Memory, Name, Width};
 use std::alloc::Global;
 use std::rc::Rc;
 

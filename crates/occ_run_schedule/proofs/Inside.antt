@@ -1,18 +1,18 @@
 -- The events of a behaviour that is read are of the interface.
-use Rattle.occ_member.specs.occ_base.declared.event.Dir.{Dir}
-use Rattle.occ_member.specs.occ_base.declared.event.Event.{Event}
-use Rattle.occ_member.specs.occ_base.declared.names.Name.{Name}
-use Rattle.occ_member.specs.occ_base.Width.{bits_of}
-use Rattle.occ_member.specs.occ_behaviour.Texts.{mark_text}
-use Rattle.occ_member.specs.occ_behaviour.declared.behaviour.Behaviour.{Behaviour}
-use Rattle.occ_member.specs.occ_behaviour.declared.behaviour.Last.{Last}
-use Rattle.occ_member.specs.occ_behaviour.declared.behaviour.Last.TheVariants.{Refuses, Ends}
+use Rattle.occ_syntax.specs.occ_base.declared.event.Dir.{Dir}
+use Rattle.occ_syntax.specs.occ_base.declared.event.Event.{Event}
+use Rattle.occ_syntax.specs.occ_base.declared.names.Name.{Name}
+use Rattle.occ_syntax.specs.occ_base.Width.{bits_of}
+use Rattle.occ_run.specs.occ_behaviour.Texts.{mark_text}
+use Rattle.occ_run.specs.occ_behaviour.declared.behaviour.Behaviour.{Behaviour}
+use Rattle.occ_run.specs.occ_behaviour.declared.behaviour.Last.{Last}
+use Rattle.occ_run.specs.occ_behaviour.declared.behaviour.Last.TheVariants.{Refuses, Ends}
 use Rattle.occ_behaviour_read.specs.Claims.{and_then, bare_lines, claim_read, closed, first_of, found_at, is_differ, last_line, line_read, read_at, state_line, trace_line}
 use Rattle.occ_behaviour_read.specs.occ_nform_table.Lines.{event_of, event_on, fitting, set_of, state_of, text_of}
 use Rattle.occ_behaviour_read.specs.occ_nform_table.Words.{behind, between, each, items_of, small_number_of, then_read}
 use Rattle.occ_behaviour_read.proofs.from_nform_table.ReadWords.{or_inv, then_inv}
 use Rattle.occ_run.specs.Stands.{end_events, interface, kind_events}
-use Rattle.occ_member.proofs.from_run_steps.Lists.{Is, is_in_range, is_left, is_mapped, is_right}
+use Rattle.occ_run.proofs.from_run_steps.Lists.{Is, is_in_range, is_left, is_mapped, is_right}
 use Rattle.occ_run_schedule.proofs.WitnessShowing.{is_among}
 use Rattle.occ_run_schedule.specs.Witnesses.{IsWithin}
 use Rattle.occ_behaviour_read.specs.occ_nform_table.Lines.{is_rising}

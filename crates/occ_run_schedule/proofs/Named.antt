@@ -2,13 +2,13 @@
 use Rattle.std.proofs.Common.{◌≡◌, ◌<◌, ◌==◌, ◌++◌, ◌^◌, ℕ, Bool, true, false, cond, List, [], ◌∷◌, None, Some, map, refl, sym, subst, if◌then◌else◌}
 use Rattle.std.proofs.lemmas.Bool.{and_parts, eqb-true}
 use Rattle.std.specs.List.{AllByRecursion, filter, range_with_len}
-use Rattle.occ_member.specs.occ_base.declared.event.Dir.{Dir}
-use Rattle.occ_member.specs.occ_base.declared.event.Dir.TheVariants.{Input, Output}
-use Rattle.occ_member.specs.occ_base.declared.event.Event.{Event}
-use Rattle.occ_member.specs.occ_base.declared.names.Name.{Name}
-use Rattle.occ_member.specs.occ_base.Width.{bits_of}
-use Rattle.occ_member.proofs.from_meaning.Facts.{false_not_true}
-use Rattle.occ_member.specs.occ_meaning.Foundation.{AreWithin}
+use Rattle.occ_syntax.specs.occ_base.declared.event.Dir.{Dir}
+use Rattle.occ_syntax.specs.occ_base.declared.event.Dir.TheVariants.{Input, Output}
+use Rattle.occ_syntax.specs.occ_base.declared.event.Event.{Event}
+use Rattle.occ_syntax.specs.occ_base.declared.names.Name.{Name}
+use Rattle.occ_syntax.specs.occ_base.Width.{bits_of}
+use Rattle.occ_run.proofs.from_meaning.Facts.{false_not_true}
+use Rattle.occ_run.specs.occ_meaning.Foundation.{AreWithin}
 use Rattle.occ_syntax.specs.declared.scope.Kind.{Kind}
 use Rattle.occ_syntax.specs.declared.scope.Kind.TheVariants.{Chan, Var}
 use Rattle.occ_syntax.specs.Scopes.{allows, channel_kind, channel_width, environment, has_width, in_interface, in_scope}

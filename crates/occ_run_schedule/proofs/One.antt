@@ -1,15 +1,15 @@
 -- A schedule leads to one place.
 use Rattle.std.proofs.Common.{◌≡◌, ℕ, true, List, [], length, Ok, refl, sym, ap, ◌∙◌, subst}
-use Rattle.occ_member.specs.occ_base.declared.event.Event.{Event}
-use Rattle.occ_member.specs.occ_base.declared.names.Name.{Name}
-use Rattle.occ_member.proofs.from_meaning.Facts.{false_not_true}
+use Rattle.occ_syntax.specs.occ_base.declared.event.Event.{Event}
+use Rattle.occ_syntax.specs.occ_base.declared.names.Name.{Name}
+use Rattle.occ_run.proofs.from_meaning.Facts.{false_not_true}
 use Rattle.occ_run.specs.declared.answer.Stand.{Stand}
 use Rattle.occ_run.specs.declared.answer.Stand.TheVariants.{Ended, Stuck, Stable, Moving}
 use Rattle.occ_run.specs.Configurations.{Configuration, followed, started, steps_of}
 use Rattle.occ_run.specs.Stands.{HasSteps, IsStand}
 use Rattle.occ_run_schedule.specs.declared.schedule.Schedule.{Schedule}
-use Rattle.occ_member.specs.occ_run_steps.Control.{Control, done, unbegun, after, both, local, channel, is_done}
-use Rattle.occ_member.specs.occ_run_steps.Steps.{steps}
+use Rattle.occ_run.specs.occ_run_steps.Control.{Control, done, unbegun, after, both, local, channel, is_done}
+use Rattle.occ_run.specs.occ_run_steps.Steps.{steps}
 use Rattle.occ_syntax.specs.Scopes.{Environment, Values, environment}
 use Rattle.occ_syntax.specs.View.{tree}
 use Rattle.occ_syntax.specs.declared.scope.Program.{Program}

@@ -2,11 +2,11 @@
 use Rattle.std.proofs.Common.{◌≡◌, ◌<◌, ℕ, true, not, List, length, Option, None, Some, MatchOption, Ok, Err, inl, inr, sym, subst}
 use Rattle.std.proofs.lemmas.List.Elements.{All-from_recursion, recursion_from_All}
 use Rattle.std.specs.List.{list_any}
-use Rattle.occ_member.specs.occ_base.declared.event.Event.{Event}
-use Rattle.occ_member.specs.occ_base.declared.names.Name.{Name}
-use Rattle.occ_member.specs.occ_behaviour.Members.{AreNamed}
-use Rattle.occ_member.specs.occ_behaviour.States.{is_state}
-use Rattle.occ_member.specs.occ_meaning.Foundation.{AreWithin, Does}
+use Rattle.occ_syntax.specs.occ_base.declared.event.Event.{Event}
+use Rattle.occ_syntax.specs.occ_base.declared.names.Name.{Name}
+use Rattle.occ_run.specs.occ_behaviour.Members.{AreNamed}
+use Rattle.occ_run.specs.occ_behaviour.States.{is_state}
+use Rattle.occ_run.specs.occ_meaning.Foundation.{AreWithin, Does}
 use Rattle.occ_run.proofs.Holding.{holds_state}
 use Rattle.occ_run.specs.declared.answer.Stand.{Stand}
 use Rattle.occ_run.specs.declared.answer.Stand.TheVariants.{Ended, Stuck, Stable, Moving}
@@ -14,7 +14,7 @@ use Rattle.occ_run.specs.Configurations.{Configuration, followed, started, steps
 use Rattle.occ_run.specs.Laws.{Belongs, IsLed}
 use Rattle.occ_run.specs.Stands.{IsStand, interface, refused_by, shown}
 use Rattle.occ_run_schedule.specs.declared.schedule.Schedule.{Schedule}
-use Rattle.occ_member.specs.occ_run_steps.Step.{is_event}
+use Rattle.occ_run.specs.occ_run_steps.Step.{is_event}
 use Rattle.occ_syntax.specs.Meaning.{Outcome, ended, refusing}
 use Rattle.occ_syntax.specs.Same.{HasTrace, none}
 use Rattle.occ_syntax.specs.Scopes.{Environment, IsState, Trace, Values, environment, in_interface, values}
@@ -23,7 +23,7 @@ use Rattle.occ_syntax.specs.Types.{types_kept}
 use Rattle.occ_syntax.specs.View.{tree}
 use Rattle.occ_syntax.specs.declared.scope.Kind.{Kind}
 use Rattle.occ_syntax.specs.declared.scope.Program.{Program}
-use Rattle.occ_member.specs.occ_usage.Accepted.{IsAccepted}
+use Rattle.occ_run.specs.occ_usage.Accepted.{IsAccepted}
 use Rattle.occ_run_schedule.specs.declared.following.Shown.{Shown}
 use Rattle.occ_run_schedule.specs.Following.{IsShown, ParametersAreNamed, RefusedAreNamed, ShownIsNamed}
 use Rattle.occ_run_schedule.proofs.Named.{Declared, Named, interface_named, kept_named, within_named}

@@ -1,22 +1,22 @@
 -- How a configuration that has come to an outcome stands, and that this covers the last line of the behaviour.
-use Rattle.occ_member.specs.occ_base.declared.event.Event.{Event}
-use Rattle.occ_member.specs.occ_base.declared.names.Name.{Name}
-use Rattle.occ_member.specs.occ_base.declared.width.Width.{Width}
-use Rattle.occ_member.specs.occ_base.Width.{bits_of}
-use Rattle.occ_member.specs.occ_behaviour.States.{is_state}
-use Rattle.occ_member.specs.occ_behaviour.declared.behaviour.Last.{Last}
-use Rattle.occ_member.specs.occ_behaviour.declared.behaviour.Last.TheVariants.{Refuses, Ends}
+use Rattle.occ_syntax.specs.occ_base.declared.event.Event.{Event}
+use Rattle.occ_syntax.specs.occ_base.declared.names.Name.{Name}
+use Rattle.occ_syntax.specs.occ_base.declared.width.Width.{Width}
+use Rattle.occ_syntax.specs.occ_base.Width.{bits_of}
+use Rattle.occ_run.specs.occ_behaviour.States.{is_state}
+use Rattle.occ_run.specs.occ_behaviour.declared.behaviour.Last.{Last}
+use Rattle.occ_run.specs.occ_behaviour.declared.behaviour.Last.TheVariants.{Refuses, Ends}
 use Rattle.occ_behaviour_read.specs.Claims.{LastIsOf}
-use Rattle.occ_member.proofs.from_meaning.Facts.{at_itself, event_itself, false_not_true, if_false, if_true, none_not_some, same_events}
+use Rattle.occ_run.proofs.from_meaning.Facts.{at_itself, event_itself, false_not_true, if_false, if_true, none_not_some, same_events}
 use Rattle.occ_member.specs.Spots.{Spot, steps_of}
 use Rattle.occ_run.specs.Configurations.{Configuration}
 use Rattle.occ_run.specs.Configurations.{steps_of as steps_of_configuration}
 use Rattle.occ_run.specs.Stands.{IsStand, interface, refused_by, shown, state_of}
 use Rattle.occ_run.specs.declared.answer.Stand.{Stand}
 use Rattle.occ_run.specs.declared.answer.Stand.TheVariants.{Ended, Stuck, Stable}
-use Rattle.occ_member.proofs.from_run_steps.Lists.{Is, first, later}
-use Rattle.occ_member.specs.occ_run_steps.Control.{Control, is_done}
-use Rattle.occ_member.specs.occ_run_steps.Step.{Step, is_event, is_outside, is_unseen, not_seen, outside, same}
+use Rattle.occ_run.proofs.from_run_steps.Lists.{Is, first, later}
+use Rattle.occ_run.specs.occ_run_steps.Control.{Control, is_done}
+use Rattle.occ_run.specs.occ_run_steps.Step.{Step, is_event, is_outside, is_unseen, not_seen, outside, same}
 use Rattle.occ_run_schedule.specs.Marks.{RestsAt, configured, outcome_of}
 use Rattle.occ_run_schedule.specs.Witnesses.{Covers, IsWithin}
 use Rattle.occ_syntax.specs.Scopes.{Trace, Values, among, environment, same_event, values, variable_kind, variable_width}

@@ -1,8 +1,8 @@
 -- Where a schedule leads a program, and what is shown there.
 use Rattle.std.specs.Prelude.{ℕ, ◌≡◌, ◌<◌, List, length, Ok, Err}
 use Rattle.std.specs.List.{All}
-use Rattle.occ_member.specs.occ_base.declared.names.Name.{Name}
-use Rattle.occ_member.specs.occ_behaviour.Members.{AreNamed}
+use Rattle.occ_syntax.specs.occ_base.declared.names.Name.{Name}
+use Rattle.occ_run.specs.occ_behaviour.Members.{AreNamed}
 use Rattle.occ_run.specs.declared.answer.Stand.{Stand}
 use Rattle.occ_run.specs.declared.answer.Stand.TheVariants.{Ended, Stuck, Stable, Moving}
 use Rattle.occ_run.specs.Configurations.{Configuration, followed, started}

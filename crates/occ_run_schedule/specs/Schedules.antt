@@ -1,7 +1,7 @@
 -- What a schedule text is read as: a state of the parameters and the numbers of steps, or the number of its least faulty line.
 use Rattle.std.specs.Prelude.{ℕ, ◌+◌, ◌≡◌, Bool, true, if◌then◌else◌, List, [], ◌∷◌, drop, map, Option, None, Some, Result, Ok, Err, codes}
 use Rattle.std.specs.Str.{bytes_eq}
-use Rattle.occ_member.specs.occ_base.declared.names.Name.{Name}
+use Rattle.occ_syntax.specs.occ_base.declared.names.Name.{Name}
 use Rattle.occ_behaviour_read.specs.occ_lex.Rows.{rows}
 use Rattle.occ_syntax.specs.declared.scope.Kind.{Kind}
 use Rattle.occ_behaviour_read.specs.occ_nform_table.Words.{then_read, behind, small_number_of}

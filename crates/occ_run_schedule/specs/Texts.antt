@@ -1,8 +1,8 @@
 -- How it is written where a schedule leads.
 use Rattle.std.specs.Prelude.{ℕ, List, ◌∷◌, ◌++◌, codes, decimal}
 use Rattle.std.specs.List.{flat_map}
-use Rattle.occ_member.specs.occ_behaviour.declared.behaviour.Last.TheVariants.{Refuses, Ends}
-use Rattle.occ_member.specs.occ_behaviour.Texts.{event_text, state_text, text_of_behaviour}
+use Rattle.occ_run.specs.occ_behaviour.declared.behaviour.Last.TheVariants.{Refuses, Ends}
+use Rattle.occ_run.specs.occ_behaviour.Texts.{event_text, state_text, text_of_behaviour}
 use Rattle.occ_run.specs.declared.answer.Stand.{Stand}
 use Rattle.occ_run.specs.declared.answer.Stand.TheVariants.{Ended, Stuck, Stable, Moving}
 use Rattle.occ_run_schedule.specs.declared.following.Followed.{Followed}

@@ -1,15 +1,16 @@
 ghost use Rattle.std.specs.Prelude.{◌≡◌, Err, IfOk, List, MatchOption, Ok, true, ℕ};
-ghost use Rattle.occ_member.specs.occ_behaviour.States.{is_state};
+ghost use Rattle.occ_run.specs.occ_behaviour.States.{is_state};
 ghost use Rattle.occ_run.specs.Configurations.{followed};
 ghost use Rattle.occ_run.specs.Machines.{configuration};
 ghost use Rattle.occ_run_schedule.specs.Following.{FollowedIsNamed, IsFollowed, ParametersAreNamed};
 
 use crate::Schedule;
-use occ_member::{Accepted, Event, Events, Memory, State, events_are_of_the_interface};
 use occ_run::{
-    Machine, Stand, StepFault, numbers_that_are_followed_lead, start,
-    what_a_stand_shows_belongs_to_the_program, what_is_seen_is_a_trace_of_the_program,
+    Accepted, Machine, Stand, StepFault, events_are_of_the_interface,
+    numbers_that_are_followed_lead, start, what_a_stand_shows_belongs_to_the_program,
+    what_is_seen_is_a_trace_of_the_program,
 };
+use occ_syntax::{Event, Events, Memory, State};
 use std::alloc::Global;
 
 /// What is shown where a schedule leads: the state in which the program began, the events that were seen, and how it stands.

@@ -21,11 +21,11 @@ pub use occ_behaviour_read::{
     one_deadlock, one_refinement, read as behaviour_read_read,
     texts_of_programs_are_those_of_their_tables,
 };
-pub use occ_member::{
-    Behaviour, Last, Side, Verdict, behaviour_text, ends, fails, interface_bits, push_event,
-    push_state, verdict_text,
+pub use occ_member::{ends, fails};
+pub use occ_run::{
+    Accepted, Behaviour, Last, Move, Side, Stand, StepFault, UsageFault, Verdict, behaviour_text,
+    check, interface_bits, keeps_scope, keeps_types, push_event, push_state, start, verdict_text,
 };
-pub use occ_run::{Move, Stand, StepFault, start};
 pub use schedule::{Schedule, ScheduleFault, read};
 pub use text::followed_text;
 pub use witnessing::{Witness, find_witness};

@@ -1,6 +1,6 @@
 ghost use Rattle.std.specs.Prelude.{◌≡◌, ◌≤◌, drop, length, max, IfOk, true};
 ghost use Rattle.occ_behaviour_read.specs.occ_lex.Rows.{rows};
-ghost use Rattle.occ_member.specs.occ_behaviour.States.{is_state};
+ghost use Rattle.occ_run.specs.occ_behaviour.States.{is_state};
 ghost use Rattle.occ_behaviour_read.specs.occ_nform_table.Lines.{HaveWidths};
 ghost use Rattle.occ_behaviour_read.specs.Claims.{bare_lines, line_read, state_line};
 ghost use Rattle.occ_run_schedule.specs.declared.schedule.ScheduleFault.TheVariants as fault;
@@ -9,8 +9,7 @@ ghost use Rattle.occ_run_schedule.specs.Schedules.{Gives, later_lines, schedule_
 use occ_behaviour_read::{
     bare, behind, first_line, last_number, line, small_number_of, state_line,
 };
-use occ_member::{List, Memory, Name, State};
-use occ_syntax::Kind;
+use occ_syntax::{Kind, List, Memory, Name, State};
 use std::alloc::Global;
 use thiserror::Error;
 

@@ -1,16 +1,13 @@
 ghost use Rattle.std.specs.Prelude.{◌≡◌, ◌++◌, ◌∷◌, codes, decimal, IfOk, OnOk};
 ghost use Rattle.std.specs.List.{flat_map};
-ghost use Rattle.occ_member.specs.occ_behaviour.Members.{AreNamed};
-ghost use Rattle.occ_member.specs.occ_behaviour.Texts.{event_text, state_text};
+ghost use Rattle.occ_run.specs.occ_behaviour.Members.{AreNamed};
+ghost use Rattle.occ_run.specs.occ_behaviour.Texts.{event_text, state_text};
 ghost use Rattle.occ_run_schedule.specs.Following.{FollowedIsNamed, ShownIsNamed};
 ghost use Rattle.occ_run_schedule.specs.Texts.{followed_text as text_of, stand_text as text_of_stand};
 
 use crate::{Followed, Shown};
-use itoa::Buffer;
-use occ_member::{
-    Behaviour, Events, Last, Memory, Names, State, behaviour_text, push_event, push_state,
-};
-use occ_run::Stand;
+use occ_run::{Behaviour, Last, Stand, behaviour_text, push_event, push_state};
+use occ_syntax::{Events, Memory, Names, State, push_number};
 use std::alloc::Global;
 
 /// The lines about where a schedule leads.
@@ -93,13 +90,5 @@ fn push_line(text: &mut Vec<u8>, words: &[u8], number: u64) -> Result<(), Memory
     text.extend_from_slice(words)?;
     push_number(text, number)?;
     text.extend_from_slice(b"\n")?;
-    Ok(())
-}
-
-fn push_number(text: &mut Vec<u8>, number: u64) -> Result<(), Memory>
-    ensures { OnOk result (text.new.items ≡ text.old.items ++ decimal number) }
-{
-    let mut buffer = Buffer::new();
-    text.extend_from_slice(buffer.format(number).as_bytes())?;
     Ok(())
 }

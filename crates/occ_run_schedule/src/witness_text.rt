@@ -2,8 +2,8 @@ ghost use Rattle.std.specs.Prelude.{◌≡◌, ◌++◌, IfOk, MatchOption, OnOk
 ghost use Rattle.std.specs.List.{flat_map, list_all};
 ghost use Rattle.occ_run_schedule.specs.WitnessTexts.{IsTooLong, IsReadable, is_small, schedule_text as text_of, step_text};
 
-use itoa::Buffer;
-use occ_member::{Memory, Name, push_state};
+use occ_run::push_state;
+use occ_syntax::{Memory, Name, push_number};
 use std::alloc::Global;
 
 /// How many bytes the text of a schedule has at most.
@@ -67,9 +67,8 @@ fn push_steps(text: &mut Vec<u8>, steps: &[usize]) -> Result<(), Memory>
 fn push_step(text: &mut Vec<u8>, step: usize) -> Result<(), Memory>
     ensures { OnOk result (text.new.items ≡ text.old.items ++ step_text step) }
 {
-    let mut buffer = Buffer::new();
     text.extend_from_slice(b"STEP ")?;
-    text.extend_from_slice(buffer.format(step).as_bytes())?;
+    push_number(text, step as u64)?;
     text.extend_from_slice(b"\n")?;
     Ok(())
 }

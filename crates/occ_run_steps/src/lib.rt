@@ -1,6 +1,5 @@
-//! How a program goes on by single steps, as definitions alone: control trees, what they come to without a step, their
-//! steps in order, and where a schedule of steps leads. They share nothing with the meaning of processes.
-//! What single steps of a program have to do with its meaning: a control tree is given one, and a step says what it does.
+//! How a program goes on by single steps, as definitions alone, after Plotkin; and the laws that a program does exactly what schedules of
+//! steps reach. There is no code.
 #![tactic(auto)]
 
 mod law;

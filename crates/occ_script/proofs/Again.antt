@@ -4,8 +4,8 @@ use Rattle.std.specs.List.{position_or_len}
 use Rattle.std.specs.Str.{bytes_eq}
 use Rattle.std.proofs.lemmas.Slice.Eq.{bytes_eq-Decides}
 use Rattle.std.proofs.lemmas.Bool.{cases_lt}
-use Rattle.occ_script_lines.specs.occ_base.Names.{place_of, with_text}
-use Rattle.occ_script_lines.proofs.from_base.Naming.{place-le, with_new, with_there}
+use Rattle.occ_syntax.specs.occ_base.Names.{place_of, with_text}
+use Rattle.occ_syntax.proofs.from_base.Naming.{place-le, with_new, with_there}
 use Rattle.occ_script_lines.specs.occ_lex.declared.token.Line.{Line}
 use Rattle.occ_script_lines.specs.occ_lex.declared.token.Token.{Token}
 use Rattle.occ_script_lines.specs.occ_lex.declared.token.TokenKind.{TokenKind}

@@ -1,7 +1,7 @@
 -- Names that have texts in a table have them in a longer one.
 use Rattle.std.proofs.Common.{◌≡◌, ℕ, ◌≤◌, true, List, [], ◌∷◌, length, refl, arith}
 use Rattle.std.proofs.lemmas.Bool.{and_from, and_parts, lt-ltb, ltb-true}
-use Rattle.occ_script_lines.specs.occ_base.declared.names.Name.{Name}
+use Rattle.occ_syntax.specs.occ_base.declared.names.Name.{Name}
 use Rattle.occ_script_lines.specs.occ_lex.Symbols.{Extends}
 use Rattle.occ_script_lines.proofs.from_lex.Interned.{longer}
 use Rattle.occ_parse_part.specs.occ_parse.Known.{NamesAreKnown, all_declare, branches_declare, cases_declare, declares, is_below, params_declare}

@@ -1,7 +1,7 @@
 -- What is seen of a script: its programs with trees as bodies, the lines of the one behind FROM, and of each step what it says; and
 -- what is seen of an order.
 use Rattle.std.specs.Prelude.{ℕ, List, map, Option, option_map}
-use Rattle.occ_script_lines.specs.occ_base.declared.names.Name.{Name}
+use Rattle.occ_syntax.specs.occ_base.declared.names.Name.{Name}
 use Rattle.occ_law.specs.declared.table.LawId.{LawId}
 use Rattle.occ_parse_part.specs.Parts.{Part}
 use Rattle.occ_parse_part.specs.Shown.{part_of}

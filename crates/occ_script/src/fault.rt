@@ -3,7 +3,7 @@ ghost use Rattle.occ_script.specs.declared.fault.ScriptFault.TheVariants as faul
 ghost use Rattle.occ_script.specs.Faults.{text_fault as fault_of_text};
 
 use occ_parse_part::ParseFault;
-use occ_script_lines::Memory;
+use occ_syntax::Memory;
 use thiserror::Error;
 
 /// Why a script or an orders text isn't read, with the number of the line from 1.

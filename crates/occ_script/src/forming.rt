@@ -18,7 +18,8 @@ use crate::judging::{judged_lines, section_fault};
 use crate::part::step;
 use crate::script::{Formed, Framed};
 use crate::{ScriptFault, Steps};
-use occ_script_lines::{Format, Names, Section, Sections, framed, is_blank, is_line, last_line};
+use occ_script_lines::{Format, Section, Sections, framed, is_blank, is_line, last_line};
+use occ_syntax::Names;
 use std::alloc::Global;
 
 /// The number of the next keyword line, or else of the text's last line.

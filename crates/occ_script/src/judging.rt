@@ -9,7 +9,8 @@ ghost use Rattle.occ_script_lines.specs.Sections.{section as seen};
 
 use crate::content::Content;
 use occ_parse_part::{Judged, ParseFault, Placed, judge_rows, least_bad};
-use occ_script_lines::{Line, Memory, Names, Section, lex_rows as rows, lines};
+use occ_script_lines::{Line, Section, lex_rows as rows, lines};
+use occ_syntax::{Memory, Names};
 use std::alloc::Global;
 
 /// The lines of a section, and what they say, up to the first that can't be read or is over a limit.

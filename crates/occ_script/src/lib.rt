@@ -19,16 +19,16 @@ pub use content::Content;
 pub use fault::ScriptFault;
 pub use law::{one_orders, one_script};
 pub use listing::orders;
-pub use occ_law::{LawId, Store, TABLE, find, name as law_name};
+pub use occ_law::{Law, LawId, Store, TABLE, find, name};
 pub use occ_parse_part::{
     Bound, ParseFault, Raw, Text, Which, form, one_reading_of_a_part, parse, resolve,
 };
 pub use occ_script_lines::{
-    Accepted, Dir, Direction, Event, Format, Keyword, LineFault, List, Memory, Name, Names, Path,
-    Sections, Sign, State, Symbol, Token, TokenKind, UsageFault, Width, at, check, code, first_row,
-    is_blank, keeps_scope, keeps_types, last_line, lex_line as line, lex_lines, lex_rows as rows,
+    Direction, Format, Keyword, LineFault, Path, Sections, Sign, Symbol, Token, TokenKind, at,
+    code, first_row, is_blank, last_line, lex_line as line, lex_lines, lex_rows as rows,
     lines as script_lines_lines, path as script_lines_path, read as lex_read, replace, scope_at,
     step_line,
 };
+pub use occ_syntax::{Memory, push_number};
 pub use reading::read;
 pub use script::{Order, Orders, Script, Step, Steps};

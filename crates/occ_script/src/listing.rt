@@ -15,7 +15,8 @@ use crate::part::{law, raw};
 use crate::reading::MOST_BYTES;
 use crate::{Order, Orders, ScriptFault};
 use occ_parse_part::{ParseFault, Raw, Which, one_form};
-use occ_script_lines::{Format, Names, Section, Sections, step_line};
+use occ_script_lines::{Format, Section, Sections, step_line};
+use occ_syntax::Names;
 use std::alloc::Global;
 
 /// The part that the lines of a section are, where it has lines.

@@ -21,7 +21,8 @@ use crate::judging::{judged_lines, lacks_part, layout_fault};
 use crate::{ScriptFault, Step};
 use occ_law::{LawId, find};
 use occ_parse_part::{ParseFault, Raw, form, one_form};
-use occ_script_lines::{Line, Memory, Names, Section, step_line};
+use occ_script_lines::{Line, Section, step_line};
+use occ_syntax::{Memory, Names};
 use std::alloc::Global;
 
 /// The part that lines without a fault are.

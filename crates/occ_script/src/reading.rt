@@ -13,7 +13,7 @@ use crate::fault::text_fault;
 use crate::forming::formed;
 use crate::{Script, ScriptFault};
 use occ_parse_part::{Bound, ParseFault, Text, Which, parse};
-use occ_script_lines::Names;
+use occ_syntax::Names;
 use std::alloc::Global;
 
 pub(crate) const MOST_BYTES: usize = 4_194_304;

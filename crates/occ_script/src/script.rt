@@ -2,8 +2,8 @@ ghost use Rattle.std.specs.Prelude.{◌<◌, length};
 
 use occ_law::LawId;
 use occ_parse_part::{Raw, Text};
-use occ_script_lines::{Direction, List, Path};
-use occ_syntax::Program;
+use occ_script_lines::{Direction, Path};
+use occ_syntax::{List, Program};
 
 /// A step: the law, the way in which it is used, the path of a part, and the part that comes into its place. The law is None
 /// where the table has no law of the name that was given.

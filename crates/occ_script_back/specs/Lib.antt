@@ -13,7 +13,6 @@ pub mod Blank
 pub mod Limits
 pub use Rattle.occ_script_write.specs.occ_base as occ_base
 pub use Rattle.occ_script_write.specs.occ_lex as occ_lex
-pub use Rattle.occ_script_write.specs.occ_meaning as occ_meaning
 pub use Rattle.occ_print_back.specs.occ_parse as occ_parse
 pub use Rattle.occ_script_write.specs.occ_parse_forms as occ_parse_forms
 pub use Rattle.occ_print_back.specs.occ_parse_layout as occ_parse_layout
@@ -22,7 +21,6 @@ pub use Rattle.occ_print_back.specs.occ_parse_rules as occ_parse_rules
 pub use Rattle.occ_print_back.specs.occ_parse_unroll as occ_parse_unroll
 pub use Rattle.occ_script_write.specs.occ_print as occ_print
 pub use Rattle.occ_print_back.specs as occ_print_back
-pub use Rattle.occ_replay_rules.specs as occ_replay_rules
 pub use Rattle.occ_script.specs as occ_script
 pub use Rattle.occ_script_write.specs.occ_script_lines as occ_script_lines
 pub use Rattle.occ_script_write.specs as occ_script_write

@@ -9,11 +9,10 @@ mod program_laws;
 mod write_laws;
 
 pub use joined_laws::{moves_are_written_well, written_moves_join};
-pub use occ_print_back::{one_reading, read_programs_print_within_levels};
-pub use occ_replay_rules::scripts_have_one_answer;
+pub use occ_print_back::read_programs_print_within_levels;
 pub use occ_script_write::{
-    Accepted, Direction, Done, LawId, Memory, Name, Names, Path, Width, greatest_name, numbered,
-    parts_are_known_up_to_their_greatest_name, replace, write,
+    Accepted, Done, Law, Path, greatest_name, numbered, parts_are_known_up_to_their_greatest_name,
+    write,
 };
 pub use part_laws::{printed_part_has_its_lines, printed_parts_read_back, tables_grow_by_elements};
 pub use program_laws::{

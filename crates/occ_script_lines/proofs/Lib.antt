@@ -8,7 +8,6 @@ pub mod Rows
 pub mod Divided
 pub mod Words
 pub mod Blank
-pub use Rattle.occ_lex.proofs.from_base as from_base
 pub use Rattle.occ_lex.proofs as from_lex
 pub use Rattle.occ_usage.proofs.from_names as from_names
 pub use Rattle.occ_usage.proofs as from_usage

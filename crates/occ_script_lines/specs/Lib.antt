@@ -7,7 +7,6 @@ pub mod Heads
 pub mod Sections
 pub mod Left
 unfoldable pub use Rattle.occ_syntax.specs.View.{tree}
-pub use Rattle.occ_lex.specs.occ_base as occ_base
 pub use Rattle.occ_lex.specs as occ_lex
 pub use Rattle.occ_usage.specs.occ_names as occ_names
 pub use Rattle.occ_usage.specs as occ_usage

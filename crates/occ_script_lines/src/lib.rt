@@ -27,10 +27,7 @@ pub use text::{cut, path};
 pub type Path = occ_lex::List<u32>;
 
 pub use occ_lex::{
-    Dir, Event, Keyword, Line, LineFault, List, Memory, Name, Names, Sign, State, Symbol, Token,
-    TokenKind, Width, code, first_row, line as lex_line, lines as lex_lines, numbered, read,
-    rows as lex_rows,
+    Keyword, Line, LineFault, Sign, Symbol, Token, TokenKind, code, first_row, line as lex_line,
+    lines as lex_lines, numbered, read, rows as lex_rows,
 };
-pub use occ_usage::{
-    Accepted, NameSet, RenameFault, UsageFault, check, free, keeps_scope, keeps_types, rename,
-};
+pub use occ_usage::{Accepted, NameSet, RenameFault, free, rename};

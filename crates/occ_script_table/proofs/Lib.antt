@@ -13,5 +13,4 @@ pub mod Reading
 pub mod Parts
 pub mod Scripts
 pub use Rattle.occ_script_back.proofs.from_print_back as from_print_back
-pub use Rattle.occ_script_back.proofs.from_script as from_script
 pub use Rattle.occ_script_back.proofs as from_script_back

@@ -2,7 +2,8 @@
 
 use crate::texts::fault_of;
 use itoa::Buffer;
-use occ_script::{Bound, Memory, ParseFault, Which};
+use occ_script::{Bound, ParseFault, Which};
+use occ_syntax::Memory;
 use std::alloc::Global;
 
 fn repeat(text: &mut Vec<u8>, piece: &[u8], count: usize) -> Result<(), Memory> {

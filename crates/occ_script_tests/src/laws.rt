@@ -1,4 +1,4 @@
-use occ_script::{LawId, TABLE, find, law_name as name};
+use occ_script::{LawId, TABLE, find, name};
 
 #[test]
 fn names_and_numbers(rt: HostRuntime) {

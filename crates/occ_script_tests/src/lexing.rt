@@ -1,9 +1,10 @@
 //! Lines, tokens and symbols.
 
 use occ_script::{
-    Keyword, LineFault, Name, Names, Sign, Symbol, Token, TokenKind, Width, code, first_row,
-    lex_lines as lines, lex_read as read, line, rows,
+    Keyword, LineFault, Sign, Symbol, Token, TokenKind, code, first_row, lex_lines as lines,
+    lex_read as read, line, rows,
 };
+use occ_syntax::{Name, Names, Width};
 use std::alloc::Global;
 use std::test::Fail;
 

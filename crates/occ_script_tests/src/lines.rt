@@ -1,7 +1,7 @@
 use occ_script::{
-    Direction, Format, Memory, Sections, is_blank, last_line, script_lines_lines as lines,
-    step_line,
+    Direction, Format, Sections, is_blank, last_line, script_lines_lines as lines, step_line,
 };
+use occ_syntax::Memory;
 
 const SCRIPT: &[u8] =
     b"occam-script 2\nFROM -- first\n\nSTEP seq-one FORWARD /0/12\n  SKIP\n\nTO\nTOP\n\n";

@@ -1,13 +1,13 @@
 ghost use Rattle.std.specs.Prelude.{◌≡◌, ◌∷◌, IfOk, true, []};
 ghost use Rattle.occ_run_schedule.specs.occ_behaviour.States.{is_state};
-ghost use Rattle.occ_script.specs.occ_usage.Accepted.{IsTyped};
+ghost use Rattle.occ_run_schedule.specs.occ_usage.Accepted.{IsTyped};
 
-use occ_run_schedule::{Move, Stand, StepFault, start};
-use occ_script::{
-    Accepted, Dir, Event, Memory, Name, State, UsageFault, Width, check, keeps_scope, keeps_types,
+use occ_run_schedule::{
+    Accepted, Move, Stand, StepFault, UsageFault, check, keeps_scope, keeps_types, start,
 };
 use occ_syntax::{
-    Expr, Exprs, Kind, NameList, Proc, Procs, Program, Scope, controls, interface_bits, scope_bits,
+    Dir, Event, Expr, Exprs, Kind, Memory, Name, NameList, Proc, Procs, Program, Scope, State,
+    Width, controls, interface_bits, scope_bits,
 };
 use std::alloc::Global;
 
@@ -62,6 +62,15 @@ fn accepted(alloc: Global, body: Proc) -> Result<Accepted, UsageFault>
     Ok(check(alloc, program)?)
 }
 
+// The output of a value on D.
+fn shown(value: u8) -> Event {
+    Event {
+        chan: D,
+        dir: Dir::Output,
+        value,
+    }
+}
+
 // X is 3 and Y is 2.
 fn state(alloc: Global) -> Result<State, Memory>
     ensures { IfOk result (λ state. state ≡ (record { 0 = 0 }, 3) ∷ (record { 0 = 1 }, 2) ∷ []) }
@@ -110,7 +119,9 @@ fn a_lone_stop_is_stuck(rt: HostRuntime) -> Result<(), UsageFault> {
     let from = state(alloc)?;
     let machine = start(alloc, &accepted, &from)?;
     match machine.stand()? {
-        Stand::Stuck(refused) => assert_eq!(rt; refused.items().len(), 2),
+        Stand::Stuck(refused) => {
+            assert_eq!(rt; refused.items(), [shown(0), shown(1)].as_slice());
+        }
         _ => assert!(rt; false),
     }
     Ok(())
@@ -124,11 +135,11 @@ fn two_processes_meet(rt: HostRuntime) -> Result<(), UsageFault> {
         chan: C,
         value: Expr::Word { bits: 2, value: 1 },
     };
-    let shown = Proc::Output {
+    let behind = Proc::Output {
         chan: D,
         value: Expr::Word { bits: 1, value: 1 },
     };
-    let sender = Proc::Seq(row(alloc, sent, shown)?);
+    let sender = Proc::Seq(row(alloc, sent, behind)?);
     let both = Proc::Par(row(alloc, sender, Proc::Input { chan: C, var: X })?);
     let body = both.declare(alloc, C, Kind::Chan(WORD2, None))?;
     let accepted = accepted(alloc, body)?;
@@ -136,21 +147,19 @@ fn two_processes_meet(rt: HostRuntime) -> Result<(), UsageFault> {
     let mut machine = start(alloc, &accepted, &from)?;
     assert_eq!(rt; machine.moves()?.as_slice(), [Move::Unseen].as_slice());
     assert!(rt; machine.step(0).is_ok());
-    let event = Event {
-        chan: D,
-        dir: Dir::Output,
-        value: 1,
-    };
-    assert_eq!(rt; machine.moves()?.as_slice(), [Move::Seen(event)].as_slice());
+    assert_eq!(rt;
+        machine.moves()?.as_slice(),
+        [Move::Seen(shown(1))].as_slice()
+    );
     match machine.stand()? {
         Stand::Stable { steps, refused } => {
             assert_eq!(rt; steps, 1);
-            assert_eq!(rt; refused.items().len(), 1);
+            assert_eq!(rt; refused.items(), [shown(0)].as_slice());
         }
         _ => assert!(rt; false),
     }
     assert!(rt; machine.step(0).is_ok());
-    assert_eq!(rt; machine.trace(), [event].as_slice());
+    assert_eq!(rt; machine.trace(), [shown(1)].as_slice());
     match machine.stand()? {
         Stand::Ended(end) => assert_eq!(rt; end.items(), [(X, 1), (Y, 2)].as_slice()),
         _ => assert!(rt; false),

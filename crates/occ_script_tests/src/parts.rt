@@ -1,9 +1,9 @@
 //! Parts of scripts in a scope.
 
-use occ_script::{
-    Dir, Memory, Name, Names, ParseFault, Raw, Width, form, lex_lines as lines, resolve,
+use occ_script::{ParseFault, Raw, form, lex_lines as lines, resolve};
+use occ_syntax::{
+    Dir, Expr, Exprs, Kind, Memory, Name, NameList, Names, Op, Proc, Procs, Scope, Width, same_proc,
 };
-use occ_syntax::{Expr, Exprs, Kind, NameList, Op, Proc, Procs, Scope, same_proc};
 use std::alloc::Global;
 use std::process::Abort;
 

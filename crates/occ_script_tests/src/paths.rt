@@ -1,8 +1,8 @@
-use occ_script::{List, Name, Width, at, script_lines_path as path};
-use occ_syntax::{Kind, Proc, Procs, Program, Scope};
+use occ_script::{at, script_lines_path as path};
+use occ_syntax::{Kind, List, Name, Proc, Procs, Program, Scope, Width};
 use std::alloc::Global;
 
-fn program(alloc: Global) -> Result<Program, occ_script::Memory> {
+fn program(alloc: Global) -> Result<Program, occ_syntax::Memory> {
     let mut parts = Procs::new(alloc);
     parts.push(Proc::Skip)?;
     parts.push(Proc::Stop)?;
@@ -13,7 +13,7 @@ fn program(alloc: Global) -> Result<Program, occ_script::Memory> {
 }
 
 #[test]
-fn paths_lead_to_parts(rt: HostRuntime) -> Result<(), occ_script::Memory> {
+fn paths_lead_to_parts(rt: HostRuntime) -> Result<(), occ_syntax::Memory> {
     let program = program(rt.alloc())?;
     if let Some(below) = path(rt.alloc(), b"/0/1")? {
         assert!(rt; matches!(at(&program, &below), Some(Proc::Stop)));
@@ -25,7 +25,7 @@ fn paths_lead_to_parts(rt: HostRuntime) -> Result<(), occ_script::Memory> {
 }
 
 #[test]
-fn texts_write_paths(rt: HostRuntime) -> Result<(), occ_script::Memory> {
+fn texts_write_paths(rt: HostRuntime) -> Result<(), occ_syntax::Memory> {
     let rows: [(&[u8], bool); 10] = [
         (b"/", true),
         (b"/0", true),

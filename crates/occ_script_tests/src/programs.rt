@@ -1,9 +1,10 @@
 //! Programs with what they stand for.
 
 use crate::texts::read;
-use occ_script::{Bound, Dir, Memory, Name, Names, ParseFault, Text, Width};
+use occ_script::{Bound, ParseFault, Text};
 use occ_syntax::{
-    Alternatives, Choices, Expr, Exprs, Guard, Kind, NameList, Op, Proc, Procs, Wait, same_proc,
+    Alternatives, Choices, Dir, Expr, Exprs, Guard, Kind, Memory, Name, NameList, Names, Op, Proc,
+    Procs, Wait, Width, same_proc,
 };
 use std::alloc::Global;
 

@@ -4,7 +4,8 @@ use crate::texts::fault_of;
 use occ_script::ParseFault::{
     Direction, Form, Index, Limit, Line, NoType, Redeclared, TypeClash, Undeclared,
 };
-use occ_script::{Bound, LineFault, Memory, ParseFault, Which};
+use occ_script::{Bound, LineFault, ParseFault, Which};
+use occ_syntax::Memory;
 use std::alloc::Global;
 use std::process::Abort;
 

@@ -1,6 +1,5 @@
 use occ_run_schedule::{ScheduleFault, read};
-use occ_script::{Memory, Names, Width};
-use occ_syntax::Kind;
+use occ_syntax::{Kind, Memory, Names, Width};
 
 #[test]
 fn schedules_are_read(rt: HostRuntime) -> Result<(), Memory> {

@@ -1,4 +1,5 @@
-use occ_script::{Names, ParseFault, ScriptFault, orders, read};
+use occ_script::{ParseFault, ScriptFault, orders, read};
+use occ_syntax::Names;
 use std::alloc::Global;
 
 const SCRIPT: &[u8] =

@@ -1,4 +1,5 @@
-use occ_derive_trail::{Lost, Trail, law, parts_of};
+use occ_derive_trail::{Lost, Trail, parts_of};
+use occ_script::Law;
 use occ_syntax::{Proc, Procs};
 
 #[test]
@@ -10,7 +11,7 @@ fn steps_are_kept(rt: HostRuntime) -> Result<(), Lost> {
     let mut trail = Trail::new(alloc);
     trail.enter(0)?;
     for part in parts.as_slice() {
-        trail.forward(law::SEQ_ONE, part)?;
+        trail.forward(Law::SeqOne, part)?;
     }
     trail.leave();
     let steps = trail.into_steps();

@@ -1,6 +1,7 @@
 //! Short texts that are read.
 
-use occ_script::{Bound, Names, ParseFault, Text, parse};
+use occ_script::{Bound, ParseFault, Text, parse};
+use occ_syntax::Names;
 use std::alloc::Global;
 
 // Texts that the tests read are shorter.

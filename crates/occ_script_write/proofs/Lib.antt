@@ -1,4 +1,4 @@
-pub use Rattle.occ_script_lines.proofs.from_base as from_base
+pub use Rattle.occ_syntax.proofs.from_base as from_base
 pub use Rattle.occ_law.proofs.from_bits as from_bits
 pub use Rattle.occ_script_lines.proofs.from_lex as from_lex
 pub use Rattle.occ_law.proofs.from_meaning as from_meaning

@@ -1,5 +1,5 @@
 pub mod Text
-pub use Rattle.occ_script_lines.specs.occ_base as occ_base
+pub use Rattle.occ_syntax.specs.occ_base as occ_base
 pub use Rattle.occ_law.specs.occ_bits as occ_bits
 pub use Rattle.occ_law.specs as occ_law
 pub use Rattle.occ_script_lines.specs.occ_lex as occ_lex

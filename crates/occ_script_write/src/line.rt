@@ -1,10 +1,10 @@
 //! The lines of a script that stand at level 0.
 
-ghost use Rattle.std.specs.Prelude.{◌≡◌, ◌++◌, OnOk, decimal};
+ghost use Rattle.std.specs.Prelude.{◌≡◌, ◌++◌, OnOk};
 ghost use Rattle.occ_script_write.specs.Text.{direction_text, line, numbers_text, path_text, place_text};
 
-use itoa::Buffer;
-use occ_script_lines::{Direction, Memory, Path};
+use occ_script_lines::{Direction, Path};
+use occ_syntax::{Memory, push_number};
 
 /// Adds words and a line feed.
 pub(crate) fn push_line(text: &mut Vec<u8>, words: &[u8]) -> Result<(), Memory>
@@ -25,19 +25,11 @@ pub(crate) fn direction_word(dir: Direction) -> &'static [u8]
     }
 }
 
-fn push_number(text: &mut Vec<u8>, number: u32) -> Result<(), Memory>
-    ensures { OnOk result (text.new.items ≡ text.old.items ++ decimal number) }
-{
-    let mut buffer = Buffer::new();
-    text.extend_from_slice(buffer.format(number).as_bytes())?;
-    Ok(())
-}
-
 fn push_place(text: &mut Vec<u8>, number: u32) -> Result<(), Memory>
     ensures { OnOk result (text.new.items ≡ text.old.items ++ place_text number) }
 {
     text.extend_from_slice(b"/")?;
-    push_number(text, number)
+    push_number(text, u64::from(number))
 }
 
 fn push_numbers(text: &mut Vec<u8>, numbers: &[u32]) -> Result<(), Memory>

@@ -9,8 +9,8 @@ ghost use Rattle.occ_script_write.specs.Text.{IsWritable, script_text, step_text
 use crate::line::{direction_word, push_line, push_path};
 use occ_law::{LawId, name};
 use occ_print::{print, print_part};
-use occ_script_lines::{Direction, Memory, Names, Path};
-use occ_syntax::{Proc, Program};
+use occ_script_lines::{Direction, Path};
+use occ_syntax::{Memory, Names, Proc, Program};
 use std::alloc::Global;
 
 /// A step that was taken: the law, the way in which it was used, the path of a part, and the part that came into its place.

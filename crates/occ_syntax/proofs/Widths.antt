@@ -1,5 +1,5 @@
-use Rattle.std.proofs.Common.{◌≡◌, ◌≤◌, ◌==◌, ℕ, true, false, cond, List, [], ◌∷◌, Some, sym, ap, ◌∙◌, subst, arith, ⊎_elim}
-use Rattle.std.proofs.lemmas.Bool.{and_parts, cases_Bool, leb-true}
+use Rattle.std.proofs.Common.{◌≡◌, ◌≤◌, ◌==◌, ℕ, true, false, cond, List, [], ◌∷◌, Some, sym, ap, ◌∙◌, subst, arith, ⊎_elim, refl}
+use Rattle.std.proofs.lemmas.Bool.{and_parts, cases_Bool, leb-true, eq-eqb, eqb-true}
 use Rattle.occ_base.specs.declared.names.Name.{Name}
 use Rattle.occ_base.specs.declared.width.Width.{Width}
 use Rattle.occ_base.specs.declared.width.Width.TheVariants.{Bool as TruthValue, Word}
@@ -7,7 +7,18 @@ use Rattle.occ_base.specs.Width.{bits_of}
 use Rattle.occ_syntax.specs.declared.scope.Kind.{Kind}
 use Rattle.occ_syntax.specs.declared.scope.Kind.TheVariants.{Var, Chan}
 use Rattle.occ_syntax.specs.Scopes.{environment, variable_width, variable_kind}
-use Rattle.occ_syntax.specs.Types.{scope_kept, is_width, width_of_kind}
+use Rattle.occ_syntax.specs.Types.{scope_kept, is_width, width_of_kind, same_width}
+
+-- two widths are the same exactly where they are equal
+pub same_widths : (a b : Width) → same_width a b ≡ true → a ≡ b
+same_widths TruthValue TruthValue h = refl
+same_widths (Word a) (Word b) h = ap Word (eqb-true a b h)
+same_widths TruthValue (Word b) h = cc
+same_widths (Word a) TruthValue h = cc
+
+pub same_as_itself : (a : Width) → same_width a a ≡ true
+same_as_itself TruthValue = refl
+same_as_itself (Word bits) = eq-eqb bits bits refl
 
 -- a width has 1 to 8 bits
 pub width_within : (w : Width) → is_width w ≡ true → (1 ≤ bits_of w) × (bits_of w ≤ 8)

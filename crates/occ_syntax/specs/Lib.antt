@@ -9,4 +9,5 @@ pub mod Meaning
 pub mod Same
 pub mod Counts
 pub mod Declarations
+pub mod Headers
 pub use Rattle.occ_base.specs as occ_base

@@ -2,9 +2,30 @@ ghost use Rattle.std.specs.Prelude.{◌≡◌, ◌↔◌, IsTrue, false, true};
 ghost use Rattle.occ_syntax.specs.Tree.{skip};
 ghost use Rattle.occ_syntax.specs.View.{numbers, exp, exps, waiting, tree, trees, cases, branches};
 ghost use Rattle.occ_syntax.specs.Declarations.{declaring, is_declaration, is_simple};
+ghost use Rattle.occ_syntax.specs.Types.{same_width};
 
 use crate::{Expr, Guard, Kind, Op, Proc, Wait};
-use occ_base::Name;
+use occ_base::{Name, Width};
+
+/// Whether two widths are the same.
+pub fn same_width(left: Width, right: Width) -> bool
+    ensures { result ≡ same_width left right }
+{
+    match left {
+        Width::Bool => matches!(right, Width::Bool),
+        Width::Word(bits) => match right {
+            Width::Bool => false,
+            Width::Word(others) => bits == others,
+        },
+    }
+}
+
+/// Whether two lists of parameters are the same. It takes no memory.
+pub fn same_parameters(left: &[(Name, Kind)], right: &[(Name, Kind)]) -> bool
+    ensures { IsTrue result ↔ (left.now ≡ right.now) }
+{
+    left == right
+}
 
 /// Whether two expressions are the same: the same operators, names and numerals in the same places. It takes no memory.
 pub fn same_expr(left: &Expr, right: &Expr) -> bool
@@ -46,13 +67,15 @@ fn same_op(left: Op, right: Op) -> bool
     left == right
 }
 
-fn same_names(left: &[Name], right: &[Name]) -> bool
+/// Whether two lists of names are the same. It takes no memory.
+pub fn same_names(left: &[Name], right: &[Name]) -> bool
     ensures { IsTrue result ↔ (numbers left.now ≡ numbers right.now) }
 {
     left == right
 }
 
-fn same_exprs(left: &[Expr], right: &[Expr]) -> bool
+/// Whether two lists of expressions are the same. It takes no memory.
+pub fn same_exprs(left: &[Expr], right: &[Expr]) -> bool
     ensures { IsTrue result ↔ (exps left.now ≡ exps right.now) }
 {
     if left.len() != right.len() {
@@ -66,7 +89,8 @@ fn same_exprs(left: &[Expr], right: &[Expr]) -> bool
     true
 }
 
-fn same_wait(left: &Wait, right: &Wait) -> bool
+/// Whether two guards wait for the same. It takes no memory.
+pub fn same_wait(left: &Wait, right: &Wait) -> bool
     ensures { IsTrue result ↔ (waiting left.now ≡ waiting right.now) }
 {
     match left {
@@ -127,11 +151,11 @@ fn same_undeclared(left: &Proc, right: &Proc) -> bool
 {
     match left {
         Proc::Seq(parts) => match right {
-            Proc::Seq(others) => same_all(parts.items(), others.items()),
+            Proc::Seq(others) => same_procs(parts.items(), others.items()),
             _ => false,
         },
         Proc::Par(parts) => match right {
-            Proc::Par(others) => same_all(parts.items(), others.items()),
+            Proc::Par(others) => same_procs(parts.items(), others.items()),
             _ => false,
         },
         Proc::If(choices) => match right {
@@ -139,15 +163,16 @@ fn same_undeclared(left: &Proc, right: &Proc) -> bool
             _ => false,
         },
         Proc::Alt(alternatives) => match right {
-            Proc::Alt(others) => same_alternatives(alternatives.items(), others.items()),
+            Proc::Alt(others) => same_branches(alternatives.items(), others.items()),
             _ => false,
         },
         _ => same_simple(left, right),
     }
 }
 
+/// Whether two lists of processes are the same. It takes no memory.
 #[cycle(same_proc)]
-fn same_all(left: &[Proc], right: &[Proc]) -> bool
+pub fn same_procs(left: &[Proc], right: &[Proc]) -> bool
     ensures { IsTrue result ↔ (trees left.now ≡ trees right.now) }
 {
     if left.len() != right.len() {
@@ -161,8 +186,9 @@ fn same_all(left: &[Proc], right: &[Proc]) -> bool
     true
 }
 
+/// Whether two lists of choices are the same. It takes no memory.
 #[cycle(same_proc)]
-fn same_choices(left: &[(Expr, Proc)], right: &[(Expr, Proc)]) -> bool
+pub fn same_choices(left: &[(Expr, Proc)], right: &[(Expr, Proc)]) -> bool
     ensures { IsTrue result ↔ (cases left.now ≡ cases right.now) }
 {
     if left.len() != right.len() {
@@ -179,8 +205,9 @@ fn same_choices(left: &[(Expr, Proc)], right: &[(Expr, Proc)]) -> bool
     true
 }
 
+/// Whether two lists of branches are the same. It takes no memory.
 #[cycle(same_proc)]
-fn same_alternatives(left: &[(Guard, Proc)], right: &[(Guard, Proc)]) -> bool
+pub fn same_branches(left: &[(Guard, Proc)], right: &[(Guard, Proc)]) -> bool
     ensures { IsTrue result ↔ (branches left.now ≡ branches right.now) }
 {
     if left.len() != right.len() {
@@ -197,11 +224,21 @@ fn same_alternatives(left: &[(Guard, Proc)], right: &[(Guard, Proc)]) -> bool
     true
 }
 
-fn same_guard(left: &Guard, right: &Guard) -> bool
+/// Whether two guards are the same. It takes no memory.
+pub fn same_guard(left: &Guard, right: &Guard) -> bool
     ensures { IsTrue result
         ↔ ((exp left.now.condition ≡ exp right.now.condition) × (waiting left.now.wait ≡ waiting right.now.wait)) }
 {
     same_expr(&left.condition, &right.condition) && same_wait(&left.wait, &right.wait)
+}
+
+/// Whether two branches are the same. It takes no memory.
+pub fn same_branch(left: &(Guard, Proc), right: &(Guard, Proc)) -> bool
+    ensures { IsTrue result
+        ↔ ((exp left.now.0.condition ≡ exp right.now.0.condition) × (waiting left.now.0.wait ≡ waiting right.now.0.wait)
+        × (tree left.now.1 ≡ tree right.now.1)) }
+{
+    same_guard(&left.0, &right.0) && same_proc(&left.1, &right.1)
 }
 
 // Whether two processes are the same, where the first has no process in it.

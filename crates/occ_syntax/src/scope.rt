@@ -1,7 +1,8 @@
-ghost use Rattle.std.specs.Prelude.{◌≡◌};
+ghost use Rattle.std.specs.Prelude.{◌≡◌, ◌↔◌, IsTrue};
 ghost use Rattle.occ_syntax.specs.Counts.{bits_of_kind};
+ghost use Rattle.occ_syntax.specs.Headers.{HaveOneHeader};
 
-use crate::Proc;
+use crate::{Proc, same_parameters};
 use occ_base::{Dir, List, Name, Width};
 
 /// What a name in scope stands for.
@@ -34,4 +35,13 @@ pub struct Program {
     pub name: Name,
     pub params: Scope,
     pub body: Proc,
+}
+
+impl Program {
+    /// Whether the program has the header of another: the same name and the same parameters. It takes no memory.
+    pub fn has_header_of(&self, other: &Program) -> bool
+        ensures { IsTrue result ↔ HaveOneHeader self.now other.now }
+    {
+        self.name == other.name && same_parameters(self.params.items(), other.params.items())
+    }
 }

@@ -3,9 +3,9 @@ use Rattle.std.proofs.Common.{◌≡◌, ℕ, ◌+◌, ◌-◌, ◌^◌, ◌<◌
 use Rattle.std.proofs.lemmas.List.{drop-drop, drop_more, length-drop, map_push, take_all}
 use Rattle.std.proofs.lemmas.List.Elements.{filter_more}
 use Rattle.std.proofs.Math.ListN.{drop_of_length-le}
-use Rattle.occ_nform_table.specs.occ_base.declared.event.Dir.TheVariants.{Input}
-use Rattle.occ_nform_table.specs.occ_base.declared.event.Event.{Event}
-use Rattle.occ_nform_table.specs.occ_base.declared.names.Name.{Name}
+use Rattle.occ_syntax.specs.occ_base.declared.event.Dir.TheVariants.{Input}
+use Rattle.occ_syntax.specs.occ_base.declared.event.Event.{Event}
+use Rattle.occ_syntax.specs.occ_base.declared.names.Name.{Name}
 use Rattle.occ_syntax.specs.declared.scope.Kind.{Kind}
 use Rattle.occ_syntax.specs.Counts.{capped}
 use Rattle.occ_syntax.specs.declared.expr.Expr.{Expr}

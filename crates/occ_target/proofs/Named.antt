@@ -2,9 +2,9 @@
 use Rattle.std.proofs.Common.{◌≡◌, ℕ, zero, suc, ◌+◌, ◌-◌, ◌<◌, ◌≤◌, Bool, true, false, cond, nat_lt, List, [], ◌∷◌, ◌++◌, length, get_or, drop, filter, append_assoc, append-nil, refl, sym, ap, ◌∙◌, arith}
 use Rattle.std.proofs.lemmas.List.{drop_more, length-append}
 use Rattle.std.proofs.Math.ListN.{drop_of_length-le}
-use Rattle.occ_nform_table.specs.occ_base.declared.names.Name.{Name}
-use Rattle.occ_nform_table.specs.occ_base.declared.width.Width.{Width}
-use Rattle.occ_nform_table.specs.occ_base.Names.{place_of, with_text}
+use Rattle.occ_syntax.specs.occ_base.declared.names.Name.{Name}
+use Rattle.occ_syntax.specs.occ_base.declared.width.Width.{Width}
+use Rattle.occ_syntax.specs.occ_base.Names.{place_of, with_text}
 use Rattle.occ_syntax.specs.declared.scope.Kind.{Kind}
 use Rattle.occ_syntax.specs.declared.scope.Kind.TheVariants.{Var}
 use Rattle.occ_nform_table.specs.Lines.{AreNamed}

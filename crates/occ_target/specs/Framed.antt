@@ -1,7 +1,7 @@
 -- How the code's frame is seen, and which offers it has the rows behind of.
 use Rattle.std.specs.Prelude.{ℕ, ◌<◌, List, map}
 use Rattle.std.specs.List.{All}
-use Rattle.occ_nform_table.specs.occ_base.declared.event.Event.{Event}
+use Rattle.occ_syntax.specs.occ_base.declared.event.Event.{Event}
 use Rattle.occ_syntax.specs.View.{tree}
 use Rattle.occ_target.specs.Rows.{Frame}
 use Rattle.occ_target.specs.declared.events.Frame as code

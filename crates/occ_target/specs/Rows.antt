@@ -1,18 +1,18 @@
 -- The process of a row of a table: an ALT of its offers, its acceptances and its ends.
 use Rattle.std.specs.Prelude.{ℕ, ◌==◌, Bool, true, false, ◌&&◌, List, [], ◌∷◌, ◌++◌, drop, map, filter, get_or, Option, None, Some, if◌then◌else◌}
-use Rattle.occ_nform_table.specs.occ_base.declared.event.Dir.{Dir}
-use Rattle.occ_nform_table.specs.occ_base.declared.event.Dir.TheVariants.{Input, Output}
-use Rattle.occ_nform_table.specs.occ_base.declared.event.Event.{Event}
-use Rattle.occ_nform_table.specs.occ_base.declared.names.Name.{Name}
-use Rattle.occ_nform_table.specs.occ_base.declared.width.Width.{Width}
-use Rattle.occ_nform_table.specs.occ_base.declared.width.Width.TheVariants.{Bool as Truth}
+use Rattle.occ_syntax.specs.occ_base.declared.event.Dir.{Dir}
+use Rattle.occ_syntax.specs.occ_base.declared.event.Dir.TheVariants.{Input, Output}
+use Rattle.occ_syntax.specs.occ_base.declared.event.Event.{Event}
+use Rattle.occ_syntax.specs.occ_base.declared.names.Name.{Name}
+use Rattle.occ_syntax.specs.occ_base.declared.width.Width.{Width}
+use Rattle.occ_syntax.specs.occ_base.declared.width.Width.TheVariants.{Bool as Truth}
 use Rattle.occ_syntax.specs.declared.scope.Kind.{Kind}
 use Rattle.occ_syntax.specs.declared.scope.Kind.TheVariants.{Var, Chan}
 use Rattle.occ_syntax.specs.Scopes.{channel_width, environment, same_event}
 use Rattle.occ_syntax.specs.Tree.{Exp, truth, Waiting, ready, input, output, Tree, stop, select, alt, Cases, no_case, and_case, Branches, no_branch, and_branch}
 use Rattle.occ_nform_table.specs.declared.table.TableRow.{TableRow}
-use Rattle.occ_target.specs.Inputs.{same_width}
 use Rattle.occ_target.specs.States.{constant, ending, is_at}
+use Rattle.occ_syntax.specs.Types.{same_width}
 
 -- ---- lists of choices and of branches, all of whose conditions are TRUE
 abbrev pub choices : List (Exp × Tree) → Cases

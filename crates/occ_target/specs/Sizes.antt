@@ -1,10 +1,10 @@
 -- How large the processes of rows are, by the sizes of the processes of the rows before them.
 use Rattle.std.specs.Prelude.{ℕ, ◌+◌, List, [], ◌∷◌, ◌++◌, filter, get_or, length, Option, None, Some, if◌then◌else◌}
 use Rattle.std.specs.List.{sum_by}
-use Rattle.occ_nform_table.specs.occ_base.declared.event.Dir.{Dir}
-use Rattle.occ_nform_table.specs.occ_base.declared.event.Dir.TheVariants.{Input, Output}
-use Rattle.occ_nform_table.specs.occ_base.declared.event.Event.{Event}
-use Rattle.occ_nform_table.specs.occ_base.declared.names.Name.{Name}
+use Rattle.occ_syntax.specs.occ_base.declared.event.Dir.{Dir}
+use Rattle.occ_syntax.specs.occ_base.declared.event.Dir.TheVariants.{Input, Output}
+use Rattle.occ_syntax.specs.occ_base.declared.event.Event.{Event}
+use Rattle.occ_syntax.specs.occ_base.declared.names.Name.{Name}
 use Rattle.occ_syntax.specs.Counts.{capped}
 use Rattle.occ_nform_table.specs.declared.table.TableRow.{TableRow}
 use Rattle.occ_target.specs.Rows.{chosen, is_in_branch, is_on}

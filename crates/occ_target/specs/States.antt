@@ -1,8 +1,8 @@
 -- States as conditions and as assignments.
 use Rattle.std.specs.Prelude.{ℕ, nat_lt, List, [], ◌∷◌, true}
-use Rattle.occ_nform_table.specs.occ_base.declared.names.Name.{Name}
-use Rattle.occ_nform_table.specs.occ_base.declared.width.Width.{Width}
-use Rattle.occ_nform_table.specs.occ_base.declared.width.Width.TheVariants.{Bool as Truth, Word}
+use Rattle.occ_syntax.specs.occ_base.declared.names.Name.{Name}
+use Rattle.occ_syntax.specs.occ_base.declared.width.Width.{Width}
+use Rattle.occ_syntax.specs.occ_base.declared.width.Width.TheVariants.{Bool as Truth, Word}
 use Rattle.occ_syntax.specs.declared.expr.Op.TheVariants.{And, Equal}
 use Rattle.occ_syntax.specs.declared.scope.Kind.{Kind}
 use Rattle.occ_syntax.specs.declared.scope.Kind.TheVariants.{Var, Chan}

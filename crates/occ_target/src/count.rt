@@ -11,10 +11,8 @@ ghost use Rattle.occ_target.specs.Sizes.{acceptance_size, choices_size, events_s
 use crate::events::{is_in_branch, is_on};
 use crate::inputs::width_count;
 use crate::row::chosen;
-use occ_nform_table::{
-    BaseEvents as Events, BaseNames as Names, Dir, Event, List, Memory, Name, Table, TableRow,
-};
-use occ_syntax::Kind;
+use occ_nform_table::{Table, TableRow};
+use occ_syntax::{Dir, Event, Events, Kind, List, Memory, Name, Names};
 use std::alloc::Global;
 
 /// The sizes of the processes of rows.

@@ -8,8 +8,7 @@ ghost use Rattle.occ_target.specs.Rows.{behind, choices, guarded, is_in_branch, 
 
 use crate::state::{constant, is_at};
 use crate::widths::{variable_of, width_in};
-use occ_nform_table::{Dir, Event, Memory, Name};
-use occ_syntax::{Alternatives, Choices, Expr, Guard, Kind, Proc, Wait};
+use occ_syntax::{Alternatives, Choices, Dir, Event, Expr, Guard, Kind, Memory, Name, Proc, Wait};
 use std::alloc::Global;
 
 /// What the branches of events are made of: the parameters, the variables for inputs, and the processes of the rows behind.

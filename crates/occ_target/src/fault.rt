@@ -1,4 +1,4 @@
-use occ_nform_table::Memory;
+use occ_syntax::Memory;
 use thiserror::Error;
 
 /// Why there is no normal program.

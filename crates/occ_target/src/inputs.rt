@@ -4,13 +4,12 @@ ghost use Rattle.std.specs.Prelude.{◌≡◌, ◌≤◌, IfOk, OnErr, OnOk, fil
 ghost use Rattle.std.specs.List.{list_all, list_any};
 ghost use Rattle.std.specs.Str.{bytes_eq};
 ghost use Rattle.occ_syntax.specs.Counts.{capped};
-ghost use Rattle.occ_nform_table.specs.occ_base.Names.{with_text};
+ghost use Rattle.occ_syntax.specs.occ_base.Names.{with_text};
 ghost use Rattle.occ_nform_table.specs.Lines.{AreNamed, text_of};
 ghost use Rattle.occ_target.specs.Inputs.{digit_of, input_name, input_names, input_text, input_variables, input_widths, is_input_width, names_with, variables_of};
 
 use crate::widths::{digit_of, is_input_width};
-use occ_nform_table::{BaseNames as Names, Memory, Name, Width};
-use occ_syntax::{Kind, Scope};
+use occ_syntax::{Kind, Memory, Name, Names, Scope, Width};
 use std::alloc::Global;
 
 /// All widths, BOOL first and then by bits.

@@ -13,4 +13,4 @@ mod widths;
 
 pub use fault::TargetFault;
 pub use normal::target;
-pub use occ_nform_table::{Memory, Name, Table, Width};
+pub use occ_nform_table::Table;

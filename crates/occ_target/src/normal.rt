@@ -12,8 +12,8 @@ use crate::TargetFault;
 use crate::count::table_size;
 use crate::inputs::input_variables;
 use crate::program::body_over;
-use occ_nform_table::{BaseNames as Names, Table};
-use occ_syntax::Program;
+use occ_nform_table::Table;
+use occ_syntax::{Names, Program};
 use occ_usage::Accepted;
 use std::alloc::Global;
 

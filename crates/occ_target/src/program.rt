@@ -11,8 +11,8 @@ ghost use Rattle.occ_target.specs.Rows.{choices};
 
 use crate::events::Frame;
 use crate::state::{condition, state_at};
-use occ_nform_table::{Memory, Name, Table, TableRow};
-use occ_syntax::{Choices, Kind, Proc, Procs};
+use occ_nform_table::{Table, TableRow};
+use occ_syntax::{Choices, Kind, Memory, Name, Proc, Procs};
 use std::alloc::Global;
 
 /// The processes of rows, each built on those of the rows before it.

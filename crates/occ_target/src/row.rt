@@ -9,8 +9,8 @@ ghost use Rattle.occ_target.specs.Rows.{acceptance, begins_with, chosen, end_bra
 
 use crate::events::Frame;
 use crate::state::ending;
-use occ_nform_table::{BaseEvents as Events, Event, Memory, State, TableOffers, TableRow};
-use occ_syntax::{Alternatives, Expr, Guard, Proc, Wait};
+use occ_nform_table::{TableOffers, TableRow};
+use occ_syntax::{Alternatives, Event, Events, Expr, Guard, Memory, Proc, State, Wait};
 use std::alloc::Global;
 
 fn same_event(left: Event, right: Event) -> bool

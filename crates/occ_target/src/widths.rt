@@ -1,23 +1,10 @@
 //! The widths of channels, and the variables of widths.
 
 ghost use Rattle.std.specs.Prelude.{◌≡◌, ◌≤◌};
-ghost use Rattle.occ_target.specs.Inputs.{digit_of, is_input_of, is_input_width, same_width};
+ghost use Rattle.occ_target.specs.Inputs.{digit_of, is_input_of, is_input_width};
 ghost use Rattle.occ_target.specs.Rows.{variable_of, width_in};
 
-use occ_nform_table::{Dir, Name, Width};
-use occ_syntax::Kind;
-
-pub(crate) fn same_width(left: Width, right: Width) -> bool
-    ensures { result ≡ same_width left right }
-{
-    match left {
-        Width::Bool => matches!(right, Width::Bool),
-        Width::Word(bits) => match right {
-            Width::Bool => false,
-            Width::Word(others) => bits == others,
-        },
-    }
-}
+use occ_syntax::{Dir, Kind, Name, Width, same_width};
 
 fn is_input_of(width: Width, kind: Kind) -> bool
     ensures { result ≡ is_input_of width kind }

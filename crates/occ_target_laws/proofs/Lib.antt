@@ -20,6 +20,5 @@ mod Acting
 mod Ends
 mod Whole
 pub mod Reached
-pub use Rattle.occ_target.proofs.from_meaning as from_meaning
 pub use Rattle.occ_target.proofs.from_nform_table as from_nform_table
 pub use Rattle.occ_target.proofs.from_usage as from_usage

@@ -6,7 +6,7 @@ mod reached_law;
 mod shaped_law;
 mod unique_law;
 
-pub use occ_target::{Memory, Name, Table, TargetFault, Width, target};
+pub use occ_target::{Table, TargetFault, target};
 pub use reached_law::shaped_programs_are_targets;
 pub use shaped_law::programs_of_tables_are_shaped;
 pub use unique_law::normal_bodies_are_one;

@@ -1,32 +1,21 @@
 //! The program: `occam` over the files of the system and its standard output.
 #![tactic(auto)]
 
-use occ_tool_run::{RealDesk, run};
-use std::env;
-use std::io::ErrorKind;
+use occ_tool_run::{RealDesk, command_words, run};
 use std::process::ExitCode;
 
-/// The status where memory wants for the words.
-const NO_MEMORY: u8 = 6;
-
-/// The status where the runtime answers an error in place of the words. `run` never answers it.
+/// The status where the system answers an error in place of the words, as where one of them isn't UTF-8. `run` never answers it.
 const NO_WORDS: u8 = 8;
 
 /// Gives the words of the command line to `run`, and ends with its status. Nothing is written but by `run`.
 fn main(rt: HostRuntime) -> ExitCode {
     let alloc = rt.alloc();
-    let words: Vec<String> = match env::args(&rt) {
-        Ok(words) => match words.collect(alloc) {
-            Ok(words) => words,
-            Err(_) => return ExitCode::from(NO_MEMORY),
-        },
-        Err(error) => match error.kind() {
-            // A word that isn't UTF-8 doesn't fit, and neither do no words at all.
-            ErrorKind::InvalidData => Vec::new(alloc),
-            ErrorKind::OutOfMemory => return ExitCode::from(NO_MEMORY),
-            _ => return ExitCode::from(NO_WORDS),
-        },
+    let Ok(words) = command_words(&rt, alloc) else {
+        return ExitCode::from(NO_WORDS);
     };
+    if words.is_empty() {
+        return ExitCode::from(NO_WORDS);
+    }
     let mut desk = RealDesk::new(&rt);
     ExitCode::from(run(alloc, words.as_slice(), &mut desk))
 }

@@ -2,28 +2,28 @@
 
 ghost use Rattle.std.specs.Prelude.{ℕ, ◌≡◌, ◌≢◌, ◌≤◌, List, Some, codes, length};
 ghost use Rattle.occ_tool_laws.specs.ProveJoined.{IsJoined};
-ghost use Rattle.occ_prove_run.specs.Answers.{Answers};
-ghost use Rattle.occ_prove_run.specs.occ_tool_words.Pairs.{file_pair};
+ghost use Rattle.occ_workshop_run.specs.Answers.{Answers};
+ghost use Rattle.occ_workshop_run.specs.Words.{job_of as asked_by, prove};
 ghost use Rattle.occ_tool_laws.specs.Joined.{IsPrintedNarrow};
-ghost use Rattle.occ_prove_run.specs.occ_tool_run.Files.{Files, most_script_bytes};
-ghost use Rattle.occ_prove_run.specs.occ_tool_words.Words.{job_of, replay};
+ghost use Rattle.occ_workshop_run.specs.occ_call.Files.{Files, most_script_bytes};
+ghost use Rattle.occ_workshop_run.specs.occ_tool_words.Words.{job_of, replay};
 
-use occ_prove_run::{
+use occ_workshop_run::{
     kept_parts_have_known_names, names_stay_below, narrow_steps_are_moves,
     printed_moves_are_joined, programs_leave_places, read_programs_have_known_names,
     read_programs_print_within_levels, scripts_have_one_answer,
 };
 
-/// Where the words of `prove` are answered with status 0 and another text than SAME, the text is a script from the program of the first
+/// Where words that ask the workshop for a proof are answered with status 0 and another text than SAME, the text is a script from the program of the first
 /// file to that of the second, and words that ask for the replay of a file that holds it are answered with JOINED and the number of its
 /// steps, and with nothing else. The text has at most 4,194,304 bytes, and no line on which the first program or a part of a step is
 /// printed has more than 4,096 tokens.
 pub fn proved_scripts_are_joined()
-    ensures { (files later : Files) (words again : List (List ℕ)) (names : List ℕ × List ℕ) (script text : List ℕ)
-        → file_pair words ≡ Some names → Answers files words 0 text → text ≢ codes "SAME\n"
-        → IsPrintedNarrow (files names.0) → length text ≤ most_script_bytes
+    ensures { (files later : Files) (words again : List (List ℕ)) (first second script text : List ℕ)
+        → asked_by words ≡ Some (prove first second) → Answers files words 0 text → text ≢ codes "SAME\n"
+        → IsPrintedNarrow (files first) → length text ≤ most_script_bytes
         → job_of again ≡ Some (replay script) → later script ≡ Some text
-        → IsJoined later again (files names.0) (files names.1) text }
+        → IsJoined later again (files first) (files second) text }
 {
     narrow_steps_are_moves();
     names_stay_below();

@@ -1,7 +1,7 @@
 -- What becomes of a program that was read.
 use Rattle.std.proofs.Common.{◌≡◌, ℕ, true, List, [], Result, Ok, Err, IfOk, IfErr, refl, sym, subst}
-use Rattle.occ_desk.specs.occ_base.Names.{IsDistinct}
-use Rattle.occ_desk.specs.occ_base.declared.names.Name.{Name}
+use Rattle.occ_syntax.specs.occ_base.Names.{IsDistinct}
+use Rattle.occ_syntax.specs.occ_base.declared.names.Name.{Name}
 use Rattle.occ_engine_written.proofs.Known.{program_kept, program_typed}
 use Rattle.occ_engine_written.proofs.Typed.{AreKept}
 use Rattle.occ_read_renamed.proofs.Whole.{have_names}
@@ -13,10 +13,10 @@ use Rattle.occ_syntax.specs.declared.scope.Program.{Program as Stored}
 use Rattle.occ_syntax.specs.View.{tree}
 use Rattle.occ_syntax.specs.Usage.{KeepsUsage}
 use Rattle.occ_tool_words.specs.occ_parse.Known.{NamesAreKnown}
-use Rattle.occ_replay.specs.occ_usage.Accepted.{IsTyped}
-use Rattle.occ_replay.specs.occ_usage.Faults.{names_of}
-use Rattle.occ_replay.proofs.from_usage.Law.{covers_scope, keeps_no_fault, no_fault_keeps}
-use Rattle.occ_replay.specs.occ_usage.declared.accepted.Accepted.{Accepted}
+use Rattle.occ_run_schedule.specs.occ_usage.Accepted.{IsTyped}
+use Rattle.occ_run_schedule.specs.occ_usage.Faults.{names_of}
+use Rattle.occ_run_schedule.proofs.from_usage.Law.{covers_scope, keeps_no_fault, no_fault_keeps}
+use Rattle.occ_run_schedule.specs.occ_usage.declared.accepted.Accepted.{Accepted}
 use Rattle.occ_tool_run.specs.declared.accept.Refusal.{Refusal}
 use Rattle.occ_tool_run.specs.declared.accept.Refusal.TheVariants as refusal
 use Rattle.occ_tool_run.specs.Accepts.{IsAcceptedText, Program, ReadsAs}

@@ -1,7 +1,7 @@
 -- Laws on texts by how they are written, and what a program's normal text and table are by them.
 use Rattle.std.proofs.Common.{◌≡◌, ◌<◌, ◌≤◌, ◌^◌, ◌↔◌, ◌∙◌, ℕ, true, List, [], length, None, Ok, Err, Vec, Global, refl, sym, subst, arith}
-use Rattle.occ_desk.specs.occ_base.Names.{IsDistinct}
-use Rattle.occ_desk.specs.occ_base.declared.names.Name.{Name}
+use Rattle.occ_syntax.specs.occ_base.Names.{IsDistinct}
+use Rattle.occ_syntax.specs.occ_base.declared.names.Name.{Name}
 use Rattle.occ_run_schedule.specs.occ_behaviour.declared.behaviour.Behaviour.{Behaviour}
 use Rattle.occ_run_schedule.specs.occ_behaviour_read.Claims.{bare_lines, claim_read}
 use Rattle.occ_tool_words.specs.occ_gen.declared.shape.Shape.{Shape}
@@ -22,7 +22,7 @@ use Rattle.occ_syntax.specs.Tree.{Tree}
 use Rattle.occ_syntax.specs.Types.{scope_kept}
 use Rattle.occ_syntax.specs.declared.scope.Kind.{Kind}
 use Rattle.occ_tool_run.specs.Answers.{IsStressed}
-use Rattle.occ_tool_run.specs.Files.{most_table_bytes}
+use Rattle.occ_call.specs.Files.{most_table_bytes}
 use Rattle.occ_tool_run.specs.declared.answer.Answer.TheVariants.{Stressed}
 use Rattle.occ_tool_run.specs.Accepts.{Program}
 

@@ -1,6 +1,6 @@
 -- Normal programs that were derived.
-use Rattle.std.proofs.Common.{◌≡◌, ◌≤◌, ℕ, List, Result, Ok, Err, IfOk, refl, sym, subst}
-use Rattle.occ_desk.specs.occ_base.declared.memory.Memory.{Memory}
+use Rattle.std.proofs.Common.{◌≤◌, ℕ, List, Result, Ok, Err, IfOk, refl, sym, subst}
+use Rattle.occ_syntax.specs.occ_base.declared.memory.Memory.{Memory}
 use Rattle.occ_derive.specs.Derived.{CanBeWritten as IsDerivedIn, IsDerivation}
 use Rattle.occ_engine_written.specs.occ_engine.declared.outcome.Outcome.{Outcome}
 use Rattle.occ_replay.specs.occ_lex.Growth.{GrowsByNames}

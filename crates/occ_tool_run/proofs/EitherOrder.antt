@@ -6,7 +6,7 @@ use Rattle.std.specs.Ordering.{ordering_reverse}
 use Rattle.std.specs.declared.cmp.Ordering.{Ordering}
 use Rattle.std.specs.declared.cmp.Ordering.TheVariants.{Less, Equal, Greater}
 use Rattle.std.proofs.lemmas.Bool.{cases_Bool, false≢true}
-use Rattle.occ_desk.specs.occ_base.declared.names.Name.{Name}
+use Rattle.occ_syntax.specs.occ_base.declared.names.Name.{Name}
 use Rattle.occ_syntax.specs.declared.scope.Kind.{Kind}
 use Rattle.occ_syntax.specs.Tree.{Tree}
 use Rattle.occ_run_schedule.specs.occ_behaviour.declared.behaviour.Side.{Side}
@@ -20,12 +20,12 @@ use Rattle.occ_tool_run.specs.declared.answer.Answer.TheVariants.{Refused, Unusa
 use Rattle.occ_tool_run.specs.declared.judge.Question.{Question}
 use Rattle.occ_tool_run.specs.declared.judge.Question.TheVariants.{WhetherRefined, WhetherSame}
 use Rattle.occ_tool_run.specs.Accepts.{IsAccepted, Program}
-use Rattle.occ_tool_run.specs.Answers.{Answers, Compares, Refines, Replies, Settles, Takes, TakesBoth, Turned, accepted, accepted_behind, allowed, apart, compared, other, refused, refused_behind, unusable, unusable_behind}
-use Rattle.occ_tool_run.specs.Files.{Files, order_of, short_bytes, text_order}
+use Rattle.occ_tool_run.specs.Answers.{Answers, Compares, IsAnswerTo, Refines, Replies, Settles, Takes, TakesBoth, Turned, accepted, accepted_behind, allowed, apart, compared, other, refused, refused_behind, unusable, unusable_behind}
+use Rattle.occ_call.specs.Files.{Files, order_of, short_bytes, text_order}
 use Rattle.occ_tool_run.specs.Texts.{text_of}
 use Rattle.occ_tool_run.proofs.BothWays.{AgreeBothWays, same_where_both_refine}
 use Rattle.occ_tool_run.proofs.Once.{IsOnce}
-use Rattle.occ_tool_run.proofs.OneAnswer.{Does, back, does}
+use Rattle.occ_tool_run.proofs.OneAnswer.{back, does}
 use Rattle.occ_tool_run.proofs.Taken.{AreOne, agree, as_refused, as_taken, as_unusable}
 
 abbrev Table : Type 0
@@ -254,8 +254,8 @@ module _ (once : IsOnce) (law : AgreeBothWays) where
   )
 
   -- the words fit, or they don't
-  told : (files : Files) (a b : Bool) (first second : List ℕ) (x y z : Answer) → Does files (cond (a && b) (Some (refine first second)) None) x → Does files (cond (b && a) (Some (refine second first)) None) y
-      → Does files (cond (a && b) (Some (same first second)) None) z → Law x y z
+  told : (files : Files) (a b : Bool) (first second : List ℕ) (x y z : Answer) → IsAnswerTo files (cond (a && b) (Some (refine first second)) None) x → IsAnswerTo files (cond (b && a) (Some (refine second first)) None) y
+      → IsAnswerTo files (cond (a && b) (Some (same first second)) None) z → Law x y z
   told files true true first second x y z f g h = settled (files first) (files second) x y z f g h
   told files true false first second x y z f g h = unfit x y z f h
   told files false b first second x y z f g h = unfit x y z f h

@@ -1,9 +1,9 @@
 -- Programs that were transformed.
-use Rattle.std.proofs.Common.{◌≡◌, ◌≢◌, ◌≤◌, ◌<◌, ◌++◌, ◌⊎◌, inl, inr, ℕ, true, List, [], ◌∷◌, length, Option, Some, Result, Ok, Err, IfOk, IfErr, Vec, Global, refl, sym, ap, subst, ◌∙◌, arith}
+use Rattle.std.proofs.Common.{◌≡◌, ◌≢◌, ◌≤◌, ◌<◌, ◌⊎◌, inl, inr, ℕ, true, List, [], ◌∷◌, length, Option, Some, Result, Ok, Err, IfOk, Vec, Global, refl, sym, ap, subst, ◌∙◌, arith}
 use Rattle.std.specs.List.{AllByRecursion}
 use Rattle.std.proofs.lemmas.List.{length-append}
-use Rattle.occ_desk.specs.occ_base.declared.memory.Memory.{Memory}
-use Rattle.occ_desk.specs.occ_base.declared.names.Name.{Name}
+use Rattle.occ_syntax.specs.occ_base.declared.memory.Memory.{Memory}
+use Rattle.occ_syntax.specs.occ_base.declared.names.Name.{Name}
 use Rattle.occ_run_schedule.specs.occ_behaviour.declared.behaviour.Side.TheVariants.{First}
 use Rattle.occ_derive.specs.occ_derive_search.Derivations.{IsDerived}
 use Rattle.occ_derive.specs.occ_derive_moves.Steps.{Steps}
@@ -40,14 +40,14 @@ use Rattle.occ_syntax.specs.Tree.{Tree}
 use Rattle.occ_syntax.specs.Types.{scope_kept, types_kept}
 use Rattle.occ_syntax.specs.Usage.{Keeps}
 use Rattle.occ_syntax.specs.View.{tree}
-use Rattle.occ_replay.specs.occ_usage.Accepted.{IsAccepted as IsAcceptedProgram}
+use Rattle.occ_run_schedule.specs.occ_usage.Accepted.{IsAccepted as IsAcceptedProgram}
 use Rattle.occ_tool_run.specs.declared.accept.Refusal.{Refusal}
 use Rattle.occ_tool_run.specs.declared.answer.Answer.{Answer}
 use Rattle.occ_tool_run.specs.declared.answer.Answer.TheVariants.{Written}
-use Rattle.occ_tool_run.specs.declared.load.Loaded.{Loaded}
-use Rattle.occ_tool_run.specs.declared.load.Loaded.TheVariants.{Bytes, TooLong}
+use Rattle.occ_call.specs.declared.loading.Loaded.{Loaded}
+use Rattle.occ_call.specs.declared.loading.Loaded.TheVariants.{Bytes, TooLong}
 use Rattle.occ_tool_run.specs.Answers.{Transforms, accepted}
-use Rattle.occ_tool_run.specs.Files.{IsLoaded, most_bytes, most_script_bytes}
+use Rattle.occ_call.specs.Files.{IsLoaded, most_bytes, most_script_bytes}
 use Rattle.occ_tool_run.specs.Judged.{IsAcceptedFrom, IsRefusalAnswer, IsRefusedFrom}
 use Rattle.occ_tool_run.specs.Transformed.{CanBeWritten, HasKnownNames, IsOfExpansion, IsOrderRefusal, IsOrdersRefusal, IsPathRefusal}
 use Rattle.occ_tool_run.specs.Transforms.{IsExpandedTo, IsScriptOf, IsTransformed, blocked, expanded, faulty_orders, followed_orders, no_par, no_part, stopped_orders}

@@ -1,9 +1,9 @@
 -- What files that were read are answered with.
 use Rattle.std.proofs.Common.{◌≡◌, ℕ, true, List, [], length, Option, Some, None, Result, Ok, Err, IfOk, IfErr, refl, sym, subst}
 use Rattle.std.proofs.lemmas.Bool.{lt-ltb}
-use Rattle.occ_desk.specs.occ_base.Names.{IsDistinct}
-use Rattle.occ_desk.specs.occ_base.declared.memory.Memory.{Memory}
-use Rattle.occ_desk.specs.occ_base.declared.names.Name.{Name}
+use Rattle.occ_syntax.specs.occ_base.Names.{IsDistinct}
+use Rattle.occ_syntax.specs.occ_base.declared.memory.Memory.{Memory}
+use Rattle.occ_syntax.specs.occ_base.declared.names.Name.{Name}
 use Rattle.occ_syntax.specs.declared.scope.Kind.{Kind}
 use Rattle.occ_syntax.specs.declared.scope.Program.{Program as Stored}
 use Rattle.occ_syntax.specs.Tree.{Tree}
@@ -13,16 +13,16 @@ use Rattle.occ_tool_words.specs.occ_parse.Reading.{too_long, IsRead}
 use Rattle.occ_tool_words.specs.occ_parse.Reading.{IsRefused as IsRefusedText}
 use Rattle.occ_tool_words.specs.occ_parse.declared.bound.Bound.TheVariants as bound
 use Rattle.occ_tool_words.specs.occ_parse.declared.fault.ParseFault.{ParseFault}
-use Rattle.occ_replay.specs.occ_usage.declared.accepted.Accepted.{Accepted}
-use Rattle.occ_replay.specs.occ_usage.declared.fault.UsageFault.{UsageFault}
+use Rattle.occ_run_schedule.specs.occ_usage.declared.accepted.Accepted.{Accepted}
+use Rattle.occ_run_schedule.specs.occ_usage.declared.fault.UsageFault.{UsageFault}
 use Rattle.occ_run_schedule.specs.occ_behaviour.declared.behaviour.Side.{Side}
 use Rattle.occ_run_schedule.specs.occ_behaviour.declared.behaviour.Side.TheVariants.{First}
 use Rattle.occ_tool_run.specs.declared.answer.Answer.{Answer}
 use Rattle.occ_tool_run.specs.declared.accept.Refusal.{Refusal}
 use Rattle.occ_tool_run.specs.declared.accept.Refusal.TheVariants as refusal
-use Rattle.occ_tool_run.specs.declared.load.Loaded.{Loaded}
-use Rattle.occ_tool_run.specs.declared.load.Loaded.TheVariants.{Bytes, TooLong}
-use Rattle.occ_tool_run.specs.Files.{IsLoaded, most_bytes}
+use Rattle.occ_call.specs.declared.loading.Loaded.{Loaded}
+use Rattle.occ_call.specs.declared.loading.Loaded.TheVariants.{Bytes, TooLong}
+use Rattle.occ_call.specs.Files.{IsLoaded, most_bytes}
 use Rattle.occ_tool_run.specs.Accepts.{IsAccepted, IsRefused, IsUnusable, Program}
 use Rattle.occ_tool_run.specs.Stored.{OfStored, seen}
 use Rattle.occ_tool_run.specs.Answers.{Takes, refused, unusable, accepted, IsJudged, Judges}

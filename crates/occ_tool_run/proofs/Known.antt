@@ -2,18 +2,18 @@
 use Rattle.std.proofs.Common.{◌≡◌, ◌<◌, ◌++◌, ℕ, Bool, cond, true, false, refl, subst, List, [], ◌∷◌, length, nat_lt}
 use Rattle.std.specs.List.{list_all}
 use Rattle.std.proofs.lemmas.Bool.{and_parts, and_from, ltb-true}
-use Rattle.occ_desk.specs.occ_base.declared.event.Dir.{Dir}
-use Rattle.occ_desk.specs.occ_base.declared.event.Dir.TheVariants.{Input, Output}
-use Rattle.occ_desk.specs.occ_base.declared.names.Name.{Name}
+use Rattle.occ_syntax.specs.occ_base.declared.event.Dir.{Dir}
+use Rattle.occ_syntax.specs.occ_base.declared.event.Dir.TheVariants.{Input, Output}
+use Rattle.occ_syntax.specs.occ_base.declared.names.Name.{Name}
 use Rattle.occ_syntax.specs.declared.scope.Kind.{Kind}
 use Rattle.occ_syntax.specs.declared.scope.Program.{Program}
 use Rattle.occ_syntax.specs.Tree.{Tree, skip, stop, assign, receive, send, seq, par, select, alt, declare, connect, Trees, no_tree, and_tree, Cases, no_case, and_case, Branches, no_branch, and_branch}
 use Rattle.occ_syntax.specs.View.{tree}
-use Rattle.occ_replay.specs.occ_names.Mentions.{called}
-use Rattle.occ_replay.specs.occ_usage.Accepted.{usage_faults}
-use Rattle.occ_replay.specs.occ_usage.Faults.{shared_variable, shared_end, variable_faults, end_fault, end_faults, later, after, faults, faults_of_all, faults_of_cases, faults_of_branches, names_of}
-use Rattle.occ_replay.specs.occ_usage.declared.fault.UsageFault.{UsageFault}
-use Rattle.occ_replay.specs.occ_usage.declared.fault.UsageFault.TheVariants as shared
+use Rattle.occ_run_schedule.specs.occ_names.Mentions.{called}
+use Rattle.occ_run_schedule.specs.occ_usage.Accepted.{usage_faults}
+use Rattle.occ_run_schedule.specs.occ_usage.Faults.{shared_variable, shared_end, variable_faults, end_fault, end_faults, later, after, faults, faults_of_all, faults_of_cases, faults_of_branches, names_of}
+use Rattle.occ_run_schedule.specs.occ_usage.declared.fault.UsageFault.{UsageFault}
+use Rattle.occ_run_schedule.specs.occ_usage.declared.fault.UsageFault.TheVariants as shared
 use Rattle.occ_tool_words.specs.occ_parse.Known.{declares, all_declare, cases_declare, branches_declare, params_declare, is_below, NamesAreKnown}
 use Rattle.occ_tool_run.specs.Texts.{FaultIsNamed}
 

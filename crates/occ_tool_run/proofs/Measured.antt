@@ -1,7 +1,7 @@
 -- A generated program is accepted, and so it is measured.
 use Rattle.std.proofs.Common.{◌≡◌, ℕ, ◌∷◌, List, [], Some, Result, Ok, Err, IfOk, refl, sym, subst, ◌∙◌}
-use Rattle.occ_desk.specs.occ_base.declared.memory.Memory.{Memory}
-use Rattle.occ_desk.specs.occ_base.declared.names.Name.{Name}
+use Rattle.occ_syntax.specs.occ_base.declared.memory.Memory.{Memory}
+use Rattle.occ_syntax.specs.occ_base.declared.names.Name.{Name}
 use Rattle.occ_tool_words.specs.occ_gen.Programs.{program_text}
 use Rattle.occ_tool_words.specs.occ_gen.declared.shape.Shape.{Shape}
 use Rattle.occ_tool_words.specs.occ_gen.Accepted.{IsTextOfAccepted}
@@ -15,16 +15,16 @@ use Rattle.occ_syntax.specs.declared.scope.Program.{Program as Stored}
 use Rattle.occ_tool_run.specs.Accepts.{IsAcceptedText, Program, usage_faults}
 use Rattle.occ_tool_run.specs.Stored.{seen}
 use Rattle.occ_tool_run.specs.Answers.{IsStressed, Stresses}
-use Rattle.occ_tool_run.specs.Files.{IsLoaded, most_bytes}
+use Rattle.occ_call.specs.Files.{IsLoaded, most_bytes}
 use Rattle.occ_tool_run.specs.Judged.{IsAcceptedFrom, IsRefusedFrom}
 use Rattle.occ_tool_run.specs.declared.accept.Refusal.{Refusal}
 use Rattle.occ_tool_run.specs.declared.accept.Refusal.TheVariants as refusal
 use Rattle.occ_tool_run.specs.declared.answer.Answer.{Answer}
-use Rattle.occ_tool_run.specs.declared.load.Loaded.{Loaded}
+use Rattle.occ_call.specs.declared.loading.Loaded.{Loaded}
 use Rattle.occ_tool_run.proofs.Judging.{accepted_file, refused_file, unusable_file}
-use Rattle.occ_replay.proofs.from_usage.Law.{keeps_no_fault}
-use Rattle.occ_replay.specs.occ_usage.Faults.{names_of}
-use Rattle.occ_replay.specs.occ_usage.declared.fault.UsageFault.{UsageFault}
+use Rattle.occ_run_schedule.proofs.from_usage.Law.{keeps_no_fault}
+use Rattle.occ_run_schedule.specs.occ_usage.Faults.{names_of}
+use Rattle.occ_run_schedule.specs.occ_usage.declared.fault.UsageFault.{UsageFault}
 
 -- the same bytes
 some_is : (a b : List ℕ) → Some a ≡ Some b → a ≡ b

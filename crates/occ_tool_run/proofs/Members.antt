@@ -1,8 +1,8 @@
 -- Normal texts and behaviours that were read.
 use Rattle.std.proofs.Common.{◌≡◌, ◌≤◌, ◌↔◌, ◌⊎◌, ◌≢◌, ◌∙◌, inl, inr, ℕ, Bool, IsTrue, List, [], length, Option, Some, Result, Ok, Err, IfOk, Vec, Global, refl, sym, ap, subst}
-use Rattle.occ_desk.specs.occ_base.Names.{IsDistinct}
-use Rattle.occ_desk.specs.occ_base.declared.memory.Memory.{Memory}
-use Rattle.occ_desk.specs.occ_base.declared.names.Name.{Name}
+use Rattle.occ_syntax.specs.occ_base.Names.{IsDistinct}
+use Rattle.occ_syntax.specs.occ_base.declared.memory.Memory.{Memory}
+use Rattle.occ_syntax.specs.occ_base.declared.names.Name.{Name}
 use Rattle.occ_syntax.specs.declared.scope.Kind.{Kind}
 use Rattle.occ_syntax.specs.declared.scope.Program.{Program}
 use Rattle.occ_syntax.specs.View.{tree}
@@ -17,9 +17,9 @@ use Rattle.occ_run_schedule.specs.occ_behaviour_read.declared.claim.ClaimFault.T
 use Rattle.occ_tool_run.proofs.AsWritten.{BehaviourFaultsLaw, BehavioursLaw, TableFaultsLaw, TablesLaw, few_bytes}
 use Rattle.occ_tool_run.specs.declared.answer.Answer.{Answer}
 use Rattle.occ_tool_run.specs.declared.answer.Answer.TheVariants.{RefusedTable, Counted, Member}
-use Rattle.occ_tool_run.specs.declared.load.Loaded.{Loaded}
-use Rattle.occ_tool_run.specs.declared.load.Loaded.TheVariants.{Bytes}
-use Rattle.occ_tool_run.specs.Files.{IsLoaded, most_bytes, most_table_bytes}
+use Rattle.occ_call.specs.declared.loading.Loaded.{Loaded}
+use Rattle.occ_call.specs.declared.loading.Loaded.TheVariants.{Bytes}
+use Rattle.occ_call.specs.Files.{IsLoaded, most_bytes, most_table_bytes}
 use Rattle.occ_tool_run.specs.Judged.{HasInterface, IsClaimRefusal}
 use Rattle.occ_tool_run.specs.Stored.{seen}
 use Rattle.occ_tool_run.specs.Answers.{IsChecked, faulty_table, normal_table, Checks, IsJudged, faulty_claim, judged_claim}

@@ -2,7 +2,7 @@
 use Rattle.std.proofs.Common.{◌≡◌, ◌≤◌, ◌↔◌, ◌<◌, ◌^◌, ℕ, Bool, true, false, IsTrue, List, [], length, Option, Some, None, Result, Ok, Err, Vec, Global, refl, sym, ◌∙◌, ap, ap₂, subst, arith}
 use Rattle.std.specs.declared.cmp.Ordering.{Ordering}
 use Rattle.std.specs.declared.cmp.Ordering.TheVariants.{Less, Equal, Greater}
-use Rattle.occ_desk.specs.occ_base.declared.names.Name.{Name}
+use Rattle.occ_syntax.specs.occ_base.declared.names.Name.{Name}
 use Rattle.occ_syntax.specs.declared.scope.Program.{Program as Stored}
 use Rattle.occ_syntax.specs.declared.scope.Kind.{Kind}
 use Rattle.occ_syntax.specs.Tree.{Tree}
@@ -31,19 +31,18 @@ use Rattle.occ_tool_run.specs.declared.answer.Answer.{Answer}
 use Rattle.occ_tool_run.specs.declared.answer.Answer.TheVariants.{Usage, Refused, Unusable, TooLong, RefusedTable, RefusedClaim, InterfacesDiffer, Compared, Counted, Member, Stressed, Allowed, Sought, RefusedSchedule, Stepped}
 use Rattle.occ_tool_run.specs.declared.judge.Question.{Question}
 use Rattle.occ_tool_run.specs.declared.judge.Question.TheVariants.{WhetherSame, WhetherRefined}
-use Rattle.occ_tool_run.specs.Files.{Files, most_table_bytes, order_of}
+use Rattle.occ_call.specs.Files.{Files, most_table_bytes, order_of}
 use Rattle.occ_run_schedule.specs.declared.following.Followed.{Followed}
 use Rattle.occ_run_schedule.specs.Following.{IsFollowed}
 use Rattle.occ_run_schedule.specs.declared.schedule.Schedule.{Schedule}
 use Rattle.occ_run_schedule.specs.Schedules.{schedule_read}
-use Rattle.occ_tool_run.specs.Derivations.{Replays}
 use Rattle.occ_tool_run.specs.Runs.{IsRun, too_long_schedule, faulty_schedule, followed_schedule}
 use Rattle.occ_tool_run.specs.Transforms.{IsExpandedTo, IsTransformed}
 use Rattle.occ_tool_run.specs.Texts.{status_of, text_of}
 use Rattle.occ_tool_run.specs.Accepts.{IsAccepted, Program}
 use Rattle.occ_tool_run.specs.Stored.{OfStored, seen}
-use Rattle.occ_tool_run.specs.Answers.{Takes, accepted, TakesBoth, Turned, refused_behind, unusable_behind, accepted_behind, Compares, apart, compared, Refines, other, allowed, Replies, Settles, IsSought, Seeks, IsNormalised, Normalises, IsChecked, too_long_table, faulty_table, normal_table, Checks}
-use Rattle.occ_tool_run.specs.Answers.{IsJudged, too_long_claim, faulty_claim, judged_claim, Judges, IsStressed, Stresses, IsAnswer, usage, comparison, normalisation, checking, membership, stressing, refinement, seeking, replaying, running, transforming, expanding, normalisation_by_laws, Answers, Steps, Transforms, Expands, Derives, IsDetermined}
+use Rattle.occ_tool_run.specs.Answers.{Takes, accepted, TakesBoth, Turned, refused_behind, unusable_behind, accepted_behind, Compares, apart, compared, Refines, other, allowed, Replies, Settles, IsSought, IsNormalised, IsChecked, too_long_table, faulty_table, normal_table, Checks}
+use Rattle.occ_tool_run.specs.Answers.{IsJudged, too_long_claim, faulty_claim, judged_claim, Judges, IsStressed, Stresses, IsAnswer, usage, comparison, normalisation, checking, membership, stressing, refinement, seeking, replaying, running, transforming, expanding, normalisation_by_laws, Answers, Steps, Transforms, IsAnswerTo, IsDetermined}
 use Rattle.occ_tool_run.proofs.AsWritten.{AreAsWritten, few_bytes}
 use Rattle.occ_tool_run.proofs.Accepting.{IsInterfaceIn, names_read, read_kept}
 use Rattle.occ_tool_run.proofs.Judging.{no_name_twice}
@@ -89,35 +88,20 @@ abbrev pub IsOneFollowing : Type 0
 IsOneFollowing = (p q : Stored) (s : Schedule) (f g : Followed) → p.params ≡ q.params → tree p.body ≡ tree q.body → IsFollowed p s f → IsFollowed q s g → f ≡ g
 
 -- what the words ask for has this answer
-abbrev pub Does : Files → Option Job → Answer → Type 0
-Does files None a = a ≡ Usage
-Does files (Some (same x y)) a = Settles WhetherSame (files x) (files y) a
-Does files (Some (normalise x)) a = Normalises (files x) a
-Does files (Some (normal x)) a = Checks (files x) a
-Does files (Some (belongs x y)) a = Judges (files x) (files y) a
-Does files (Some (stress shape stages)) a = Stresses shape stages a
-Does files (Some (refine x y)) a = Settles WhetherRefined (files x) (files y) a
-Does files (Some (deadlock x)) a = Seeks (files x) a
-Does files (Some (replay x)) a = Replays (files x) a
-Does files (Some (run x y)) a = Steps (files x) (files y) a
-Does files (Some (transform x y)) a = Transforms (files x) (files y) a
-Does files (Some (expand x path)) a = Expands (files x) path a
-Does files (Some (derive x)) a = Derives (files x) a
-
-pub does : (files : Files) (words : List (List ℕ)) (a : Answer) → IsAnswer files words a → Does files (job_of words) a
-does files words a (usage none e) = let P : Option Job → Type 0 = λ j. Does files j a in subst P (sym none) e
-does files words a (comparison x y is s) = let P : Option Job → Type 0 = λ j. Does files j a in subst P (sym is) s
-does files words a (normalisation x is s) = let P : Option Job → Type 0 = λ j. Does files j a in subst P (sym is) s
-does files words a (checking x is s) = let P : Option Job → Type 0 = λ j. Does files j a in subst P (sym is) s
-does files words a (membership x y is s) = let P : Option Job → Type 0 = λ j. Does files j a in subst P (sym is) s
-does files words a (stressing x n is s) = let P : Option Job → Type 0 = λ j. Does files j a in subst P (sym is) s
-does files words a (refinement x y is s) = let P : Option Job → Type 0 = λ j. Does files j a in subst P (sym is) s
-does files words a (seeking x is s) = let P : Option Job → Type 0 = λ j. Does files j a in subst P (sym is) s
-does files words a (replaying x is s) = let P : Option Job → Type 0 = λ j. Does files j a in subst P (sym is) s
-does files words a (running x y is s) = let P : Option Job → Type 0 = λ j. Does files j a in subst P (sym is) s
-does files words a (transforming x y is s) = let P : Option Job → Type 0 = λ j. Does files j a in subst P (sym is) s
-does files words a (expanding x path is s) = let P : Option Job → Type 0 = λ j. Does files j a in subst P (sym is) s
-does files words a (normalisation_by_laws x is s) = let P : Option Job → Type 0 = λ j. Does files j a in subst P (sym is) s
+pub does : (files : Files) (words : List (List ℕ)) (a : Answer) → IsAnswer files words a → IsAnswerTo files (job_of words) a
+does files words a (usage none e) = let P : Option Job → Type 0 = λ j. IsAnswerTo files j a in subst P (sym none) e
+does files words a (comparison x y is s) = let P : Option Job → Type 0 = λ j. IsAnswerTo files j a in subst P (sym is) s
+does files words a (normalisation x is s) = let P : Option Job → Type 0 = λ j. IsAnswerTo files j a in subst P (sym is) s
+does files words a (checking x is s) = let P : Option Job → Type 0 = λ j. IsAnswerTo files j a in subst P (sym is) s
+does files words a (membership x y is s) = let P : Option Job → Type 0 = λ j. IsAnswerTo files j a in subst P (sym is) s
+does files words a (stressing x n is s) = let P : Option Job → Type 0 = λ j. IsAnswerTo files j a in subst P (sym is) s
+does files words a (refinement x y is s) = let P : Option Job → Type 0 = λ j. IsAnswerTo files j a in subst P (sym is) s
+does files words a (seeking x is s) = let P : Option Job → Type 0 = λ j. IsAnswerTo files j a in subst P (sym is) s
+does files words a (replaying x is s) = let P : Option Job → Type 0 = λ j. IsAnswerTo files j a in subst P (sym is) s
+does files words a (running x y is s) = let P : Option Job → Type 0 = λ j. IsAnswerTo files j a in subst P (sym is) s
+does files words a (transforming x y is s) = let P : Option Job → Type 0 = λ j. IsAnswerTo files j a in subst P (sym is) s
+does files words a (expanding x path is s) = let P : Option Job → Type 0 = λ j. IsAnswerTo files j a in subst P (sym is) s
+does files words a (normalisation_by_laws x is s) = let P : Option Job → Type 0 = λ j. IsAnswerTo files j a in subst P (sym is) s
 
 -- what follows stands on the reading of a text being one, on the verdict being one, on texts being read as they are written, on scripts
 -- being read and answered in one way, and on orders and expansions having one outcome
@@ -336,7 +320,7 @@ module _ (once : IsOnce) (only : IsOneVerdict) (written : AreAsWritten) (scripts
 
   -- ---- command lines
 
-  does_alike : (files : Files) (j : Option Job) (a b : Answer) → IsDetermined j → Does files j a → Does files j b → AreAlike a b
+  does_alike : (files : Files) (j : Option Job) (a b : Answer) → IsDetermined j → IsAnswerTo files j a → IsAnswerTo files j b → AreAlike a b
   does_alike files None a b fixed s t = alike a b Usage Usage s refl t
   does_alike files (Some (same x y)) a b fixed s t = settles_alike WhetherSame (files x) (files y) a b s t
   does_alike files (Some (refine x y)) a b fixed s t = settles_alike WhetherRefined (files x) (files y) a b s t

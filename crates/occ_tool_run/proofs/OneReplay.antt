@@ -2,7 +2,7 @@
 use Rattle.std.proofs.Common.{◌≡◌, ◌≢◌, ◌≤◌, ℕ, List, [], ◌∷◌, length, map, Option, Err, refl, sym, ◌∙◌, ap, subst, arith}
 use Rattle.std.specs.Option.{option_map}
 use Rattle.std.proofs.lemmas.List.{length-map}
-use Rattle.occ_desk.specs.occ_base.declared.names.Name.{Name}
+use Rattle.occ_syntax.specs.occ_base.declared.names.Name.{Name}
 use Rattle.occ_run_schedule.specs.occ_behaviour.declared.behaviour.Side.TheVariants.{First}
 use Rattle.occ_replay.specs.declared.result.Rejected.{Rejected}
 use Rattle.occ_replay.specs.declared.result.Rejected.TheVariants as rejected
@@ -23,9 +23,9 @@ use Rattle.occ_syntax.specs.Tree.{Tree}
 use Rattle.occ_syntax.specs.Types.{scope_kept, types_kept}
 use Rattle.occ_syntax.specs.Usage.{Keeps, KeepsUsage}
 use Rattle.occ_syntax.specs.View.{tree}
-use Rattle.occ_replay.specs.occ_usage.Accepted.{IsAccepted, IsFirst, IsTyped}
-use Rattle.occ_replay.specs.occ_usage.Faults.{faults, names_of}
-use Rattle.occ_replay.specs.occ_usage.declared.fault.UsageFault.{UsageFault}
+use Rattle.occ_run_schedule.specs.occ_usage.Accepted.{IsAccepted, IsFirst, IsTyped}
+use Rattle.occ_run_schedule.specs.occ_usage.Faults.{faults, names_of}
+use Rattle.occ_run_schedule.specs.occ_usage.declared.fault.UsageFault.{UsageFault}
 use Rattle.occ_tool_run.specs.declared.answer.Answer.{Answer}
 use Rattle.occ_tool_run.specs.declared.answer.Answer.TheVariants.{Joined, RefusedScript, TooLong, Unjoined}
 use Rattle.occ_tool_run.specs.Derivations.{IsReplayAnswer, IsReplayOf, Replays as IsReplay, faulty_script, joined_script, line_of_cause, rejected_script, replayed_script, too_long_script}

@@ -3,8 +3,8 @@ use Rattle.std.proofs.Common.{◌≡◌, ◌≢◌, ◌∙◌, inl, inr, ℕ, Bo
 use Rattle.std.proofs.lemmas.Bool.{false≢true, le-ltb, lt-ltb}
 use Rattle.std.specs.declared.cmp.Ordering.{Ordering}
 use Rattle.std.specs.declared.cmp.Ordering.TheVariants.{Less, Equal, Greater}
-use Rattle.occ_desk.specs.occ_base.declared.memory.Memory.{Memory}
-use Rattle.occ_desk.specs.occ_base.declared.names.Name.{Name}
+use Rattle.occ_syntax.specs.occ_base.declared.memory.Memory.{Memory}
+use Rattle.occ_syntax.specs.occ_base.declared.names.Name.{Name}
 use Rattle.occ_syntax.specs.declared.scope.Kind.{Kind}
 use Rattle.occ_syntax.specs.declared.scope.Program.{Program as Stored}
 use Rattle.occ_tool_words.specs.occ_parse.Known.{is_below, params_declare}
@@ -13,9 +13,9 @@ use Rattle.occ_tool_run.specs.declared.answer.Answer.{Answer}
 use Rattle.occ_tool_run.specs.declared.accept.Refusal.{Refusal}
 use Rattle.occ_tool_run.specs.declared.accept.Refusal.TheVariants as refusal
 use Rattle.occ_tool_run.specs.declared.judge.Question.{Question}
-use Rattle.occ_tool_run.specs.declared.load.Loaded.{Loaded}
-use Rattle.occ_tool_run.specs.declared.load.Loaded.TheVariants.{Bytes, TooLong}
-use Rattle.occ_tool_run.specs.Files.{IsLoaded, loaded_bytes, most_bytes, order_of, short_bytes, text_order}
+use Rattle.occ_call.specs.declared.loading.Loaded.{Loaded}
+use Rattle.occ_call.specs.declared.loading.Loaded.TheVariants.{Bytes, TooLong}
+use Rattle.occ_call.specs.Files.{IsLoaded, loaded_bytes, most_bytes, order_of, short_bytes, text_order}
 use Rattle.occ_tool_run.specs.Answers.{Replies, Settles, Takes, TakesBoth, accepted, accepted_behind, refused_behind, unusable_behind}
 use Rattle.occ_tool_run.specs.Judged.{IsAcceptedFrom, IsRefusalAnswer, IsRefusedFrom}
 use Rattle.occ_tool_run.specs.Pairs.{IsOneKnown, SettlesAll}

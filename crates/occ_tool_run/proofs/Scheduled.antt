@@ -3,8 +3,8 @@ use Rattle.std.proofs.Common.{◌≡◌, ◌≤◌, ◌<◌, ◌∙◌, ℕ, tru
 use Rattle.std.specs.List.{All}
 use Rattle.std.proofs.lemmas.Bool.{and_parts, ltb-true}
 use Rattle.std.proofs.lemmas.List.Elements.{All-cons, All-nil}
-use Rattle.occ_desk.specs.occ_base.declared.memory.Memory.{Memory}
-use Rattle.occ_desk.specs.occ_base.declared.names.Name.{Name}
+use Rattle.occ_syntax.specs.occ_base.declared.memory.Memory.{Memory}
+use Rattle.occ_syntax.specs.occ_base.declared.names.Name.{Name}
 use Rattle.occ_tool_words.specs.occ_parse.Known.{NamesAreKnown, is_below, params_declare}
 use Rattle.occ_run_schedule.specs.declared.following.Followed.{Followed}
 use Rattle.occ_run_schedule.specs.Following.{IsFollowed, ParametersAreNamed}
@@ -18,10 +18,10 @@ use Rattle.occ_run_schedule.specs.occ_behaviour.declared.behaviour.Side.TheVaria
 use Rattle.occ_tool_run.specs.declared.accept.Refusal.{Refusal}
 use Rattle.occ_tool_run.specs.declared.answer.Answer.{Answer}
 use Rattle.occ_tool_run.specs.declared.answer.Answer.TheVariants.{Stepped}
-use Rattle.occ_tool_run.specs.declared.load.Loaded.{Loaded}
-use Rattle.occ_tool_run.specs.declared.load.Loaded.TheVariants.{Bytes, TooLong}
+use Rattle.occ_call.specs.declared.loading.Loaded.{Loaded}
+use Rattle.occ_call.specs.declared.loading.Loaded.TheVariants.{Bytes, TooLong}
 use Rattle.occ_tool_run.specs.Answers.{Steps, accepted}
-use Rattle.occ_tool_run.specs.Files.{IsLoaded, most_bytes}
+use Rattle.occ_call.specs.Files.{IsLoaded, most_bytes}
 use Rattle.occ_tool_run.specs.Judged.{IsAcceptedFrom, IsRefusalAnswer, IsRefusedFrom}
 use Rattle.occ_tool_run.specs.Runs.{IsRun, IsScheduleRefusal, faulty_schedule, followed_schedule}
 use Rattle.occ_tool_run.specs.Stored.{OfStored, seen}

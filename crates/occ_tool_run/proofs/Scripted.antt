@@ -1,6 +1,6 @@
 -- Scripts that were read and replayed.
 use Rattle.std.proofs.Common.{◌≡◌, ◌≢◌, ◌≤◌, ◌⊎◌, inl, inr, ℕ, List, [], length, Option, Result, Ok, Err, IfOk, Vec, Global, refl, sym, ap, subst, ◌∙◌}
-use Rattle.occ_desk.specs.occ_base.declared.memory.Memory.{Memory}
+use Rattle.occ_syntax.specs.occ_base.declared.memory.Memory.{Memory}
 use Rattle.occ_tool_words.specs.occ_parse.Known.{NamesAreKnown}
 use Rattle.occ_tool_words.specs.occ_parse.declared.fault.ParseFault.{ParseFault}
 use Rattle.occ_tool_words.specs.occ_parse.declared.fault.ParseFault.TheVariants as parse
@@ -26,10 +26,10 @@ use Rattle.occ_syntax.specs.Scopes.{environment}
 use Rattle.occ_syntax.specs.View.{tree}
 use Rattle.occ_tool_run.specs.declared.answer.Answer.{Answer}
 use Rattle.occ_tool_run.specs.declared.answer.Answer.TheVariants.{Joined, Unjoined}
-use Rattle.occ_tool_run.specs.declared.load.Loaded.{Loaded}
-use Rattle.occ_tool_run.specs.declared.load.Loaded.TheVariants.{Bytes}
+use Rattle.occ_call.specs.declared.loading.Loaded.{Loaded}
+use Rattle.occ_call.specs.declared.loading.Loaded.TheVariants.{Bytes}
 use Rattle.occ_tool_run.specs.Derivations.{IsRejection, IsReplayAnswer, IsReplayOf, IsScriptRefusal, Replays, faulty_script, joined_script, line_of_cause, rejected_script, replayed_script}
-use Rattle.occ_tool_run.specs.Files.{IsLoaded, most_script_bytes}
+use Rattle.occ_call.specs.Files.{IsLoaded, most_script_bytes}
 use Rattle.occ_tool_run.specs.Texts.{CauseIsNamed, ScriptFaultIsTold}
 use Rattle.occ_tool_run.proofs.Known.{first_named}
 

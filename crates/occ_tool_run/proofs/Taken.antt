@@ -4,8 +4,8 @@ use Rattle.occ_syntax.specs.declared.scope.Program.{Program as Stored}
 use Rattle.occ_tool_words.specs.occ_parse.Reading.{IsRefused as IsRefusedText}
 use Rattle.occ_tool_words.specs.occ_parse.declared.bound.Bound.TheVariants as bound
 use Rattle.occ_tool_words.specs.occ_parse.declared.fault.ParseFault.{ParseFault}
-use Rattle.occ_replay.specs.occ_usage.Faults.{faults, names_of}
-use Rattle.occ_replay.specs.occ_usage.declared.fault.UsageFault.{UsageFault}
+use Rattle.occ_run_schedule.specs.occ_usage.Faults.{faults, names_of}
+use Rattle.occ_run_schedule.specs.occ_usage.declared.fault.UsageFault.{UsageFault}
 use Rattle.occ_run_schedule.specs.occ_behaviour.declared.behaviour.Side.{Side}
 use Rattle.occ_tool_run.specs.declared.answer.Answer.{Answer}
 use Rattle.occ_tool_run.specs.declared.answer.Answer.TheVariants.{Refused, Unusable}

@@ -1,15 +1,15 @@
 -- What becomes of one text that is read as a program.
 use Rattle.std.specs.Prelude.{ℕ, ◌≡◌, List, [], ◌∷◌, Option, Some, slice_index_or}
-use Rattle.occ_desk.specs.occ_base.declared.names.Name.{Name}
+use Rattle.occ_syntax.specs.occ_base.declared.names.Name.{Name}
 use Rattle.occ_syntax.specs.declared.scope.Kind.{Kind}
 use Rattle.occ_syntax.specs.Tree.{Tree}
-use Rattle.occ_replay.specs.occ_usage.Faults.{faults, names_of}
+use Rattle.occ_run_schedule.specs.occ_usage.Faults.{faults, names_of}
 use Rattle.occ_tool_words.specs.occ_parse.Reading.{IsRead}
 use Rattle.occ_tool_words.specs.occ_parse.Reading.{IsRefused as IsRefusedText}
 use Rattle.occ_tool_words.specs.occ_parse.declared.bound.Bound.TheVariants as bound
 use Rattle.occ_tool_words.specs.occ_parse.declared.fault.ParseFault.{ParseFault}
-use Rattle.occ_replay.specs.occ_usage.declared.fault.UsageFault.{UsageFault}
-use Rattle.occ_replay.specs.occ_usage.declared.fault.UsageFault.TheVariants as shared
+use Rattle.occ_run_schedule.specs.occ_usage.declared.fault.UsageFault.{UsageFault}
+use Rattle.occ_run_schedule.specs.occ_usage.declared.fault.UsageFault.TheVariants as shared
 
 -- a program, apart from where its parts lie in memory
 pub record Program : Type 0 where

@@ -4,7 +4,7 @@ use Rattle.std.specs.declared.alloc.Global.{Global}
 use Rattle.std.specs.declared.cmp.Ordering.{Ordering}
 use Rattle.std.specs.declared.cmp.Ordering.TheVariants.{Less, Equal, Greater}
 use Rattle.occ_tool_words.specs.occ_parse.declared.fault.ParseFault.{ParseFault}
-use Rattle.occ_replay.specs.occ_usage.declared.fault.UsageFault.{UsageFault}
+use Rattle.occ_run_schedule.specs.occ_usage.declared.fault.UsageFault.{UsageFault}
 use Rattle.occ_run_schedule.specs.occ_behaviour.declared.behaviour.Behaviour.{Behaviour}
 use Rattle.occ_run_schedule.specs.occ_behaviour.declared.behaviour.Side.{Side}
 use Rattle.occ_run_schedule.specs.occ_behaviour.declared.behaviour.Side.TheVariants.{First, Second}
@@ -35,7 +35,7 @@ use Rattle.occ_tool_run.specs.Derivations.{Replays}
 use Rattle.occ_tool_run.specs.Derived.{IsDerived}
 use Rattle.occ_tool_run.specs.Runs.{IsRun}
 use Rattle.occ_tool_run.specs.Transforms.{IsExpandedTo, IsTransformed}
-use Rattle.occ_tool_run.specs.Files.{Files, most_bytes, most_table_bytes, order_of}
+use Rattle.occ_call.specs.Files.{Files, most_bytes, most_table_bytes, order_of}
 use Rattle.occ_tool_run.specs.Stored.{OfStored}
 use Rattle.occ_tool_run.specs.Texts.{told}
 
@@ -184,6 +184,22 @@ pub data IsAnswer (files : Files) (words : List (List ℕ)) (answer : Answer) : 
   transforming : (program text : List ℕ) → job_of words ≡ Some (transform program text) → Transforms (files program) (files text) answer → IsAnswer files words answer
   expanding : (program path : List ℕ) → job_of words ≡ Some (expand program path) → Expands (files program) path answer → IsAnswer files words answer
   normalisation_by_laws : (program : List ℕ) → job_of words ≡ Some (derive program) → Derives (files program) answer → IsAnswer files words answer
+
+-- The same by what is asked for.
+abbrev pub IsAnswerTo : Files → Option Job → Answer → Type 0
+IsAnswerTo files None answer = answer ≡ Usage
+IsAnswerTo files (Some (same first second)) answer = Settles WhetherSame (files first) (files second) answer
+IsAnswerTo files (Some (normalise program)) answer = Normalises (files program) answer
+IsAnswerTo files (Some (normal text)) answer = Checks (files text) answer
+IsAnswerTo files (Some (belongs program text)) answer = Judges (files program) (files text) answer
+IsAnswerTo files (Some (stress shape stages)) answer = Stresses shape stages answer
+IsAnswerTo files (Some (refine first second)) answer = Settles WhetherRefined (files first) (files second) answer
+IsAnswerTo files (Some (deadlock program)) answer = Seeks (files program) answer
+IsAnswerTo files (Some (replay text)) answer = Replays (files text) answer
+IsAnswerTo files (Some (run program text)) answer = Steps (files program) (files text) answer
+IsAnswerTo files (Some (transform program text)) answer = Transforms (files program) (files text) answer
+IsAnswerTo files (Some (expand program path)) answer = Expands (files program) path answer
+IsAnswerTo files (Some (derive program)) answer = Derives (files program) answer
 
 -- all that words can ask for has one answer but a derivation, whose steps are free
 abbrev pub IsDetermined : Option Job → Type 0

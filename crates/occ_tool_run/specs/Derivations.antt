@@ -16,7 +16,7 @@ use Rattle.occ_syntax.specs.View.{tree}
 use Rattle.occ_tool_run.specs.Accepts.{node_of}
 use Rattle.occ_tool_run.specs.declared.answer.Answer.{Answer}
 use Rattle.occ_tool_run.specs.declared.answer.Answer.TheVariants.{TooLong, RefusedScript, Joined, Unjoined}
-use Rattle.occ_tool_run.specs.Files.{most_script_bytes}
+use Rattle.occ_call.specs.Files.{most_script_bytes}
 
 -- the line of the PAR, where the first program breaks the usage rule
 abbrev pub line_of_cause : List ℕ → Rejected → ℕ

@@ -2,9 +2,9 @@
 use Rattle.std.specs.Prelude.{ℕ, ◌≡◌, ◌≢◌, List, [], ◌∷◌, true, slice_index_or}
 use Rattle.occ_syntax.specs.declared.scope.Program.{Program}
 use Rattle.occ_run_schedule.specs.occ_nform_table.Tables.{IsInterface, are_params}
-use Rattle.occ_replay.specs.occ_usage.Accepted.{usage_faults}
-use Rattle.occ_replay.specs.occ_usage.declared.fault.UsageFault.{UsageFault}
-use Rattle.occ_replay.specs.occ_usage.declared.fault.UsageFault.TheVariants as shared
+use Rattle.occ_run_schedule.specs.occ_usage.Accepted.{usage_faults}
+use Rattle.occ_run_schedule.specs.occ_usage.declared.fault.UsageFault.{UsageFault}
+use Rattle.occ_run_schedule.specs.occ_usage.declared.fault.UsageFault.TheVariants as shared
 use Rattle.occ_run_schedule.specs.occ_behaviour.declared.behaviour.Side.{Side}
 use Rattle.occ_tool_words.specs.occ_parse.Reading.{IsRefused as IsRefusedText}
 use Rattle.occ_tool_words.specs.occ_parse.declared.bound.Bound.TheVariants as bound
@@ -18,8 +18,8 @@ use Rattle.occ_tool_run.specs.declared.answer.Answer.{Answer}
 use Rattle.occ_tool_run.specs.declared.answer.Answer.TheVariants.{Refused, Unusable, RefusedClaim}
 use Rattle.occ_tool_run.specs.declared.accept.Refusal.{Refusal}
 use Rattle.occ_tool_run.specs.declared.accept.Refusal.TheVariants as refusal
-use Rattle.occ_tool_run.specs.declared.load.Loaded.{Loaded}
-use Rattle.occ_tool_run.specs.declared.load.Loaded.TheVariants.{Bytes, TooLong}
+use Rattle.occ_call.specs.declared.loading.Loaded.{Loaded}
+use Rattle.occ_call.specs.declared.loading.Loaded.TheVariants.{Bytes, TooLong}
 use Rattle.occ_tool_run.specs.Accepts.{IsAcceptedText, IsUnusableText, node_of}
 use Rattle.occ_tool_run.specs.Stored.{seen}
 use Rattle.occ_tool_run.specs.Texts.{FaultIsNamed}

@@ -5,9 +5,9 @@ use Rattle.occ_syntax.specs.declared.scope.Program.{Program}
 use Rattle.occ_tool_words.specs.occ_parse.Known.{NamesAreKnown}
 use Rattle.occ_tool_run.specs.declared.answer.Answer.{Answer}
 use Rattle.occ_tool_run.specs.declared.judge.Question.{Question}
-use Rattle.occ_tool_run.specs.declared.load.Loaded.{Loaded}
+use Rattle.occ_call.specs.declared.loading.Loaded.{Loaded}
 use Rattle.occ_tool_run.specs.Answers.{TakesBoth}
-use Rattle.occ_tool_run.specs.Files.{IsLoaded, most_bytes}
+use Rattle.occ_call.specs.Files.{IsLoaded, most_bytes}
 
 -- the names of one of two programs have texts: of that which was read last
 abbrev pub IsOneKnown : List (List ℕ) → Program → Program → Type 0

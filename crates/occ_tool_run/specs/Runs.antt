@@ -10,7 +10,7 @@ use Rattle.occ_run_schedule.specs.Schedules.{schedule_read}
 use Rattle.occ_syntax.specs.declared.scope.Program.{Program}
 use Rattle.occ_tool_run.specs.declared.answer.Answer.{Answer}
 use Rattle.occ_tool_run.specs.declared.answer.Answer.TheVariants.{TooLong, RefusedSchedule, Stepped}
-use Rattle.occ_tool_run.specs.Files.{most_bytes}
+use Rattle.occ_call.specs.Files.{most_bytes}
 
 -- The answer to an accepted program and the bytes of a file that is to be a schedule.
 pub data IsRun (bytes : List ℕ) (names : List (List ℕ)) (p : Program) (answer : Answer) : Type 0 where

@@ -1,7 +1,7 @@
 -- The status and the text of each answer.
 use Rattle.std.specs.Prelude.{ℕ, ◌≢◌, ◌<◌, true, false, List, [], ◌++◌, codes, decimal, length, slice_index_or, Option, Some, None}
-use Rattle.occ_replay.specs.occ_usage.declared.fault.UsageFault.{UsageFault}
-use Rattle.occ_replay.specs.occ_usage.declared.fault.UsageFault.TheVariants as shared
+use Rattle.occ_run_schedule.specs.occ_usage.declared.fault.UsageFault.{UsageFault}
+use Rattle.occ_run_schedule.specs.occ_usage.declared.fault.UsageFault.TheVariants as shared
 use Rattle.occ_replay.specs.occ_lex.declared.fault.LineFault.{LineFault}
 use Rattle.occ_replay.specs.occ_lex.declared.fault.LineFault.TheVariants.{Tab, OddIndent, Char, Number, Name}
 use Rattle.occ_tool_words.specs.occ_parse.declared.fault.Which.{Which}

@@ -19,7 +19,7 @@ use Rattle.occ_tool_run.specs.declared.answer.Answer.{Answer}
 use Rattle.occ_tool_run.specs.declared.answer.Answer.TheVariants.{RefusedOrder, RefusedOrders, RefusedPath, TooLong, Written}
 use Rattle.occ_tool_run.specs.declared.reason.Reason.{Reason}
 use Rattle.occ_tool_run.specs.declared.reason.Reason.TheVariants.{NoLaw, NoPath, NotPar, NotAccepted, NotApplicable}
-use Rattle.occ_tool_run.specs.Files.{most_script_bytes}
+use Rattle.occ_call.specs.Files.{most_script_bytes}
 
 -- The steps lead from one program to another, which has the same name and the same parameters, and means the same; and the answer is
 -- the script that says so.

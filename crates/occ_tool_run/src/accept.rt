@@ -1,21 +1,20 @@
 //! Files as programs: accepted, or refused, and why.
 
 ghost use Rattle.std.specs.Prelude.{◌≡◌, ◌≢◌, ◌≤◌, [], IfOk, IfErr, length, slice_index_or};
-ghost use Rattle.occ_desk.specs.occ_base.Names.{IsDistinct};
+ghost use Rattle.occ_syntax.specs.occ_base.Names.{IsDistinct};
 ghost use Rattle.occ_syntax.specs.View.{tree};
 ghost use Rattle.occ_syntax.specs.Usage.{KeepsUsage};
-ghost use Rattle.occ_replay.specs.occ_usage.Accepted.{IsTyped};
+ghost use Rattle.occ_run_schedule.specs.occ_usage.Accepted.{IsTyped};
 ghost use Rattle.occ_tool_run.specs.Accepts.{node_of};
-ghost use Rattle.occ_tool_run.specs.Files.{IsShort, most_bytes};
+ghost use Rattle.occ_call.specs.Files.{IsShort, most_bytes};
 ghost use Rattle.occ_tool_run.specs.Texts.{IsPrintable};
 ghost use Rattle.occ_tool_run.specs.Judged.{HasInterface, IsAcceptedFrom, IsAcceptedAs, IsRefusedFrom, IsRefusedFor, IsFaulty, IsRefusalAt, IsRefusalAnswer, IsSayable};
 
 use crate::answer::Answer;
-use crate::load::Loaded;
-use occ_desk::{Memory, Names};
+use occ_call::Loaded;
 use occ_read_renamed::parameters_have_names;
-use occ_replay::{Accepted, UsageFault, check};
-use occ_run_schedule::Side;
+use occ_run_schedule::{Accepted, Side, UsageFault, check};
+use occ_syntax::{Memory, Names};
 use occ_tool_words::{Bound, ParseFault, Text, Which, parse};
 use std::alloc::Global;
 

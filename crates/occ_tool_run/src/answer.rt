@@ -10,13 +10,13 @@ use crate::refusal::{
 };
 use crate::rejection::rejection;
 use itoa::Buffer;
-use occ_desk::{Memory, Names};
 use occ_read_renamed::Counts;
-use occ_replay::{Rejected, ScriptFault, UsageFault};
+use occ_replay::{Rejected, ScriptFault};
 use occ_run_schedule::{
-    Behaviour, Followed, Refined, Side, TableFault, Verdict, behaviour_text, followed_text,
-    verdict_text,
+    Behaviour, Followed, Refined, Side, TableFault, UsageFault, Verdict, behaviour_text,
+    followed_text, verdict_text,
 };
+use occ_syntax::{Memory, Names};
 use occ_tool_words::{ParseFault, Shape};
 use std::alloc::Global;
 

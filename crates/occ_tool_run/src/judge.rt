@@ -4,7 +4,7 @@ ghost use Rattle.std.specs.Prelude.{◌≡◌, ◌≢◌, ◌↔◌, ℕ, List, 
 ghost use Rattle.std.specs.declared.cmp.Ordering.TheVariants.{Less, Equal, Greater};
 ghost use Rattle.occ_run_schedule.specs.occ_behaviour.declared.behaviour.Side.TheVariants.{First, Second};
 ghost use Rattle.occ_tool_run.specs.Stored.{seen};
-ghost use Rattle.occ_tool_run.specs.Files.{IsLoaded, IsShort, most_bytes};
+ghost use Rattle.occ_call.specs.Files.{IsLoaded, IsShort, most_bytes};
 ghost use Rattle.occ_tool_run.specs.Texts.{IsPrintable};
 ghost use Rattle.occ_tool_run.specs.Answers.{Compares, Refines, Replies, Settles, Takes};
 ghost use Rattle.occ_tool_run.specs.declared.accept.Refusal.TheVariants as why;
@@ -13,12 +13,10 @@ ghost use Rattle.occ_tool_run.specs.Pairs.{IsOneKnown, SettlesAll};
 
 use crate::accept::{Refusal, accept, accept_first, refused};
 use crate::answer::Answer;
-use crate::load::Loaded;
-use occ_desk::{Memory, Name, Names};
+use occ_call::Loaded;
 use occ_refine::{decide, refined};
-use occ_replay::Accepted;
-use occ_run_schedule::Side;
-use occ_syntax::Kind;
+use occ_run_schedule::{Accepted, Side};
+use occ_syntax::{Kind, Memory, Name, Names};
 use std::alloc::Global;
 use std::cmp::Ordering;
 

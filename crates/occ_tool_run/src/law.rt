@@ -1,8 +1,8 @@
 ghost use Rattle.std.specs.Prelude.{ℕ, ◌≡◌, ◌↔◌, List, [], ◌∷◌, codes};
-ghost use Rattle.occ_desk.specs.occ_base.Names.{IsDistinct};
+ghost use Rattle.occ_syntax.specs.occ_base.Names.{IsDistinct};
 ghost use Rattle.occ_syntax.specs.Usage.{KeepsUsage};
 ghost use Rattle.occ_tool_run.specs.Accepts.{IsAcceptedText, Program};
-ghost use Rattle.occ_tool_run.specs.Files.{Files};
+ghost use Rattle.occ_call.specs.Files.{Files};
 ghost use Rattle.occ_tool_run.specs.Answers.{Answers, IsDetermined};
 ghost use Rattle.occ_tool_words.specs.Words.{job_of};
 

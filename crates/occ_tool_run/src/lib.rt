@@ -3,10 +3,9 @@
 
 pub mod accept;
 pub mod answer;
-mod files;
+mod answering;
 pub mod judge;
 mod law;
-pub mod load;
 mod measure;
 mod member;
 mod normal;
@@ -21,15 +20,19 @@ mod top;
 pub mod transforming;
 
 pub use law::{accepted_programs_keep_usage, one_answer, same_where_both_refine};
-pub use occ_derive::{DeriveFault, derive, derive_to, normal_programs_are_derivable, read_path};
-pub use occ_desk::{
-    Desk, Dir, Event, Events, List, Memory, MemoryDesk, Name, Names, ReadError, RealDesk, State,
-    Width, send,
+pub use occ_call::{
+    Contents, Desk, Loaded, MOST_BYTES, MOST_TABLE_BYTES, MemoryDesk, Named as CallNamed, RealDesk,
+    Reply, Stop, Wanted, command_words, load, send_reply,
+};
+pub use occ_derive::{
+    DeriveFault, Done, derive, derive_to, narrow_steps_are_moves, normal_programs_are_derivable,
+    read_path, steps_go_on,
 };
 pub use occ_engine_written::{
-    expansions_are_written, followed_orders_are_written, kept_parts_have_known_names,
-    known_moves_are_written, names_stay_below, paths_of_texts_are_short, printed_moves_are_joined,
-    read_programs_declare_known_names, read_programs_have_known_names,
+    Dones, Outcome, expansions_are_written, followed_orders_are_written,
+    kept_parts_have_known_names, known_moves_are_written, names_stay_below,
+    paths_of_texts_are_short, printed_moves_are_joined, read_programs_declare_known_names,
+    read_programs_have_known_names,
 };
 pub use occ_read_renamed::{
     normal_table, normal_texts_are_renamed, normal_texts_need_no_names,
@@ -38,15 +41,19 @@ pub use occ_read_renamed::{
     renamed_programs_mean_the_same,
 };
 pub use occ_replay::{
-    Accepted, Direction, LawId, Path, Raw, Script, ScriptFault, Step, at, name as law_name,
-    one_script, read as script_read, replace, resolve, scope_at,
+    Direction, LawId, Path, Raw, Script, ScriptFault, Step, at, name, one_script,
+    parts_are_known_up_to_their_greatest_name, read as script_read, replace, resolve, scope_at,
+    scripts_have_one_answer,
 };
 pub use occ_run_schedule::{
-    ClaimFault, Side, States, Table, TableFault, TableRow, Verdict, Witness,
+    Accepted, ClaimFault, Side, States, Table, TableFault, TableRow, Verdict, Witness,
     a_normal_text_is_its_tables, behaviour_read_read, behaviours_are_read_as_written,
     faults_are_those_of_what_is_written, faults_stand_where_nothing_goes_on, find_witness,
     interface_bits, nform_read_read as read, normal_texts_are_read_as_written, push_event,
     push_state, texts_of_programs_are_those_of_their_tables,
 };
-pub use occ_tool_words::{ParseFault, file_pair};
+pub use occ_syntax::{Memory, Names};
+pub use occ_tool_words::{
+    ParseFault, is_plain_word, one_reading, read_programs_print_within_levels,
+};
 pub use top::run;

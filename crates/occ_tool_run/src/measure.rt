@@ -1,5 +1,5 @@
 ghost use Rattle.std.specs.Prelude.{◌≢◌, ◌≤◌, Some, IfOk};
-ghost use Rattle.occ_tool_run.specs.Files.{IsLoaded, IsShort, most_bytes};
+ghost use Rattle.occ_call.specs.Files.{IsLoaded, IsShort, most_bytes};
 ghost use Rattle.occ_tool_run.specs.Judged.{HasInterface};
 ghost use Rattle.occ_tool_run.specs.Stored.{seen};
 ghost use Rattle.occ_tool_run.specs.Texts.{IsPrintable};
@@ -7,11 +7,10 @@ ghost use Rattle.occ_tool_run.specs.Answers.{IsStressed, Stresses};
 
 use crate::accept::{Refusal, accept_first};
 use crate::answer::Answer;
-use crate::load::{Loaded, MOST_BYTES};
-use occ_desk::{Memory, Names};
+use occ_call::{Loaded, MOST_BYTES};
 use occ_read_renamed::measured;
-use occ_replay::Accepted;
-use occ_run_schedule::a_normal_text_is_its_tables;
+use occ_run_schedule::{Accepted, a_normal_text_is_its_tables};
+use occ_syntax::{Memory, Names};
 use occ_tool_words::{
     GenFault, Shape, generate, generated_programs_are_accepted,
     generated_programs_are_never_refused, one_reading,

@@ -1,9 +1,9 @@
 ghost use Rattle.std.specs.Prelude.{◌≡◌, ◌≢◌, ◌≤◌, ◌↔◌, ℕ, List, Option, Some, IfOk, IsTrue, length};
-ghost use Rattle.occ_desk.specs.occ_base.Names.{IsDistinct};
+ghost use Rattle.occ_syntax.specs.occ_base.Names.{IsDistinct};
 ghost use Rattle.occ_syntax.specs.View.{tree};
 ghost use Rattle.occ_run_schedule.specs.occ_behaviour.Members.{IsMember};
 ghost use Rattle.occ_run_schedule.specs.occ_behaviour_read.Claims.{IsOf};
-ghost use Rattle.occ_tool_run.specs.Files.{IsLoaded, IsShort, most_bytes};
+ghost use Rattle.occ_call.specs.Files.{IsLoaded, IsShort, most_bytes};
 ghost use Rattle.occ_tool_run.specs.Judged.{HasInterface, IsClaimRefusal};
 ghost use Rattle.occ_tool_run.specs.Stored.{seen};
 ghost use Rattle.occ_tool_run.specs.Texts.{IsPrintable};
@@ -11,13 +11,12 @@ ghost use Rattle.occ_tool_run.specs.Answers.{IsJudged, Judges};
 
 use crate::accept::{accept_first, refused};
 use crate::answer::Answer;
-use crate::load::Loaded;
-use occ_desk::{Memory, Names};
-use occ_replay::Accepted;
+use occ_call::Loaded;
 use occ_run_schedule::{
-    Behaviour, ClaimFault, Last, Side, behaviour_read_read as read, behaviours_are_read_as_written,
-    ends, fails, faults_stand_where_nothing_goes_on,
+    Accepted, Behaviour, ClaimFault, Last, Side, behaviour_read_read as read,
+    behaviours_are_read_as_written, ends, fails, faults_stand_where_nothing_goes_on,
 };
+use occ_syntax::{Memory, Names};
 use std::alloc::Global;
 
 /// The answer to two files: of a program, and of a behaviour that may be one of the program's. The program is judged first.

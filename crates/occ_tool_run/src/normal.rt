@@ -1,5 +1,5 @@
 ghost use Rattle.std.specs.Prelude.{◌≡◌, ◌≢◌, ◌≤◌, ℕ, List, Option, IfOk, length};
-ghost use Rattle.occ_tool_run.specs.Files.{IsLoaded, IsShort, most_bytes, most_table_bytes};
+ghost use Rattle.occ_call.specs.Files.{IsLoaded, IsShort, most_bytes, most_table_bytes};
 ghost use Rattle.occ_tool_run.specs.Judged.{HasInterface};
 ghost use Rattle.occ_tool_run.specs.Stored.{seen};
 ghost use Rattle.occ_tool_run.specs.Texts.{IsPrintable};
@@ -7,14 +7,13 @@ ghost use Rattle.occ_tool_run.specs.Answers.{Checks, IsChecked, IsNormalised, No
 
 use crate::accept::{accept_first, refused};
 use crate::answer::Answer;
-use crate::load::Loaded;
-use occ_desk::{Memory, Names};
+use occ_call::Loaded;
 use occ_read_renamed::normal_text;
-use occ_replay::Accepted;
 use occ_run_schedule::{
-    Side, TableFault, a_normal_text_is_its_tables, faults_are_those_of_what_is_written,
+    Accepted, Side, TableFault, a_normal_text_is_its_tables, faults_are_those_of_what_is_written,
     nform_read_read as read, normal_texts_are_read_as_written,
 };
+use occ_syntax::{Memory, Names};
 use std::alloc::Global;
 
 /// The answer to a file whose program's normal text is asked for.

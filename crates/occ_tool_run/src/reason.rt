@@ -4,7 +4,7 @@ ghost use Rattle.std.specs.Prelude.{◌≡◌, IfOk};
 ghost use Rattle.occ_tool_run.specs.Texts.{order_refusal_text, path_refusal_text, reason_text};
 
 use itoa::Buffer;
-use occ_desk::Memory;
+use occ_syntax::Memory;
 use std::alloc::Global;
 
 /// Why an order isn't followed, or a part isn't expanded.

@@ -5,9 +5,9 @@ ghost use Rattle.occ_run_schedule.specs.occ_behaviour.Texts.{mark_text};
 ghost use Rattle.occ_tool_run.specs.Texts.{place_text, told_of, refusal_text, refused_at_text, words_of_usage, line_fault_text, limit_text, row_refusal_text, script_refusal_text, table_refusal_text, FaultIsNamed, ScriptFaultIsTold};
 
 use itoa::Buffer;
-use occ_desk::{Dir, Memory, Names};
-use occ_replay::{LineFault, ScriptFault, UsageFault};
-use occ_run_schedule::{Side, TableFault};
+use occ_replay::{LineFault, ScriptFault};
+use occ_run_schedule::{Side, TableFault, UsageFault};
+use occ_syntax::{Dir, Memory, Names};
 use occ_tool_words::{ParseFault, Which};
 use std::alloc::Global;
 

@@ -3,8 +3,8 @@ ghost use Rattle.occ_tool_run.specs.Texts.{from_rejection_text, rejection_text, 
 
 use crate::refusal::usage_words;
 use itoa::Buffer;
-use occ_desk::{Memory, Names};
 use occ_replay::Rejected;
+use occ_syntax::{Memory, Names};
 use std::alloc::Global;
 
 /// The line about a script that doesn't join its programs. Where the first program breaks the usage rule, the PAR stands on the

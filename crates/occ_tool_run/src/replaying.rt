@@ -1,18 +1,18 @@
 ghost use Rattle.std.specs.Prelude.{◌≡◌, ◌≢◌, ◌≤◌, ◌<◌, ℕ, List, Option, [], IfOk, length};
 ghost use Rattle.occ_tool_words.specs.occ_parse.Known.{NamesAreKnown};
 ghost use Rattle.occ_tool_run.specs.Derivations.{IsRejection, IsReplayAnswer, IsReplayOf, IsScriptRefusal, Replays, line_of_cause};
-ghost use Rattle.occ_tool_run.specs.Files.{IsLoaded, IsShort, most_script_bytes};
+ghost use Rattle.occ_call.specs.Files.{IsLoaded, IsShort, most_script_bytes};
 ghost use Rattle.occ_replay.specs.declared.result.Rejected.TheVariants as rejected;
 ghost use Rattle.occ_replay.specs.occ_script.declared.fault.ScriptFault.TheVariants as script;
 ghost use Rattle.occ_tool_run.specs.Texts.{CauseIsNamed, IsPrintable, ScriptFaultIsTold};
-ghost use Rattle.occ_replay.specs.occ_usage.Accepted.{IsTyped};
+ghost use Rattle.occ_run_schedule.specs.occ_usage.Accepted.{IsTyped};
 
 use crate::accept::line_of;
 use crate::answer::Answer;
-use crate::load::Loaded;
-use occ_desk::{Memory, Names};
+use occ_call::Loaded;
 use occ_replay::{Rejected, Script, ScriptFault, derivations_join_the_same, read};
 use occ_run_schedule::Side;
+use occ_syntax::{Memory, Names};
 use std::alloc::Global;
 
 /// The answer to a file that is to be a script.

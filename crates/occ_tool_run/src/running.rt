@@ -1,17 +1,16 @@
 ghost use Rattle.std.specs.Prelude.{◌≡◌, ◌≢◌, ◌≤◌, ℕ, List, Option, Some, IfOk, length};
 ghost use Rattle.occ_tool_words.specs.occ_parse.Known.{NamesAreKnown};
 ghost use Rattle.occ_tool_run.specs.Answers.{Steps};
-ghost use Rattle.occ_tool_run.specs.Files.{IsLoaded, IsShort, most_bytes};
+ghost use Rattle.occ_call.specs.Files.{IsLoaded, IsShort, most_bytes};
 ghost use Rattle.occ_tool_run.specs.Judged.{HasInterface};
 ghost use Rattle.occ_tool_run.specs.Runs.{IsRun, IsScheduleRefusal};
 ghost use Rattle.occ_tool_run.specs.Texts.{IsPrintable};
 
 use crate::accept::{accept_first, refused};
 use crate::answer::Answer;
-use crate::load::Loaded;
-use occ_desk::{Memory, Names};
-use occ_replay::Accepted;
-use occ_run_schedule::{ScheduleFault, Side, follow, read};
+use occ_call::Loaded;
+use occ_run_schedule::{Accepted, ScheduleFault, Side, follow, read};
+use occ_syntax::{Memory, Names};
 use std::alloc::Global;
 
 /// The answer to two files: of a program, and of a schedule that its steps are to follow. The program is judged first.

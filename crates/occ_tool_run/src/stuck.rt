@@ -1,5 +1,5 @@
 ghost use Rattle.std.specs.Prelude.{◌≢◌, ℕ, List, Option, IfOk};
-ghost use Rattle.occ_tool_run.specs.Files.{IsLoaded, IsShort, most_bytes};
+ghost use Rattle.occ_call.specs.Files.{IsLoaded, IsShort, most_bytes};
 ghost use Rattle.occ_tool_run.specs.Stored.{seen};
 ghost use Rattle.occ_tool_run.specs.Texts.{IsPrintable};
 ghost use Rattle.occ_tool_run.specs.Answers.{IsSought, Seeks};
@@ -7,11 +7,10 @@ ghost use Rattle.occ_tool_words.specs.occ_parse.Known.{NamesAreKnown};
 
 use crate::accept::{accept, refused};
 use crate::answer::Answer;
-use crate::load::Loaded;
-use occ_desk::{Memory, Names};
+use occ_call::Loaded;
 use occ_refine::deadlocked;
-use occ_replay::Accepted;
-use occ_run_schedule::Side;
+use occ_run_schedule::{Accepted, Side};
+use occ_syntax::{Memory, Names};
 use std::alloc::Global;
 
 /// The answer to a file whose program may be stuck.

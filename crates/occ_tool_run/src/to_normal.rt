@@ -3,19 +3,18 @@
 ghost use Rattle.std.specs.Prelude.{◌≡◌, ◌≢◌, ℕ, List, Option, IfOk};
 ghost use Rattle.occ_tool_run.specs.Answers.{Derives};
 ghost use Rattle.occ_tool_run.specs.Derived.{IsDerived};
-ghost use Rattle.occ_tool_run.specs.Files.{IsLoaded, IsShort, most_bytes};
+ghost use Rattle.occ_call.specs.Files.{IsLoaded, IsShort, most_bytes};
 ghost use Rattle.occ_tool_run.specs.Judged.{HasInterface};
 ghost use Rattle.occ_tool_run.specs.Texts.{IsPrintable};
 
 use crate::accept::{accept_first, refused};
 use crate::answer::Answer;
-use crate::load::Loaded;
 use crate::transforming::script;
+use occ_call::Loaded;
 use occ_derive::DeriveFault;
-use occ_desk::{Memory, Names};
 use occ_read_renamed::normal_table;
-use occ_replay::Accepted;
-use occ_run_schedule::Side;
+use occ_run_schedule::{Accepted, Side};
+use occ_syntax::{Memory, Names};
 use std::alloc::Global;
 
 /// The answer to a file whose program's normal program is to be derived.

@@ -1,20 +1,13 @@
 ghost use Rattle.std.specs.Prelude.{◌≡◌, ◌≢◌, ◌≤◌, ◌<◌, ◌↔◌, ◌⊎◌, map, string_bytes, IfOk, IfSome, None, Err};
 ghost use Rattle.occ_tool_words.specs.Words.{job_of, file_words};
-ghost use Rattle.occ_tool_run.specs.Files.{AsksFor, CountsStop};
-ghost use Rattle.occ_tool_run.specs.Texts.{IsPrintable};
-ghost use Rattle.occ_tool_run.specs.Answers.{IsAnswer, Answers};
-ghost use Rattle.occ_tool_run.specs.Ran.{Ran, Asked};
+ghost use Rattle.occ_call.specs.Files.{AsksFor, CountsStop};
+ghost use Rattle.occ_call.specs.Ran.{Asked, IsOwnStatus};
+ghost use Rattle.occ_tool_run.specs.Answers.{Answers};
+ghost use Rattle.occ_tool_run.specs.Ran.{Ran};
 
-use crate::answer::{Answer, status, text};
-use crate::files::{
-    belongs_file, check_file, compare_files, deadlock_file, derive_file, expand_file,
-    normalise_file, replay_file, run_files, transform_files,
-};
-use crate::judge::Question;
-use crate::load::Stop;
-use crate::measure::stress;
-use occ_desk::{Desk, send};
-use occ_tool_words::{Command, command_in};
+use crate::answering::{reply, wanted};
+use occ_call::{Desk, Reply, Stop, load, send_reply};
+use occ_tool_words::command_in;
 use std::alloc::Global;
 
 /// Runs a command: the words of a command line, the program's own name first, over a desk, to which the answer is written.
@@ -28,11 +21,11 @@ use std::alloc::Global;
 /// | 3 | a text is refused, or a step of a schedule isn't there, or an order or the path of a PAR is refused | the refusal |
 /// | 4 | a read failed in this call | nothing |
 /// | 5 | a write failed in this call | a front of the answer |
-/// | 6 | memory wanted, before the first write | nothing |
+/// | 6 | out of memory, before the first write | nothing |
 /// | 7 | both programs are accepted, and their interfaces differ | the line that says so |
 ///
-/// 4 and 5 yield to no other status, and each other yields to 4, 5 and 6. Where the desk tells its files, `Ran` says
-/// which answer the words and the files have.
+/// A failed read or write overrides every other status; out of memory overrides 0 to 3 and 7. Where the desk tells its
+/// files, `Ran` says which answer the words and the files have.
 pub fn run<D: Desk>(alloc: Global, words: &[String], desk: &mut D) -> u8
     requires reads_countable { D.read_faults desk.old < u64.MAX }
     requires writes_countable { D.write_faults desk.old < u64.MAX }
@@ -49,21 +42,8 @@ pub fn run<D: Desk>(alloc: Global, words: &[String], desk: &mut D) -> u8
     ensures nothing { (result ≡ 4) ⊎ (result ≡ 6) → D.written desk.new ≡ D.written desk.old }
     ensures files { D.files desk.new ≡ D.files desk.old }
 {
-    match make_reply(alloc, words, desk) {
-        Ok(reply) => match send(desk, reply.text.as_slice()) {
-            Ok(()) => reply.status,
-            Err(_) => 5,
-        },
-        Err(Stop::Read) => 4,
-        Err(Stop::Memory) => 6,
-    }
-}
-
-/// An answer as it is written, with its status.
-#[derive(Drop)]
-struct Reply {
-    status: u8,
-    text: Vec<u8>,
+    let made = make_reply(alloc, words, desk);
+    send_reply(desk, made)
 }
 
 /// The reply to a command line. It only reads.
@@ -72,7 +52,7 @@ fn make_reply<D: Desk>(alloc: Global, words: &[String], desk: &mut D) -> Result<
     requires writes_countable { D.write_faults desk.old < u64.MAX }
     ensures answers { IfOk result (λ reply. IfSome (D.files desk.old) (λ files.
         Answers files (map string_bytes words.now) reply.status reply.text.items)) }
-    ensures status { IfOk result (λ reply. (reply.status ≤ 3) ⊎ (reply.status ≡ 7)) }
+    ensures status { IfOk result (λ reply. IsOwnStatus reply.status) }
     ensures usage { IfOk result (λ reply. reply.status ≡ 2 → job_of (map string_bytes words.now) ≡ None) }
     ensures unfit { job_of (map string_bytes words.now) ≡ None → IfOk result (λ reply. reply.status ≡ 2) }
     ensures readable { job_of (map string_bytes words.now) ≡ None → result ≢ Err Stop.Read }
@@ -82,46 +62,7 @@ fn make_reply<D: Desk>(alloc: Global, words: &[String], desk: &mut D) -> Result<
     ensures written { D.written desk.new ≡ D.written desk.old }
     ensures write_faults { D.write_faults desk.new ≡ D.write_faults desk.old }
 {
-    let answer = find_answer(alloc, words, desk)?;
-    Ok(Reply {
-        status: status(&answer),
-        text: text(alloc, answer)?,
-    })
-}
-
-/// The answer to a command line.
-fn find_answer<D: Desk>(alloc: Global, words: &[String], desk: &mut D) -> Result<Answer, Stop>
-    requires reads_countable { D.read_faults desk.old < u64.MAX }
-    requires writes_countable { D.write_faults desk.old < u64.MAX }
-    ensures answer { IfOk result (λ answer. IfSome (D.files desk.old) (λ files.
-        IsAnswer files (map string_bytes words.now) answer)) }
-    ensures printable { IfOk result IsPrintable }
-    ensures usage { IfOk result (λ answer. answer ≡ Answer.Usage → job_of (map string_bytes words.now) ≡ None) }
-    ensures unfit { job_of (map string_bytes words.now) ≡ None → IfOk result (λ answer. answer ≡ Answer.Usage) }
-    ensures readable { job_of (map string_bytes words.now) ≡ None → result ≢ Err Stop.Read }
-    ensures asked { AsksFor (D.asked desk.old) (D.asked desk.new) (file_words (map string_bytes words.now)) result }
-    ensures read_faults { CountsStop (D.read_faults desk.old) (D.read_faults desk.new) result }
-    ensures files { D.files desk.new ≡ D.files desk.old }
-    ensures written { D.written desk.new ≡ D.written desk.old }
-    ensures write_faults { D.write_faults desk.new ≡ D.write_faults desk.old }
-{
-    match command_in(alloc, words)? {
-        Command::Usage => Ok(Answer::Usage),
-        Command::Same { first, second } => {
-            compare_files(alloc, Question::WhetherSame, first, second, desk)
-        }
-        Command::Normalise { program } => normalise_file(alloc, program, desk),
-        Command::Normal { text } => check_file(alloc, text, desk),
-        Command::Belongs { program, text } => belongs_file(alloc, program, text, desk),
-        Command::Stress { shape, stages } => Ok(stress(alloc, shape, stages)?),
-        Command::Refine { first, second } => {
-            compare_files(alloc, Question::WhetherRefined, first, second, desk)
-        }
-        Command::Deadlock { program } => deadlock_file(alloc, program, desk),
-        Command::Replay { text } => replay_file(alloc, text, desk),
-        Command::Run { program, text } => run_files(alloc, program, text, desk),
-        Command::Transform { program, text } => transform_files(alloc, program, text, desk),
-        Command::Expand { program, path } => expand_file(alloc, program, &path, desk),
-        Command::Derive { program } => derive_file(alloc, program, desk),
-    }
+    let command = command_in(alloc, words)?;
+    let contents = load(alloc, desk, &wanted(&command))?;
+    Ok(reply(alloc, &command, &contents)?)
 }

@@ -4,23 +4,23 @@ ghost use Rattle.std.specs.Prelude.{◌≡◌, ◌≢◌, ◌≤◌, ℕ, List, 
 ghost use Rattle.occ_derive.specs.occ_derive_search.Derivations.{IsDerived};
 ghost use Rattle.occ_replay.specs.occ_script.declared.fault.ScriptFault.TheVariants as script;
 ghost use Rattle.occ_tool_run.specs.Answers.{Expands, Transforms};
-ghost use Rattle.occ_tool_run.specs.Files.{IsLoaded, IsShort, most_bytes, most_script_bytes};
+ghost use Rattle.occ_call.specs.Files.{IsLoaded, IsShort, most_bytes, most_script_bytes};
 ghost use Rattle.occ_tool_run.specs.Texts.{IsPrintable, ScriptFaultIsTold};
 ghost use Rattle.occ_tool_run.specs.Transformed.{CanBeWritten, HasKnownNames, IsOfExpansion, IsOrderRefusal, IsOrdersRefusal, IsPathRefusal};
 ghost use Rattle.occ_tool_run.specs.Transforms.{IsExpandedTo, IsScriptOf, IsTransformed};
 
 use crate::accept::{accept, refused};
 use crate::answer::Answer;
-use crate::load::Loaded;
 use crate::reason::Reason;
+use occ_call::Loaded;
 use occ_derive::{moves_are_steps, steps_keep_the_meaning, write};
-use occ_desk::{Memory, Names};
 use occ_engine_written::{
     EngineFault, Outcome, expansions_have_known_names, followed_orders_have_known_names,
     kept_parts_have_known_names, names_stay_below, read_programs_have_known_names,
 };
-use occ_replay::{Accepted, Path, ScriptFault, orders};
-use occ_run_schedule::Side;
+use occ_replay::{Path, ScriptFault, orders};
+use occ_run_schedule::{Accepted, Side};
+use occ_syntax::{Memory, Names};
 use std::alloc::Global;
 
 /// The answer to two files: of a program, and of orders that are to be followed from it. The program is judged first.

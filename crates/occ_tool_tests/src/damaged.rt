@@ -1,31 +1,14 @@
-use crate::tests::{EXPANDED, command_on};
-use itoa::Buffer;
-use occ_draw_run::Memory;
+use crate::tests::answered;
+use crate::texts::{BUFFERS, EXPANDED, NORMAL, SKIP};
+use occ_workshop_run::Memory;
 use std::alloc::Global;
 use std::test::Fail;
 
-// The line REFUSED of the first text.
-fn refusal(alloc: Global, fault: &str) -> Result<Vec<u8>, Memory> {
-    let mut line = Vec::from_slice(alloc, b"REFUSED FIRST ")?;
-    line.extend_from_slice(fault.as_bytes())?;
-    line.push(b'\n')?;
-    Ok(line)
-}
-
-// The line REFUSED of a first text whose line of that number doesn't have its form.
-fn form_refusal(alloc: Global, line: u64) -> Result<Vec<u8>, Memory> {
-    let mut buffer = Buffer::new();
-    let mut text = Vec::from_slice(alloc, b"REFUSED FIRST ")?;
-    text.extend_from_slice(buffer.format(line).as_bytes())?;
-    text.extend_from_slice(b" Form\n")?;
-    Ok(text)
-}
-
 // The first lines of a text, so many of them.
-fn first_lines(alloc: Global, text: &str, count: u64) -> Result<Vec<u8>, Memory> {
+fn first_lines(alloc: Global, text: &[u8], count: u64) -> Result<Vec<u8>, Memory> {
     let mut front = Vec::new(alloc);
     let mut left = count;
-    for byte in text.as_bytes() {
+    for byte in text {
         if left > 0 {
             front.push(*byte)?;
         }
@@ -36,12 +19,12 @@ fn first_lines(alloc: Global, text: &str, count: u64) -> Result<Vec<u8>, Memory>
     Ok(front)
 }
 
-// A text with another line in the place of the one of that number, or with none there.
-fn with_line(alloc: Global, text: &str, number: u64, line: &str) -> Result<Vec<u8>, Memory> {
+// A text with other lines in the place of the one of that number, or with none there.
+fn with_line(alloc: Global, text: &[u8], number: u64, line: &str) -> Result<Vec<u8>, Memory> {
     let mut changed = first_lines(alloc, text, number.saturating_sub(1))?;
     let behind = first_lines(alloc, text, number)?.len();
     changed.extend_from_slice(line.as_bytes())?;
-    for (place, byte) in text.as_bytes().iter().enumerate() {
+    for (place, byte) in text.iter().enumerate() {
         if place >= behind {
             changed.push(*byte)?;
         }
@@ -57,27 +40,91 @@ fn push_many(text: &mut Vec<u8>, word: &str, count: u64) -> Result<(), Memory> {
     Ok(())
 }
 
-const NORMAL: &str =
-    "occam-normal 1\nPARAM CHAN OF BOOL a!\nPARAM CHAN OF BOOL b!\nROW 0\nEND []\nROW 1\nEND []\nACCEPT {a!1}\nACCEPT {b!0}\nOFFER a!1 0\nOFFER b!0 0\nSTATE [] 1\n";
+// A text and its command, a line of it by number, what stands in the line's place, the status and what is written.
+const DAMAGED: [(&str, &str, u64, &str, u8, &str); 11] = [
+    (
+        NORMAL,
+        "normal A",
+        8,
+        "ACCEPT {a!0}\n",
+        3,
+        "REFUSED FIRST 8 NotLeast\n",
+    ),
+    (
+        NORMAL,
+        "normal A",
+        9,
+        "ACCEPT {a!0}\n",
+        3,
+        "REFUSED FIRST 9 Order\n",
+    ),
+    (
+        NORMAL,
+        "normal A",
+        9,
+        "ACCEPT {a!1 b!0}\n",
+        3,
+        "REFUSED FIRST 9 NotLeast\n",
+    ),
+    (NORMAL, "normal A", 5, "", 3, "REFUSED FIRST ROW 0 Empty\n"),
+    (
+        NORMAL,
+        "normal A",
+        10,
+        "OFFER a!1 1\n",
+        3,
+        "REFUSED FIRST 10 Form\n",
+    ),
+    (
+        NORMAL,
+        "normal A",
+        12,
+        "STATE [] 0\n",
+        3,
+        "REFUSED FIRST ROW 1 Unreached\n",
+    ),
+    (NORMAL, "normal A", 12, "", 3, "REFUSED FIRST 11 Form\n"),
+    (
+        NORMAL,
+        "normal A",
+        12,
+        "STATE [] 1\n\n",
+        3,
+        "REFUSED FIRST 13 Form\n",
+    ),
+    (
+        NORMAL,
+        "normal A",
+        1,
+        "occam-normal 2\n",
+        3,
+        "REFUSED FIRST 1 Form\n",
+    ),
+    (
+        EXPANDED,
+        "replay A",
+        1,
+        "occam-script 1\n",
+        3,
+        "REFUSED FIRST 1 Version\n",
+    ),
+    (
+        EXPANDED,
+        "replay A",
+        14,
+        "    b ! 2\n",
+        1,
+        "REJECTED 2 NotInstance\n",
+    ),
+];
 
 #[test]
-fn damaged_normal_texts_are_refused(rt: HostRuntime) -> Result<(), Fail> {
-    let words = ["occam", "normal", "A"].as_slice();
-    for (number, line, fault) in [
-        (8, "ACCEPT {a!0}\n", "8 NotLeast"),
-        (9, "ACCEPT {a!0}\n", "9 Order"),
-        (9, "ACCEPT {a!1 b!0}\n", "9 NotLeast"),
-        (5, "", "ROW 0 Empty"),
-        (10, "OFFER a!1 1\n", "10 Form"),
-        (12, "STATE [] 0\n", "ROW 1 Unreached"),
-        (12, "", "11 Form"),
-        (12, "STATE [] 1\n\n", "13 Form"),
-        (1, "occam-normal 2\n", "1 Form"),
-    ] {
-        let text = with_line(rt.alloc(), NORMAL, number, line)?;
-        let (status, desk) = command_on(rt.alloc(), words, text.as_slice())?;
-        assert_eq!(rt; status, 3);
-        assert_eq!(rt; desk.written(), refusal(rt.alloc(), fault)?.as_slice());
+fn damaged_texts_are_refused(rt: HostRuntime) -> Result<(), Fail> {
+    for (text, words, number, line, status, written) in &DAMAGED {
+        let text = with_line(rt.alloc(), text.as_bytes(), *number, line)?;
+        let (answer, desk) = answered(rt.alloc(), words, text.as_slice(), b"")?;
+        assert_eq!(rt; answer, *status, "{line}");
+        assert_eq!(rt; desk.written(), written.as_bytes(), "{line}");
     }
     Ok(())
 }
@@ -85,48 +132,61 @@ fn damaged_normal_texts_are_refused(rt: HostRuntime) -> Result<(), Fail> {
 // A script cut behind a line ends too early: on its last line, or where a program stands without its closing line, on the header.
 #[test]
 fn a_script_cut_behind_a_line_is_refused(rt: HostRuntime) -> Result<(), Fail> {
-    let words = ["occam", "replay", "A"].as_slice();
     for count in 0..45u64 {
-        let text = first_lines(rt.alloc(), EXPANDED, count)?;
-        let (status, desk) = command_on(rt.alloc(), words, text.as_slice())?;
+        let text = first_lines(rt.alloc(), EXPANDED.as_bytes(), count)?;
+        let (status, desk) = answered(rt.alloc(), "replay A", text.as_slice(), b"")?;
         let line = match count {
             0 => 1,
             3..=6 => 3,
             1..=30 => count,
             _ => 31,
         };
+        let wanted = format!(in rt.alloc(); "REFUSED FIRST {line} Form\n")?;
         assert_eq!(rt; status, 3);
-        assert_eq!(rt; desk.written(), form_refusal(rt.alloc(), line)?.as_slice());
+        assert_eq!(rt; desk.written(), wanted.as_bytes(), "behind {count}");
     }
     Ok(())
 }
 
-#[test]
-fn a_path_of_a_thousand_numerals_leads_nowhere(rt: HostRuntime) -> Result<(), Fail> {
-    let mut text = Vec::from_slice(
-        rt.alloc(),
-        b"occam-script 2\nFROM\nPROC p ()\n  SKIP\n:\nSTEP seq-one FORWARD ",
-    )?;
-    push_many(&mut text, "/0", 1000)?;
-    text.extend_from_slice(b"\n  SKIP\nTO\nPROC p ()\n  SKIP\n:\n")?;
-    let words = ["occam", "replay", "A"].as_slice();
-    let (status, desk) = command_on(rt.alloc(), words, text.as_slice())?;
-    assert_eq!(rt; status, 1);
-    assert_eq!(rt; desk.written(), b"REJECTED 1 NoPath\n".as_slice());
-    Ok(())
-}
+// Three pieces of a text, of which the first two stand in front of a word and of another one, each a thousand times; the command, the
+// file B, the status and what is written.
+const LONG: [([&str; 3], &str, &str, &str, &str, u8, &str); 2] = [
+    (
+        [
+            "occam-script 2\nFROM\nPROC p ()\n  SKIP\n:\nSTEP seq-one FORWARD ",
+            "",
+            "\n  SKIP\nTO\nPROC p ()\n  SKIP\n:\n",
+        ],
+        "/0",
+        "",
+        "replay A",
+        "",
+        1,
+        "REJECTED 1 NoPath\n",
+    ),
+    (
+        ["PROC p (WORD2 x)\n  x := ", "1", "\n:\n"],
+        "(",
+        ")",
+        "same A B",
+        "PROC p (WORD2 x)\n  x := 1\n:\n",
+        0,
+        "SAME\n",
+    ),
+];
 
 #[test]
-fn a_thousand_brackets_are_accepted(rt: HostRuntime) -> Result<(), Fail> {
-    let mut text = Vec::from_slice(rt.alloc(), b"PROC p (WORD2 x)\n  x := ")?;
-    push_many(&mut text, "(", 1000)?;
-    text.push(b'1')?;
-    push_many(&mut text, ")", 1000)?;
-    text.extend_from_slice(b"\n:\n")?;
-    let words = ["occam", "same", "A", "A"].as_slice();
-    let (status, desk) = command_on(rt.alloc(), words, text.as_slice())?;
-    assert_eq!(rt; status, 0);
-    assert_eq!(rt; desk.written(), b"SAME\n".as_slice());
+fn long_lines_are_read(rt: HostRuntime) -> Result<(), Fail> {
+    for ([front, middle, end], word, other, words, second, status, written) in &LONG {
+        let mut text = Vec::from_slice(rt.alloc(), front.as_bytes())?;
+        push_many(&mut text, word, 1000)?;
+        text.extend_from_slice(middle.as_bytes())?;
+        push_many(&mut text, other, 1000)?;
+        text.extend_from_slice(end.as_bytes())?;
+        let (answer, desk) = answered(rt.alloc(), words, text.as_slice(), second.as_bytes())?;
+        assert_eq!(rt; answer, *status);
+        assert_eq!(rt; desk.written(), written.as_bytes());
+    }
     Ok(())
 }
 
@@ -141,17 +201,32 @@ fn levels(alloc: Global, most: u64) -> Result<Vec<u8>, Memory> {
     Ok(text)
 }
 
+// How many levels, the command, the status and what is written.
+const LEVELS: [(u64, &str, u8, &str); 2] = [
+    (64, "same A B", 0, "SAME\n"),
+    (65, "same A A", 3, "REFUSED FIRST 66 Limit Levels\n"),
+];
+
 #[test]
 fn levels_end_at_64(rt: HostRuntime) -> Result<(), Fail> {
-    for (most, status, text) in [
-        (64, 0, "SAME\n"),
-        (65, 3, "REFUSED FIRST 66 Limit Levels\n"),
-    ] {
-        let program = levels(rt.alloc(), most)?;
-        let words = ["occam", "same", "A", "A"].as_slice();
-        let (answer, desk) = command_on(rt.alloc(), words, program.as_slice())?;
-        assert_eq!(rt; answer, status);
+    for (most, words, status, text) in &LEVELS {
+        let program = levels(rt.alloc(), *most)?;
+        let (answer, desk) = answered(rt.alloc(), words, program.as_slice(), SKIP.as_bytes())?;
+        assert_eq!(rt; answer, *status);
         assert_eq!(rt; desk.written(), text.as_bytes());
     }
+    Ok(())
+}
+
+const WIDER: &str =
+    "PROC buffers (CHAN OF WORD1 in?, CHAN OF WORD1 out!)\n  WORD8 x:\n  WORD7 y:\n";
+
+#[test]
+fn variables_that_nobody_uses_make_no_rows(rt: HostRuntime) -> Result<(), Fail> {
+    let chain = BUFFERS.as_bytes();
+    let wider = with_line(rt.alloc(), chain, 1, WIDER)?;
+    let (status, desk) = answered(rt.alloc(), "same A B", wider.as_slice(), chain)?;
+    assert_eq!(rt; status, 0);
+    assert_eq!(rt; desk.written(), b"SAME\n".as_slice());
     Ok(())
 }

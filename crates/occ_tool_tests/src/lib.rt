@@ -4,6 +4,10 @@
 #[cfg(test)]
 mod damaged;
 #[cfg(test)]
-mod drawn;
+mod rows;
 #[cfg(test)]
 mod tests;
+#[cfg(test)]
+mod texts;
+#[cfg(test)]
+mod workshop;

@@ -1,6 +1,6 @@
 -- What a part alone tells of the program that it is put into.
 use Rattle.std.proofs.Common.{◌↔◌, Bool, IfOk, IsTrue, List, Result, Ok, Err, sym, subst, ◌∙◌}
-use Rattle.occ_names.specs.occ_base.declared.names.Name.{Name}
+use Rattle.occ_syntax.specs.occ_base.declared.names.Name.{Name}
 use Rattle.occ_names.proofs.from_meaning.Places.{part_keeps, put_scope, put_there}
 use Rattle.occ_names.specs.occ_meaning.Context.{put}
 use Rattle.occ_syntax.specs.declared.scope.Kind.{Kind}

@@ -1,7 +1,7 @@
 -- A part that uses no more than another one, and a part that is put in the place of another one.
 use Rattle.std.specs.Prelude.{ℕ, ◌≡◌, true, List, Some}
-use Rattle.occ_names.specs.occ_base.declared.event.Dir.{Dir}
-use Rattle.occ_names.specs.occ_base.declared.names.Name.{Name}
+use Rattle.occ_syntax.specs.occ_base.declared.event.Dir.{Dir}
+use Rattle.occ_syntax.specs.occ_base.declared.names.Name.{Name}
 use Rattle.occ_names.specs.occ_meaning.Context.{environment_at, part_at, put}
 use Rattle.occ_syntax.specs.declared.scope.Kind.{Kind}
 use Rattle.occ_syntax.specs.declared.scope.Program.{Program}

@@ -1,6 +1,6 @@
 -- What the parts of a PAR name, write and use, and what they share.
 use Rattle.std.specs.Prelude.{ℕ, ◌≡◌, List}
-use Rattle.occ_names.specs.occ_base.declared.event.Dir.{Dir}
+use Rattle.occ_syntax.specs.occ_base.declared.event.Dir.{Dir}
 use Rattle.occ_syntax.specs.Names.{is_in, free_in_some, written_in_some, end_in_some}
 use Rattle.occ_syntax.specs.Tree.{Tree, Trees, no_tree, and_tree}
 use Rattle.occ_names.specs.Once.{has}

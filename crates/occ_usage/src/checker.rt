@@ -6,8 +6,7 @@ ghost use Rattle.occ_usage.specs.Accepted.{usage_faults};
 
 use crate::UsageFault;
 use crate::sharing::Sharing;
-use occ_names::{Memory, Name};
-use occ_syntax::{Expr, Guard, Kind, Proc, Program};
+use occ_syntax::{Expr, Guard, Kind, Memory, Name, Proc, Program};
 use std::alloc::Global;
 
 /// The first fault of a program; None where it has none.

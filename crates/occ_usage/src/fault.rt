@@ -1,7 +1,7 @@
 ghost use Rattle.std.specs.Prelude.{◌≡◌};
 ghost use Rattle.occ_usage.specs.declared.fault.UsageFault.TheVariants as fault;
 
-use occ_names::{Dir, Memory, Name};
+use occ_syntax::{Dir, Memory, Name};
 use thiserror::Error;
 
 /// Why the parts of a PAR may not run at once. `node` is the number of the PAR: the processes of a program are numbered in

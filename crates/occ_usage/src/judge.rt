@@ -10,8 +10,7 @@ ghost use Rattle.occ_usage.specs.Local.{IsExchanged};
 
 use crate::keeps;
 use crate::using::uses_no_more;
-use occ_names::{Memory, Name};
-use occ_syntax::{Proc, Program, Scope};
+use occ_syntax::{Memory, Name, Proc, Program, Scope};
 use std::alloc::Global;
 
 /// Whether a part keeps the rules in a scope.

@@ -9,8 +9,7 @@ use crate::checker::{first_fault, names_in};
 use crate::kinds::Kinds;
 use crate::types::{distinct, is_width, width_of};
 use crate::typing::Typing;
-use occ_names::{Memory, Name};
-use occ_syntax::{Kind, Proc, Program, Scope};
+use occ_syntax::{Kind, Memory, Name, Proc, Program, Scope};
 use std::alloc::Global;
 
 /// Whether names, types, directions and usage are kept in a program, whatever its size.

@@ -1,11 +1,10 @@
 ghost use Rattle.std.specs.Prelude.{◌≡◌, ◌∷◌, ◌++◌, [], None, Some, List, OnOk, length, take};
-ghost use Rattle.occ_names.specs.occ_base.declared.names.Name.{Name};
+ghost use Rattle.occ_syntax.specs.occ_base.declared.names.Name.{Name};
 ghost use Rattle.occ_syntax.specs.declared.scope.Kind.{Kind};
 ghost use Rattle.occ_syntax.specs.Scopes.{environment, allows, variable_width as width_of_variable, channel_width as width_of_channel};
 
 use indexmap::IndexMap;
-use occ_names::{Dir, Memory, Name, Width};
-use occ_syntax::Kind;
+use occ_syntax::{Dir, Kind, Memory, Name, Width};
 use std::alloc::Global;
 use std::marker::Model;
 
@@ -17,7 +16,7 @@ pub struct Kinds {
 
 impl Model for Kinds {
     ghost use Rattle.std.specs.Prelude.{List};
-    ghost use Rattle.occ_names.specs.occ_base.declared.names.Name.{Name};
+    ghost use Rattle.occ_syntax.specs.occ_base.declared.names.Name.{Name};
     ghost use Rattle.occ_syntax.specs.declared.scope.Kind.{Kind};
 
     ghost Value = { List (Name × Kind) };

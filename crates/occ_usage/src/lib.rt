@@ -23,4 +23,4 @@ pub use fault::UsageFault;
 pub use judge::keeps_exchanged;
 pub use keeping::{keeps, keeps_scope, keeps_types};
 pub use laws::parts_that_use_no_more_may_be_put_in;
-pub use occ_names::{List, Memory, Name, NameSet, Names, RenameFault, ends, free, rename, written};
+pub use occ_names::{NameSet, RenameFault, ends, free, rename, written};

@@ -1,13 +1,14 @@
 //! Whether the names or ends of one list are all in a set.
 
 ghost use Rattle.std.specs.Prelude.{◌≡◌, ℕ, IfOk, IsTrue, true};
-ghost use Rattle.occ_names.specs.occ_base.declared.event.Dir.{Dir};
+ghost use Rattle.occ_syntax.specs.occ_base.declared.event.Dir.{Dir};
 ghost use Rattle.occ_names.specs.Mentions.{end_numbers, same_end};
 ghost use Rattle.occ_names.specs.Once.{has};
 ghost use Rattle.occ_syntax.specs.Names.{is_in};
 ghost use Rattle.occ_syntax.specs.View.{numbers};
 
-use occ_names::{Dir, EndSet, Memory, Name, NameSet};
+use occ_names::{EndSet, NameSet};
+use occ_syntax::{Dir, Memory, Name};
 use std::alloc::Global;
 
 /// The set of the names of a list.

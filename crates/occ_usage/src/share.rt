@@ -1,11 +1,12 @@
 ghost use Rattle.std.specs.Prelude.{◌≡◌, ℕ, ◌==◌, ◌||◌, ◌&&◌, OnOk};
-ghost use Rattle.occ_names.specs.occ_base.declared.event.Dir.{Dir};
+ghost use Rattle.occ_syntax.specs.occ_base.declared.event.Dir.{Dir};
 ghost use Rattle.occ_syntax.specs.Names.{is_in};
 ghost use Rattle.occ_syntax.specs.View.{numbers};
 ghost use Rattle.occ_names.specs.Once.{has};
 ghost use Rattle.occ_names.specs.Mentions.{end_number, end_numbers, same_end};
 
-use occ_names::{Dir, EndSet, Memory, Name, NameSet};
+use occ_names::{EndSet, NameSet};
+use occ_syntax::{Dir, Memory, Name};
 
 /// Puts the names of a list into a set.
 pub fn add_names(set: &mut NameSet, names: &[Name]) -> Result<(), Memory>

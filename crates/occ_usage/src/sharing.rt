@@ -1,5 +1,5 @@
 ghost use Rattle.std.specs.Prelude.{◌≡◌, ◌++◌, ℕ, OnOk, IfOk};
-ghost use Rattle.occ_names.specs.occ_base.declared.event.Dir.{Dir};
+ghost use Rattle.occ_syntax.specs.occ_base.declared.event.Dir.{Dir};
 ghost use Rattle.occ_syntax.specs.Names.{is_in};
 ghost use Rattle.occ_syntax.specs.Tree.{Trees};
 ghost use Rattle.occ_syntax.specs.View.{numbers, tree, trees};
@@ -10,8 +10,8 @@ ghost use Rattle.occ_usage.specs.Sharing.{Shares, with_part};
 
 use crate::UsageFault;
 use crate::share::{add_ends, add_names, share_ends, share_names};
-use occ_names::{Dir, EndSet, Memory, Name, NameSet, ends, free, written};
-use occ_syntax::Proc;
+use occ_names::{EndSet, NameSet, ends, free, written};
+use occ_syntax::{Dir, Memory, Name, Proc};
 use std::alloc::Global;
 
 /// What the parts of a PAR so far name, write and use, and what they share against the rule.

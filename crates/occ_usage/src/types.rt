@@ -1,14 +1,14 @@
 ghost use Rattle.std.specs.Prelude.{◌≡◌, ◌&&◌, ◌^◌, None, Some, is_none, nat_lt, IfOk, if◌then◌else◌};
-ghost use Rattle.occ_names.specs.occ_base.declared.width.Width.TheVariants.{Word};
+ghost use Rattle.occ_syntax.specs.occ_base.declared.width.Width.TheVariants.{Word};
 ghost use Rattle.occ_syntax.specs.Scopes.{environment};
-ghost use Rattle.occ_syntax.specs.Types.{type_of as type_in, type_given as given_by, type_of_two as of_two, if_truth_value as only_truth_value, if_word as only_word, same_width as is_same_width, is_width as is_a_width, agree as agreeing, is_condition as is_condition_in, input_kept as input_kept_in, output_kept as output_kept_in, waiting_kept as waiting_kept_in, pairs_kept as pairs_kept_in, is_pair, can_declare as can_declare_in, width_of_kind};
+ghost use Rattle.occ_syntax.specs.Types.{type_of as type_in, type_given as given_by, type_of_two as of_two, if_truth_value as only_truth_value, if_word as only_word, is_width as is_a_width, agree as agreeing, is_condition as is_condition_in, input_kept as input_kept_in, output_kept as output_kept_in, waiting_kept as waiting_kept_in, pairs_kept as pairs_kept_in, is_pair, can_declare as can_declare_in, width_of_kind};
 ghost use Rattle.occ_syntax.specs.View.{exp, exps, numbers, waiting};
 ghost use Rattle.occ_names.specs.Once.{is_distinct, same_number};
 ghost use Rattle.occ_usage.specs.Typed.{agreeing_pairs};
 
 use crate::kinds::Kinds;
-use occ_names::{Dir, Memory, Name, NameSet, Width};
-use occ_syntax::{Expr, Kind, Op, Wait};
+use occ_names::NameSet;
+use occ_syntax::{Dir, Expr, Kind, Memory, Name, Op, Wait, Width, same_width};
 use std::alloc::Global;
 
 /// Whether a word has 1 to 8 bits.
@@ -26,18 +26,6 @@ pub fn width_of(kind: Kind) -> Width
 {
     match kind {
         Kind::Var(width) | Kind::Chan(width, _) => width,
-    }
-}
-
-fn same_width(left: Width, right: Width) -> bool
-    ensures { result ≡ is_same_width left right }
-{
-    match left {
-        Width::Bool => matches!(right, Width::Bool),
-        Width::Word(bits) => match right {
-            Width::Bool => false,
-            Width::Word(others) => bits == others,
-        },
     }
 }
 

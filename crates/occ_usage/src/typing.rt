@@ -7,8 +7,7 @@ ghost use Rattle.occ_usage.specs.Typed.{unmarked as without_mark};
 
 use crate::kinds::Kinds;
 use crate::types::width_of;
-use occ_names::Memory;
-use occ_syntax::{Expr, Guard, Kind, Proc};
+use occ_syntax::{Expr, Guard, Kind, Memory, Proc};
 use std::alloc::Global;
 
 // A channel that a part declares has no mark.

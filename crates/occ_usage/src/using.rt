@@ -1,14 +1,14 @@
 //! Whether a part names, writes and uses no more than another one.
 
 ghost use Rattle.std.specs.Prelude.{◌≡◌, ℕ, IfOk, IsTrue, true};
-ghost use Rattle.occ_names.specs.occ_base.declared.event.Dir.{Dir};
+ghost use Rattle.occ_syntax.specs.occ_base.declared.event.Dir.{Dir};
 ghost use Rattle.occ_syntax.specs.Names.{free as is_free, uses_end, written as is_written};
 ghost use Rattle.occ_syntax.specs.View.{tree};
 ghost use Rattle.occ_usage.specs.Local.{UsesNoMore};
 
 use crate::sets::{end_set, has_ends, has_names, name_set};
-use occ_names::{Memory, ends, free, written};
-use occ_syntax::Proc;
+use occ_names::{ends, free, written};
+use occ_syntax::{Memory, Proc};
 use std::alloc::Global;
 
 /// Whether each free name of a part is free in another one.

@@ -1,9 +1,9 @@
 ghost use Rattle.std.specs.Prelude.{◌≡◌, true};
 ghost use Rattle.occ_follow.specs.occ_accept.Order.{event_cmp, strict};
 
-use crate::tests::events::{A, B};
+use crate::tests::events::{A, B, INPUTS};
 use occ_desk::{Event, Memory, Name};
-use occ_follow::{AcceptSet, Antichain, join, least, without};
+use occ_follow::{AcceptSet, Antichain, cross, join, least, without};
 use std::alloc::Global;
 
 // The antichain of one set.
@@ -43,5 +43,25 @@ fn a_set_without_a_channel(rt: HostRuntime) -> Result<(), Memory> {
     let rest = without(alloc, &chain, Name(0))?;
     assert_eq!(rt; rest.items().len(), 1);
     assert!(rt; rest.items()[0].items().is_empty());
+    Ok(())
+}
+
+#[test]
+fn the_smaller_of_two_sets(rt: HostRuntime) -> Result<(), Memory> {
+    let alloc = rt.alloc();
+    let a = single(alloc, &[A])?;
+    let both = single(alloc, &[A, B])?;
+    assert!(rt; join(alloc, &a, &both)? == a);
+    Ok(())
+}
+
+#[test]
+fn pairs_of_sets_without_counterparts(rt: HostRuntime) -> Result<(), Memory> {
+    let alloc = rt.alloc();
+    let a = single(alloc, &[A])?;
+    let inputs = single(alloc, &INPUTS)?;
+    assert!(rt; cross(alloc, &a, &inputs)?.items().is_empty());
+    let b = single(alloc, &[B])?;
+    assert!(rt; cross(alloc, &a, &b)? == single(alloc, &[A, B])?);
     Ok(())
 }

@@ -12,3 +12,17 @@ pub const B: Event = Event {
     dir: Dir::Output,
     value: 1,
 };
+
+/// The inputs of 0 and of 1 on the first channel.
+pub const INPUTS: [Event; 2] = [
+    Event {
+        chan: Name(0),
+        dir: Dir::Input,
+        value: 0,
+    },
+    Event {
+        chan: Name(0),
+        dir: Dir::Input,
+        value: 1,
+    },
+];

@@ -7,8 +7,8 @@ use occ_desk::Memory;
 use occ_follow::{MapId, NodeId, Offers, Row, World, alt, follow, least, prefix_out};
 use std::alloc::Global;
 
-// The node that has ended in every assignment.
-fn ended(alloc: Global, world: &mut World) -> Result<NodeId, Memory>
+/// The node that has ended in every assignment.
+pub fn ended(alloc: Global, world: &mut World) -> Result<NodeId, Memory>
     ensures leads { Leads world.old world.new }
     ensures node { IfOk result (IsNode world.new) }
 {

@@ -3,8 +3,8 @@ use Rattle.std.proofs.lemmas.Fn.{always_returns_same}
 use Rattle.std.proofs.lemmas.List.Filters.{dedup_is}
 use Rattle.std.proofs.lemmas.List.MinMax.{ranks_by}
 use Rattle.std.specs.Ordering.{is_lt}
-use Rattle.occ_behaviour.specs.occ_base.declared.event.Event.{Event}
-use Rattle.occ_behaviour.specs.occ_base.contracts.event.EventPartialEq.TheImpl.{ghosts as event_eq}
+use Rattle.occ_syntax.specs.occ_base.declared.event.Event.{Event}
+use Rattle.occ_syntax.specs.occ_base.contracts.event.EventPartialEq.TheImpl.{ghosts as event_eq}
 use Rattle.occ_compare.specs.Orders.{print_cmp}
 use Rattle.occ_compare.proofs.Printing.{print_total, ordered}
 use Rattle.occ_compare.proofs.events.in_order.Goals as goal

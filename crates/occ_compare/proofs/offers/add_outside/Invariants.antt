@@ -1,5 +1,5 @@
 use Rattle.std.proofs.Common.{◌≡◌, ◌||◌, ◌&&◌, not, take}
-use Rattle.occ_behaviour.specs.occ_base.declared.event.Event.{Event}
+use Rattle.occ_syntax.specs.occ_base.declared.event.Event.{Event}
 use Rattle.occ_node.specs.occ_accept.Accept.{in_set}
 use Rattle.occ_node.specs.Offers.{is_offered}
 use Rattle.occ_compare.proofs.offers.add_outside.Given as goal

@@ -1,7 +1,7 @@
 use Rattle.std.proofs.Common.{List, ◌∙◌, rules}
 use Rattle.std.proofs.lemmas.Fn.{always_returns_same}
 use Rattle.std.specs.Cmp.Lexicographic.{slice_cmp}
-use Rattle.occ_behaviour.specs.occ_base.declared.event.Event.{Event}
+use Rattle.occ_syntax.specs.occ_base.declared.event.Event.{Event}
 use Rattle.occ_node.specs.occ_accept.Order.{event_cmp}
 use Rattle.occ_node.proofs.from_accept.Events.{sets_total}
 use Rattle.occ_node.proofs.from_accept.Search.{searched}

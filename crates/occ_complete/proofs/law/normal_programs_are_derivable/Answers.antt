@@ -1,5 +1,5 @@
-use Rattle.occ_complete_events.specs.occ_syntax.View.{tree}
-use Rattle.occ_complete_events.specs.occ_target.Program.{normal_body}
+use Rattle.occ_engine.specs.occ_syntax.View.{tree}
+use Rattle.occ_complete_states.specs.occ_target.Program.{normal_body}
 use Rattle.occ_complete.proofs.law.normal_programs_are_derivable.Goals as goal
 
 pub returns : goal.returns

@@ -1,5 +1,5 @@
 use Rattle.occ_complete.proofs.Leaving.{clearing_goes}
-use Rattle.occ_complete_events.proofs.from_complete_states.Scopes.{scope_front}
+use Rattle.occ_complete_states.proofs.Scopes.{scope_front}
 use Rattle.occ_complete.proofs.laws.clearing_goes.Goals as goal
 
 pub returns : goal.returns

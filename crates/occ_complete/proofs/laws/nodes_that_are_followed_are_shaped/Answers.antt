@@ -1,5 +1,5 @@
 use Rattle.occ_complete.proofs.Renewed.{renewed_shaped}
-use Rattle.occ_complete_events.specs.occ_complete_states.Configured.{Follows}
+use Rattle.occ_complete_states.specs.Configured.{Follows}
 use Rattle.occ_complete.proofs.laws.nodes_that_are_followed_are_shaped.Goals as goal
 
 pub returns : goal.returns

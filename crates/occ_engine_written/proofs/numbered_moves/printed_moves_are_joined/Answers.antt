@@ -1,4 +1,4 @@
-use Rattle.occ_script_table.proofs.from_script.Once.{IsOnce}
+use Rattle.occ_engine_known.proofs.from_script.Once.{IsOnce}
 use Rattle.occ_engine_written.proofs.NumberedPrinted.{joined, kept}
 use Rattle.occ_engine_written.proofs.numbered_moves.printed_moves_are_joined.Goals as goal
 

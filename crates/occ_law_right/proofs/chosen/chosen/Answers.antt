@@ -1,15 +1,13 @@
-use Rattle.std.proofs.Common.{◌<◌, ◌≤◌, length, arith}
-use Rattle.occ_syntax.specs.View.{tree}
+use Rattle.occ_syntax.specs.View.{tree, trees}
 use Rattle.occ_law_seq.specs.occ_law.Instances.{sizes}
-use Rattle.occ_law_right.proofs.Parting.{split_at, too_far}
 use Rattle.occ_law_right.proofs.chosen.chosen.Goals as goal
+use Rattle.occ_law_right.proofs.Parting.{none_there, part_there}
 
-pub returns-then-size-parts : goal.returns-then-size-parts
-returns-then-size-parts c =
-    let beyond : length c.in_ok-parts.parts.now ≤ c.in_ok-size.size = omega arith in
-    too_far (sizes c.args.place) (tree c.args.part.now) c.in_ok-size.size c.in_ok-parts.parts.now c.in_ok-size.ensures c.in_ok-parts.ensures beyond
+pub returns-in_default : goal.returns-in_default
+returns-in_default c =
+    none_there (sizes c.args.place) (tree c.args.part.now) (trees c.in_ok-parts.parts.now) c.in_ok-size.size c.in_ok-size.ensures c.in_ok-parts.ensures c.in_default.ensures
 
 pub returns : goal.returns
 returns c =
-    let within : c.in_ok-size.size < length c.in_ok-parts.parts.now = omega arith in
-    split_at (sizes c.args.place) (tree c.args.part.now) c.in_ok-size.size c.in_ok-parts.parts.now c.index-parts-size.result c.in_ok-size.ensures c.in_ok-parts.ensures within c.index-parts-size.is
+    part_there (sizes c.args.place) (tree c.args.part.now) (trees c.in_ok-parts.parts.now) (trees c.in-Some.found.before.now) (tree c.in-Some.found.part.now) (trees c.in-Some.found.behind.now)
+    c.in_ok-size.size c.in_ok-size.ensures c.in_ok-parts.ensures c.in-Some.ensures.0 c.in-Some.ensures.1

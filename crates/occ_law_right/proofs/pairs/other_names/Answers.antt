@@ -1,4 +1,4 @@
-use Rattle.occ_law_scope.specs.occ_base.declared.names.Name.{Name}
+use Rattle.occ_syntax.specs.occ_base.declared.names.Name.{Name}
 use Rattle.occ_law_right.proofs.Written.{items_written, names_over}
 use Rattle.occ_law_right.proofs.pairs.other_names.Goals as goal
 

@@ -3,6 +3,8 @@ use Rattle.occ_syntax.specs.View.{tree}
 use Rattle.occ_law_scope.proofs.Renamed.{channel_once, chan_rename_law}
 use Rattle.occ_law_scope.proofs.Joined.{answered}
 use Rattle.occ_law_scope.proofs.renaming.chan_rename.Goals as goal
+use Rattle.occ_syntax.proofs.Widths.{same_widths}
+use Rattle.std.proofs.Common.{sym, ◌∙◌}
 
 pub is_renamed-requires : goal.is_renamed-requires
 is_renamed-requires c = channel_once (environment c.args._scope.now) (tree c.args.left.now) (tree c.in-Chan-shape.body.now) c.in-Chan-shape.old.0 c.in-Chan-shape.width c.in-Chan-shape.ensures c.requires.left
@@ -11,4 +13,4 @@ pub returns-else-not-same_width : goal.returns-else-not-same_width
 returns-else-not-same_width c = answered c.is_renamed.result c.is_renamed.ensures
     (chan_rename_law (environment c.args._scope.now) (tree c.args.left.now) (tree c.args.right.now) (tree c.in-Chan-shape.body.now) (tree c.in-Chan-shape-shape.other.now)
     c.in-Chan-shape.old.0 c.in-Chan-shape-shape.new.0 c.in-Chan-shape.width c.in-Chan-shape-shape.other_width c.in-Chan-shape.ensures c.in-Chan-shape-shape.ensures
-    (c.same_width.ensures.0 c.if-not-same_width.false) c.requires.right)
+    (same_widths _ _ (sym c.same_width.ensures ∙ c.if-not-same_width.false)) c.requires.right)

@@ -1,6 +1,6 @@
 use Rattle.std.proofs.Common.{◌≡◌, length, ap, ◌∙◌, subst, IfOk}
 use Rattle.std.proofs.lemmas.List.{at_drop_all, length-map}
-use Rattle.occ_meaning.specs.occ_base.declared.names.Name.{Name}
+use Rattle.occ_syntax.specs.occ_base.declared.names.Name.{Name}
 use Rattle.occ_meaning.specs.Substitution.{substituted}
 use Rattle.occ_syntax.specs.View.{exp, exps, numbers}
 use Rattle.occ_names.specs.Once.{same_number}

@@ -1,6 +1,6 @@
 use Rattle.std.proofs.Common.{◌≡◌, ◌<◌, ◌++◌, take}
 use Rattle.std.specs.List.{flat_map}
-use Rattle.occ_nform_rows.specs.occ_base.Names.{IsDistinct}
+use Rattle.occ_syntax.specs.occ_base.Names.{IsDistinct}
 use Rattle.occ_nform.specs.Lines.{param_line}
 use Rattle.occ_nform.proofs.lines.push_params.Given as goal
 

@@ -1,5 +1,5 @@
 use Rattle.std.proofs.Common.{ℕ, ◌∙◌}
-use Rattle.occ_nform_table.specs.occ_base.declared.event.Event.{Event}
+use Rattle.occ_syntax.specs.occ_base.declared.event.Event.{Event}
 use Rattle.occ_nform_table.specs.Lines.{rank}
 use Rattle.occ_nform_read.proofs.Faults.{by_places}
 use Rattle.occ_nform_read.proofs.lines.offers_fault.Goals as goal

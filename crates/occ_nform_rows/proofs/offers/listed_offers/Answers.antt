@@ -1,6 +1,6 @@
 use Rattle.std.proofs.Common.{List, ap, ◌∙◌, subst}
 use Rattle.std.proofs.lemmas.List.{take_all, get_or_default}
-use Rattle.occ_nform_table.specs.occ_base.declared.event.Event.{Event}
+use Rattle.occ_syntax.specs.occ_base.declared.event.Event.{Event}
 use Rattle.occ_compare.specs.Orders.{IsListOf}
 use Rattle.occ_nform_rows.specs.Lists.{with_numbers}
 use Rattle.occ_nform_rows.proofs.Listing.{next_small, with_step, offers_listed}

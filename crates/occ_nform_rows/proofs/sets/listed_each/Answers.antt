@@ -1,6 +1,6 @@
 use Rattle.std.proofs.Common.{◌+◌, ◌++◌, [], ◌∷◌, List, take, sym, ap, ◌∙◌, subst}
 use Rattle.std.proofs.lemmas.List.{take_more}
-use Rattle.occ_nform_table.specs.occ_base.declared.event.Event.{Event}
+use Rattle.occ_syntax.specs.occ_base.declared.event.Event.{Event}
 use Rattle.occ_nform_rows.specs.Lists.{AreLists}
 use Rattle.occ_nform_rows.proofs.Listing.{lists_more}
 use Rattle.occ_nform_rows.proofs.sets.listed_each.Goals as goal

@@ -2,7 +2,7 @@ use Rattle.std.proofs.Common.{List, rules}
 use Rattle.std.proofs.lemmas.Fn.{always_returns_same}
 use Rattle.std.proofs.lemmas.List.MinMax.{ranks_by}
 use Rattle.std.specs.Ordering.{is_lt}
-use Rattle.occ_nform_table.specs.occ_base.declared.event.Event.{Event}
+use Rattle.occ_syntax.specs.occ_base.declared.event.Event.{Event}
 use Rattle.occ_compare.specs.Orders.{list_cmp}
 use Rattle.occ_nform_rows.proofs.Listing.{list_total}
 use Rattle.occ_nform_rows.proofs.sets.sorted.Goals as goal

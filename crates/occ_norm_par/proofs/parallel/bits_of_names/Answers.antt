@@ -1,5 +1,5 @@
 use Rattle.std.proofs.lemmas.Nat.Bits.{bit_at-zero}
-use Rattle.occ_norm_frame.specs.occ_base.declared.width.Width.TheVariants.{Bool as TruthValue}
+use Rattle.occ_syntax.specs.occ_base.declared.width.Width.TheVariants.{Bool as TruthValue}
 use Rattle.occ_norm_frame.proofs.Placing.{entry_at}
 use Rattle.occ_syntax.specs.View.{numbers}
 use Rattle.occ_norm_par.proofs.Writing.{bits_end, bits_more}

@@ -1,5 +1,5 @@
 use Rattle.indexmap.specs.IndexMap.{get}
-use Rattle.occ_norm_frame.specs.occ_base.declared.names.Name.{Name}
+use Rattle.occ_syntax.specs.occ_base.declared.names.Name.{Name}
 use Rattle.occ_syntax.specs.View.{trees}
 use Rattle.occ_norm_par.specs.Spans.{IsSpan, same_name}
 use Rattle.occ_norm_par.proofs.users.places_of.Given as goal

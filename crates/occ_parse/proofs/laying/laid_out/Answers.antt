@@ -1,8 +1,8 @@
 use Rattle.std.proofs.Common.{ap, sym, subst, ◌∙◌}
 use Rattle.std.specs.List.{AllByRecursion}
-use Rattle.occ_parse_layout.specs.occ_lex.Placed.{IsLineOf}
-use Rattle.occ_parse_layout.proofs.from_lex.Placing.{reading_placed}
-use Rattle.occ_parse_layout.specs.occ_lex.Symbols.{rows_of}
+use Rattle.occ_parse_rules.specs.occ_lex.Placed.{IsLineOf}
+use Rattle.occ_parse_rules.proofs.from_lex.Placing.{reading_placed}
+use Rattle.occ_parse_rules.specs.occ_lex.Symbols.{rows_of}
 use Rattle.occ_parse_layout.specs.Layout.{laid_rows}
 use Rattle.occ_parse.specs.Limits.{stopped}
 use Rattle.occ_parse.specs.Reading.{AreForms}

@@ -2,7 +2,7 @@ use Rattle.std.proofs.Common.{ap, sym, ◌∙◌, inl}
 use Rattle.occ_parse_rules.specs.Forest.{forest, in_nodes}
 use Rattle.occ_parse.specs.Drafts.{header_params, header_below, draft_fault}
 use Rattle.occ_parse.specs.Reading.{too_long, in_draft}
-use Rattle.occ_parse_layout.proofs.from_lex.Interned.{extends_same}
+use Rattle.occ_parse_rules.proofs.from_lex.Interned.{extends_same}
 use Rattle.occ_parse.proofs.Knowing.{name_known, params_known, lines_known}
 use Rattle.occ_parse.proofs.Checked.{typed_from}
 use Rattle.occ_parse.proofs.Declared.{known_of}

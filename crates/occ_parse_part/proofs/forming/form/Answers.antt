@@ -1,6 +1,6 @@
 use Rattle.std.proofs.Common.{ap, ◌∙◌}
-use Rattle.occ_parse.specs.occ_lex.Symbols.{with_names_of_all}
-use Rattle.occ_parse.proofs.from_lex.Interned.{extends_eq, extends_same, extends_trans}
+use Rattle.occ_parse_forms.specs.occ_lex.Symbols.{with_names_of_all}
+use Rattle.occ_parse_forms.proofs.from_lex.Interned.{extends_eq, extends_same, extends_trans}
 use Rattle.occ_parse_rules.specs.Forest.{forest, in_nodes}
 use Rattle.occ_parse.specs.occ_parse_layout.Layout.{laid_rows}
 use Rattle.occ_parse_part.specs.Elements.{elements_in, with_arrays}

@@ -3,7 +3,7 @@ use Rattle.std.proofs.Math.Bool.{Bool-set}
 use Rattle.std.proofs.Math.Logic.{∥∥₁_elim}
 use Rattle.occ_parse_rules.specs.Forest.{forest}
 use Rattle.occ_parse.specs.occ_parse_types.Asking.{plain_counters}
-use Rattle.occ_parse.proofs.from_lex.Interned.{extends_same}
+use Rattle.occ_parse_forms.proofs.from_lex.Interned.{extends_same}
 use Rattle.occ_syntax.specs.View.{tree}
 use Rattle.occ_parse_part.specs.Resolving.{part_fault, scope_params}
 use Rattle.occ_parse_part.specs.Seen.{seen}

@@ -1,5 +1,5 @@
 use Rattle.std.proofs.Common.{◌≤◌, length, sym, refl, ◌∙◌, arith}
-use Rattle.occ_parse.proofs.from_lex.Interned.{extends_trans, longer}
+use Rattle.occ_parse_forms.proofs.from_lex.Interned.{extends_trans, longer}
 use Rattle.occ_parse_part.proofs.Counted.{array_more, array_table, arrays_done, known_at, table_done}
 use Rattle.occ_parse_part.proofs.rows.elements.Goals as goal
 

@@ -1,6 +1,6 @@
 use Rattle.std.proofs.Common.{◌≡◌, ◌<◌, ℕ, List, drop}
-use Rattle.occ_parse.specs.occ_base.Names.{IsDistinct}
-use Rattle.occ_parse.specs.occ_lex.Symbols.{Extends}
+use Rattle.occ_syntax.specs.occ_base.Names.{IsDistinct}
+use Rattle.occ_parse_forms.specs.occ_lex.Symbols.{Extends}
 use Rattle.occ_parse_part.specs.Elements.{elements_in, with_arrays, with_arrays_in}
 use Rattle.occ_parse_part.specs.Seen.{seen}
 use Rattle.occ_parse_part.proofs.rows.elements.Given as goal

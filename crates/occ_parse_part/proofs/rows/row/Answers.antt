@@ -1,8 +1,8 @@
 use Rattle.std.proofs.Common.{◌≡◌, ◌+◌, ◌-◌, ◌≤◌, sym, subst, ◌∙◌, arith}
-use Rattle.occ_parse.proofs.from_lex.Interned.{extends_same, extends_trans, longer}
+use Rattle.occ_parse_forms.proofs.from_lex.Interned.{extends_same, extends_trans, longer}
 use Rattle.occ_parse.specs.occ_parse_unroll.Elements.{with_element}
 use Rattle.occ_parse.proofs.from_parse_unroll.Elements.{one_element_more}
-use Rattle.occ_parse.specs.occ_base.Names.{IsDistinct}
+use Rattle.occ_syntax.specs.occ_base.Names.{IsDistinct}
 use Rattle.occ_parse.proofs.Places.{places_distinct}
 use Rattle.occ_parse_rules.specs.Places.{elements_from}
 use Rattle.occ_parse.specs.occ_parse_unroll.Elements.{with_places}

@@ -1,5 +1,5 @@
 use Rattle.std.proofs.Common.{◌≡◌, ◌-◌, ◌++◌, ℕ, List}
-use Rattle.occ_parse.specs.occ_lex.Symbols.{Extends}
+use Rattle.occ_parse_forms.specs.occ_lex.Symbols.{Extends}
 use Rattle.occ_parse_rules.specs.Places.{elements_from}
 use Rattle.occ_parse.specs.occ_parse_unroll.Elements.{with_places}
 use Rattle.occ_parse_part.specs.Elements.{row_in}

@@ -1,5 +1,5 @@
 use Rattle.std.proofs.Common.{rules, ◌≡◌, None, Option, sym, ap, ◌∙◌, subst, ◌||◌, refl}
-use Rattle.occ_parse_scopes.specs.occ_base.declared.width.Width.TheVariants.{Bool as TruthValue}
+use Rattle.occ_syntax.specs.occ_base.declared.width.Width.TheVariants.{Bool as TruthValue}
 use Rattle.occ_parse_rules.specs.Names.{items_in}
 use Rattle.occ_parse_rules.specs.Places.{Sorts}
 use Rattle.occ_parse_rules.specs.Types.{Class}

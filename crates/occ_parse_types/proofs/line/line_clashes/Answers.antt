@@ -2,7 +2,7 @@ use Rattle.std.proofs.Common.{[], ◌∷◌, sym, ap, ◌∙◌, subst}
 use Rattle.occ_parse_forms.specs.Shape.{all_said, said, shape, waiting}
 use Rattle.occ_parse_rules.specs.Names.{items_in, items_in_all, items_of_waiting, uses}
 use Rattle.occ_parse_rules.specs.Places.{for_some}
-use Rattle.occ_parse_scopes.specs.occ_base.declared.width.Width.TheVariants.{Bool as TruthValue}
+use Rattle.occ_syntax.specs.occ_base.declared.width.Width.TheVariants.{Bool as TruthValue}
 use Rattle.occ_parse_rules.specs.Types.{clashes, line_clashes, waiting_clashes}
 use Rattle.occ_parse_scopes.proofs.Taken.{for_some_or}
 use Rattle.occ_parse_types.specs.Asking.{AllThere}

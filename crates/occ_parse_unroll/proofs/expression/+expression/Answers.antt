@@ -1,6 +1,6 @@
 use Rattle.std.proofs.Common.{length, sym, subst, ap, arith}
 use Rattle.occ_parse_forms.specs.Shape.{said}
-use Rattle.occ_parse_scopes.proofs.from_lex.Interned.{longer}
+use Rattle.occ_parse_forms.proofs.from_lex.Interned.{longer}
 use Rattle.occ_parse_unroll.specs.Known.{IsKnownSaid}
 use Rattle.occ_parse_unroll.proofs.Known.{said_known}
 use Rattle.occ_parse_unroll.proofs.Words.{words}

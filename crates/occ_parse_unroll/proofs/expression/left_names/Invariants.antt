@@ -1,6 +1,6 @@
 use Rattle.std.proofs.Common.{◌≡◌, ◌++◌, ℕ, List, drop, map}
 use Rattle.occ_syntax.specs.View.{numbers}
-use Rattle.occ_parse_scopes.specs.occ_lex.Symbols.{Extends}
+use Rattle.occ_parse_forms.specs.occ_lex.Symbols.{Extends}
 use Rattle.occ_parse_rules.specs.Unrolled.{item_number}
 use Rattle.occ_parse_unroll.specs.Numbers.{numbering}
 use Rattle.occ_parse_unroll.specs.Present.{values_of}

@@ -1,5 +1,5 @@
 use Rattle.occ_parse_forms.specs.Shape.{said}
-use Rattle.occ_parse_scopes.proofs.from_lex.Interned.{longer}
+use Rattle.occ_parse_forms.proofs.from_lex.Interned.{longer}
 use Rattle.occ_parse_unroll.proofs.Known.{said_known}
 use Rattle.occ_parse_unroll.proofs.expression.output.Goals as goal
 

@@ -1,6 +1,6 @@
 use Rattle.std.proofs.Common.{◌<◌, ◌≤◌, min, length, sym, ◌∙◌, arith}
 use Rattle.occ_parse_forms.specs.Shape.{said}
-use Rattle.occ_parse_scopes.proofs.from_lex.Interned.{extends_trans, longer}
+use Rattle.occ_parse_forms.proofs.from_lex.Interned.{extends_trans, longer}
 use Rattle.occ_parse_unroll.specs.Known.{IsKnownSaid}
 use Rattle.occ_parse_unroll.specs.Numbers.{numbering}
 use Rattle.occ_parse_unroll.specs.Present.{values_of}

@@ -1,7 +1,7 @@
 use Rattle.std.proofs.Common.{◌≡◌, ◌++◌, ℕ, List, drop}
 use Rattle.occ_syntax.specs.View.{exps}
 use Rattle.occ_parse_forms.specs.Shape.{all_said}
-use Rattle.occ_parse_scopes.specs.occ_lex.Symbols.{Extends}
+use Rattle.occ_parse_forms.specs.occ_lex.Symbols.{Extends}
 use Rattle.occ_parse_rules.specs.Unrolled.{values}
 use Rattle.occ_parse_unroll.specs.Numbers.{numbering}
 use Rattle.occ_parse_unroll.specs.Present.{values_of}

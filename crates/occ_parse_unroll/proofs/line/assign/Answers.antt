@@ -1,5 +1,5 @@
 use Rattle.occ_parse_forms.specs.Shape.{all_said}
-use Rattle.occ_parse_scopes.proofs.from_lex.Interned.{longer}
+use Rattle.occ_parse_forms.proofs.from_lex.Interned.{longer}
 use Rattle.occ_parse_unroll.proofs.Known.{all_said_known}
 use Rattle.occ_parse_unroll.specs.Elements.{items_places, values_places}
 use Rattle.occ_parse_unroll.specs.Present.{values_of}

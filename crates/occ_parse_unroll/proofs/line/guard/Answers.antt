@@ -1,6 +1,6 @@
 use Rattle.std.proofs.Common.{length, ap, sym, subst, ◌∙◌}
 use Rattle.occ_parse_forms.specs.Shape.{said, shape, waiting}
-use Rattle.occ_parse_scopes.proofs.from_lex.Interned.{longer}
+use Rattle.occ_parse_forms.proofs.from_lex.Interned.{longer}
 use Rattle.occ_parse_unroll.specs.Known.{IsKnownLine}
 use Rattle.occ_parse_unroll.proofs.Known.{waiting_known}
 use Rattle.occ_parse_unroll.specs.Elements.{guard_places, places_in, waiting_places, brought}

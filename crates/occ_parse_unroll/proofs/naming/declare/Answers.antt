@@ -1,5 +1,5 @@
 use Rattle.std.proofs.Common.{length, ◌∙◌}
-use Rattle.occ_parse_scopes.proofs.from_lex.Interned.{extends_trans, longer}
+use Rattle.occ_parse_forms.proofs.from_lex.Interned.{extends_trans, longer}
 use Rattle.occ_parse_unroll.specs.Known.{IsKnownDeclared}
 use Rattle.occ_parse_unroll.specs.Numbers.{numbering}
 use Rattle.occ_parse_unroll.proofs.Declaring.{one_declared, one_scope}

@@ -1,5 +1,5 @@
 use Rattle.std.proofs.Common.{◌≡◌, ◌++◌, ℕ, List, drop}
-use Rattle.occ_parse_scopes.specs.occ_lex.Symbols.{Extends}
+use Rattle.occ_parse_forms.specs.occ_lex.Symbols.{Extends}
 use Rattle.occ_parse_rules.specs.Places.{declared_in, entries_of}
 use Rattle.occ_parse_rules.specs.Unrolled.{all_named}
 use Rattle.occ_parse_unroll.specs.Numbers.{numbering}

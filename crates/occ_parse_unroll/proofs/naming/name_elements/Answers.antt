@@ -1,5 +1,5 @@
 use Rattle.std.proofs.Common.{◌≡◌, ◌+◌, ◌-◌, Some, ap, ◌∙◌, arith}
-use Rattle.occ_parse_scopes.proofs.from_lex.Interned.{extends_trans}
+use Rattle.occ_parse_forms.proofs.from_lex.Interned.{extends_trans}
 use Rattle.occ_parse_unroll.specs.Numbers.{numbering}
 use Rattle.occ_parse_unroll.proofs.Declaring.{one_element}
 use Rattle.occ_parse_unroll.specs.Elements.{brought_one}

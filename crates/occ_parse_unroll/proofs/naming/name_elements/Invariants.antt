@@ -1,6 +1,6 @@
 use Rattle.std.proofs.Common.{◌≡◌, ◌-◌, ◌++◌, ℕ, List}
 use Rattle.occ_parse_forms.specs.declared.form.Declared.TheVariants as declared
-use Rattle.occ_parse_scopes.specs.occ_lex.Symbols.{Extends}
+use Rattle.occ_parse_forms.specs.occ_lex.Symbols.{Extends}
 use Rattle.occ_parse_rules.specs.Unrolled.{named}
 use Rattle.occ_parse_unroll.specs.Numbers.{numbering}
 use Rattle.occ_parse_unroll.proofs.Declaring.{elements_named}

@@ -1,6 +1,6 @@
 use Rattle.std.proofs.Common.{length, ◌++◌, ap, sym, ◌∙◌}
 use Rattle.std.proofs.lemmas.List.{append-nil, drop_all}
-use Rattle.occ_parse_scopes.proofs.from_lex.Interned.{extends_trans, longer}
+use Rattle.occ_parse_forms.proofs.from_lex.Interned.{extends_trans, longer}
 use Rattle.occ_parse_unroll.specs.Known.{IsKnownParam}
 use Rattle.occ_parse_unroll.specs.Numbers.{number_in}
 use Rattle.occ_parse_unroll.proofs.Declaring.{one_param, one_param_scope}

@@ -1,5 +1,5 @@
 use Rattle.std.proofs.Common.{◌≡◌, ◌++◌, ℕ, List, drop}
-use Rattle.occ_parse_scopes.specs.occ_lex.Symbols.{Extends}
+use Rattle.occ_parse_forms.specs.occ_lex.Symbols.{Extends}
 use Rattle.occ_parse_rules.specs.Places.{declared_in, param_entries}
 use Rattle.occ_parse_rules.specs.Unrolled.{params_named}
 use Rattle.occ_parse_unroll.specs.Numbers.{number_in}

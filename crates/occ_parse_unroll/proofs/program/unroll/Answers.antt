@@ -1,5 +1,5 @@
 use Rattle.std.proofs.Common.{[], ap, ◌∙◌}
-use Rattle.occ_parse_scopes.proofs.from_lex.Interned.{extends_trans, longer}
+use Rattle.occ_parse_forms.proofs.from_lex.Interned.{extends_trans, longer}
 use Rattle.occ_parse_rules.specs.Forest.{forest}
 use Rattle.occ_parse_rules.specs.Places.{declared_in, param_entries}
 use Rattle.occ_parse_rules.specs.Unrolled.{slot, unrolled}

@@ -2,7 +2,7 @@ use Rattle.std.proofs.Common.{◌≡◌, ◌+◌, ◌++◌, [], length, drop, sy
 use Rattle.occ_syntax.specs.Tree.{no_tree, no_case, no_branch}
 use Rattle.occ_syntax.specs.View.{tree, trees, cases, branches, in_procs, in_choices, in_alternatives}
 use Rattle.occ_parse_forms.specs.Shape.{shape, said}
-use Rattle.occ_parse_scopes.proofs.from_lex.Interned.{extends_trans, longer}
+use Rattle.occ_parse_forms.proofs.from_lex.Interned.{extends_trans, longer}
 use Rattle.occ_parse_rules.specs.Forest.{forest}
 use Rattle.occ_parse_rules.specs.Places.{declared_in, entries_of}
 use Rattle.occ_parse_rules.specs.Unrolled.{all_named, as_parts, branches_then, cases_then, first_tree, process, trees_then, unrolled}

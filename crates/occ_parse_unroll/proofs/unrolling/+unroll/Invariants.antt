@@ -1,7 +1,7 @@
 use Rattle.std.proofs.Common.{◌≡◌, ◌+◌, ◌-◌, ◌*◌, ◌≤◌, ℕ, List, [], length, drop, Some}
 use Rattle.occ_syntax.specs.Tree.{no_tree, no_case, no_branch}
 use Rattle.occ_syntax.specs.View.{trees, cases, branches, in_procs, in_choices, in_alternatives}
-use Rattle.occ_parse_scopes.specs.occ_lex.Symbols.{Extends}
+use Rattle.occ_parse_forms.specs.occ_lex.Symbols.{Extends}
 use Rattle.occ_parse_rules.specs.Forest.{forest}
 use Rattle.occ_parse_rules.specs.Places.{numbers_from}
 use Rattle.occ_parse_rules.specs.Unrolled.{as_parts, branches_then, cases_then, copied, copies, first_tree, trees_then, unrolled}

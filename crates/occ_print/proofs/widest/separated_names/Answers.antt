@@ -1,6 +1,6 @@
 use Rattle.std.proofs.Common.{arith}
 use Rattle.std.proofs.lemmas.List.{length-map}
-use Rattle.occ_parse_forms.specs.occ_base.declared.names.Name.{Name}
+use Rattle.occ_syntax.specs.occ_base.declared.names.Name.{Name}
 use Rattle.occ_syntax.specs.View.{numbers}
 use Rattle.occ_print.proofs.Counting.{names_length}
 use Rattle.occ_print.proofs.widest.separated_names.Goals as goal

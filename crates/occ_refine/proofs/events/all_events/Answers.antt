@@ -1,6 +1,6 @@
 use Rattle.std.proofs.Common.{◌≡◌, ◌||◌, List, ap, ◌∙◌}
 use Rattle.std.proofs.lemmas.Result.{IfOk-weaker}
-use Rattle.occ_norm.specs.occ_base.declared.event.Event.{Event}
+use Rattle.occ_syntax.specs.occ_base.declared.event.Event.{Event}
 use Rattle.occ_syntax.specs.Scopes.{environment, in_interface}
 use Rattle.occ_norm.specs.occ_accept.Accept.{in_set}
 use Rattle.occ_refine.specs.Interfaces.{in_params}

@@ -1,6 +1,6 @@
 use Rattle.std.proofs.Common.{◌≡◌, None, Some, ap, sym, ◌∙◌}
-use Rattle.occ_script.proofs.from_meaning.Places.{put_there}
-use Rattle.occ_script.specs.occ_meaning.Context.{part_at}
+use Rattle.occ_law_any.proofs.from_meaning.Places.{put_there}
+use Rattle.occ_law_any.specs.occ_meaning.Context.{part_at}
 use Rattle.occ_replay.proofs.Changing.{exchanged}
 use Rattle.occ_syntax.specs.View.{tree}
 use Rattle.occ_replay.proofs.change.changed.Goals as goal

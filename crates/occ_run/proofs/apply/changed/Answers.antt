@@ -1,6 +1,6 @@
 use Rattle.std.proofs.Common.{◌==◌, ℕ, not, ap}
 use Rattle.std.specs.List.{filter, list_any}
-use Rattle.occ_behaviour.specs.occ_base.declared.names.Name.{Name}
+use Rattle.occ_syntax.specs.occ_base.declared.names.Name.{Name}
 use Rattle.occ_run.proofs.Fronts.{none_is, none_more}
 use Rattle.occ_run.proofs.States.{changed_values}
 use Rattle.occ_run.proofs.apply.changed.Goals as goal

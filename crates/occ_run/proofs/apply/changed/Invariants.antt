@@ -1,5 +1,5 @@
 use Rattle.std.proofs.Common.{◌≡◌, ◌++◌, not, ◌==◌, length}
-use Rattle.occ_behaviour.specs.occ_base.declared.names.Name.{Name}
+use Rattle.occ_syntax.specs.occ_base.declared.names.Name.{Name}
 use Rattle.std.proofs.Common.{ℕ}
 use Rattle.std.specs.List.{filter, list_any}
 use Rattle.occ_run.proofs.apply.changed.Given as goal

@@ -1,6 +1,6 @@
 use Rattle.std.proofs.Common.{ℕ, Some, Option, [], ap, refl, sym, ◌∙◌}
-use Rattle.occ_behaviour.specs.occ_base.declared.event.Dir.TheVariants.{Output}
-use Rattle.occ_behaviour.specs.occ_base.declared.event.Event.{Event}
+use Rattle.occ_syntax.specs.occ_base.declared.event.Dir.TheVariants.{Output}
+use Rattle.occ_syntax.specs.occ_base.declared.event.Event.{Event}
 use Rattle.occ_syntax.specs.Eval.{eval}
 use Rattle.occ_syntax.specs.Tree.{output}
 use Rattle.occ_syntax.specs.View.{exp}

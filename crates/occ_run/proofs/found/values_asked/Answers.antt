@@ -1,5 +1,5 @@
 use Rattle.std.proofs.Common.{Some, Option, sym, ap, ◌∙◌, arith}
-use Rattle.occ_behaviour.specs.occ_base.declared.event.Event.{Event}
+use Rattle.occ_syntax.specs.occ_base.declared.event.Event.{Event}
 use Rattle.occ_run.specs.Founds.{asked, asks, inputs}
 use Rattle.occ_run.proofs.Processes.{input_above, input_asked, input_at, input_missed, inputs_all, inputs_none}
 use Rattle.occ_run.proofs.found.values_asked.Goals as goal

@@ -1,5 +1,5 @@
 use Rattle.std.proofs.Common.{◌^◌, None, [], ap, refl, sym, ◌∙◌}
-use Rattle.occ_behaviour.specs.occ_base.Width.{bits_of}
+use Rattle.occ_syntax.specs.occ_base.Width.{bits_of}
 use Rattle.occ_syntax.specs.View.{tree}
 use Rattle.occ_run_steps.specs.Control.{local, unbegun}
 use Rattle.occ_run_steps.specs.Step.{step}

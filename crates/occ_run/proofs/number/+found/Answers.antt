@@ -1,6 +1,6 @@
 use Rattle.std.proofs.Common.{◌<◌, ◌∷◌, ◌++◌, length, map, refl, sym, ap, ◌∙◌, arith}
 use Rattle.std.proofs.lemmas.Bool.{and_parts}
-use Rattle.occ_behaviour.specs.occ_base.Event.{counterpart}
+use Rattle.occ_syntax.specs.occ_base.Event.{counterpart}
 use Rattle.occ_syntax.specs.Scopes.{environment, values}
 use Rattle.occ_syntax.specs.View.{trees}
 use Rattle.occ_run_steps.specs.Kept.{all_types_held, types_held}

@@ -1,6 +1,6 @@
 use Rattle.std.proofs.Common.{Bool, sym, ◌∙◌}
 use Rattle.std.specs.List.{list_any}
-use Rattle.occ_behaviour.specs.occ_base.declared.event.Event.{Event}
+use Rattle.occ_syntax.specs.occ_base.declared.event.Event.{Event}
 use Rattle.occ_run.specs.MeetingRuns.{has}
 use Rattle.occ_run.proofs.Refusing.{kept_further, left_further}
 use Rattle.occ_run.proofs.stand.add_end.Goals as goal

@@ -1,6 +1,6 @@
 use Rattle.std.proofs.Common.{refl, subst, ◌∙◌}
 use Rattle.occ_run.specs.Machines.{configuration}
-use Rattle.occ_member.specs.occ_usage.Accepted.{IsAccepted}
+use Rattle.occ_run.specs.occ_usage.Accepted.{IsAccepted}
 use Rattle.occ_run_schedule.proofs.Showing.{is_shown, led_there, shown_named}
 use Rattle.occ_run_schedule.proofs.following.follow.Goals as goal
 

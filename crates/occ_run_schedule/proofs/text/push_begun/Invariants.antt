@@ -1,7 +1,7 @@
 use Rattle.std.proofs.Common.{◌≡◌, ◌++◌, ◌∷◌, take}
 use Rattle.std.specs.List.{flat_map}
 use Rattle.std.specs.Prelude.{codes}
-use Rattle.occ_member.specs.occ_behaviour.Texts.{event_text, state_text}
+use Rattle.occ_run.specs.occ_behaviour.Texts.{event_text, state_text}
 use Rattle.occ_run_schedule.proofs.text.push_begun.Given as goal
 
 abbrev pub invariant-loop-event : goal.invariant-loop-event

@@ -1,4 +1,4 @@
-use Rattle.occ_prove_run.specs.occ_parse.declared.bound.Bound.TheVariants as bound
+use Rattle.occ_workshop_run.specs.occ_parse.declared.bound.Bound.TheVariants as bound
 use Rattle.occ_tool_laws.proofs.Files.{files_apart}
 use Rattle.occ_tool_laws.proofs.normal_laws.normal_texts_tell_files_apart.Goals as goal
 

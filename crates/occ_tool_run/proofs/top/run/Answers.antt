@@ -1,10 +1,9 @@
-use Rattle.occ_tool_run.proofs.Leaving.{wrote_all, wrote_front, sent_all, sent_front}
+use Rattle.std.proofs.Common.{map, string_bytes}
+use Rattle.occ_call.proofs.Leaving.{left}
+use Rattle.occ_tool_run.specs.Answers.{Answers}
 use Rattle.occ_tool_run.proofs.top.run.Goals as goal
 
-pub returns-in-Ok-send-clause-answer : goal.returns-in-Ok-send-clause-answer
-returns-in-Ok-send-clause-answer g c = wrote_all _ _ _ c.in-Ok.reply.text.items _ _ _ c.in-Ok.ensures.answers c.in-Ok.ensures.written
-    (sent_all _ _ _ _ c.as_slice.ensures.value c.in-Ok-send.ensures.sent)
-
-pub returns-in-Ok-clause-answer : goal.returns-in-Ok-clause-answer
-returns-in-Ok-clause-answer g c = wrote_front _ _ c.in-Ok.reply.status c.in-Ok.reply.text.items _ _ _ c.in-Ok.ensures.answers c.in-Ok.ensures.written
-    (sent_front _ _ _ _ c.as_slice.ensures.value c.in-Err.ensures.front)
+pub returns-clause-answer : goal.returns-clause-answer
+returns-clause-answer g c =
+    left _ (λ files. Answers files (map string_bytes c.args.words.now)) c.make_reply-made.result c.send_reply.result _ _ _ c.make_reply-made.ensures.answers c.make_reply-made.ensures.written
+    c.send_reply.ensures.end

@@ -1,4 +1,4 @@
-use Rattle.occ_replay.proofs.from_usage.Law.{faultless_keeps}
+use Rattle.occ_run_schedule.proofs.from_usage.Law.{faultless_keeps}
 use Rattle.occ_tool_run.proofs.Engine.{derived_of, expanded_written, expansion_fault, par_expanded, path_refused}
 use Rattle.occ_tool_run.proofs.transforming.expand_program.Goals as goal
 

@@ -1,4 +1,4 @@
-use Rattle.occ_replay.proofs.from_usage.Law.{faultless_keeps}
+use Rattle.occ_run_schedule.proofs.from_usage.Law.{faultless_keeps}
 use Rattle.occ_tool_run.proofs.Engine.{first_there, script_of, steps_there}
 use Rattle.occ_tool_run.proofs.transforming.script.Goals as goal
 

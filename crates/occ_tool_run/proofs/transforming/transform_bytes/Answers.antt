@@ -1,6 +1,6 @@
 use Rattle.std.proofs.Common.{◌<◌, List, length, subst, sym}
 use Rattle.occ_replay.specs.occ_script.declared.script.Order.{Order}
-use Rattle.occ_replay.proofs.from_usage.Law.{faultless_keeps}
+use Rattle.occ_run_schedule.proofs.from_usage.Law.{faultless_keeps}
 use Rattle.occ_tool_run.proofs.Engine.{derived_of, followed_written, names_grown, order_fault, orders_fault_or_memory_told, orders_followed, orders_refused, orders_stopped}
 use Rattle.occ_tool_run.proofs.transforming.transform_bytes.Goals as goal
 

@@ -1,5 +1,5 @@
 use Rattle.std.proofs.Common.{◌≡◌, ℕ, ◌||◌, drop}
-use Rattle.occ_names.specs.occ_base.declared.event.Dir.{Dir}
+use Rattle.occ_syntax.specs.occ_base.declared.event.Dir.{Dir}
 use Rattle.occ_names.specs.Once.{has}
 use Rattle.occ_names.specs.Mentions.{same_end, end_numbers}
 use Rattle.occ_usage.proofs.sets.end_set.Given as goal

@@ -1,6 +1,6 @@
 use Rattle.std.proofs.Common.{map, ap, sym, ◌∙◌}
 use Rattle.std.proofs.lemmas.List.{take_all}
-use Rattle.occ_meaning.specs.occ_base.declared.names.Name.{Name}
+use Rattle.occ_syntax.specs.occ_base.declared.names.Name.{Name}
 use Rattle.occ_meaning.specs.Rename.{replacing}
 use Rattle.occ_names.proofs.Replaced.{renamed_numbers}
 use Rattle.occ_names.proofs.replace.Replace.names.Goals as goal

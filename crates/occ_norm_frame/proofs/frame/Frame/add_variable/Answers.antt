@@ -1,4 +1,4 @@
-use Rattle.occ_bits.specs.occ_base.declared.names.Name.{Name}
+use Rattle.occ_syntax.specs.occ_base.declared.names.Name.{Name}
 use Rattle.occ_syntax.specs.declared.scope.Kind.{Kind}
 use Rattle.occ_syntax.specs.declared.scope.Kind.TheVariants.{Var}
 use Rattle.occ_syntax.specs.Counts.{bits_of_scope}

@@ -1,6 +1,6 @@
 use Rattle.std.proofs.Common.{◌==◌, not, ap, ◌∙◌}
 use Rattle.std.specs.List.{list_all}
-use Rattle.occ_bits.specs.occ_base.declared.names.Name.{Name}
+use Rattle.occ_syntax.specs.occ_base.declared.names.Name.{Name}
 use Rattle.occ_norm_frame.proofs.FrameBits.{among_all}
 use Rattle.occ_norm_frame.proofs.frame.Frame.is_closed.Goals as goal
 

@@ -1,6 +1,6 @@
 use Rattle.std.proofs.Common.{List, None, subst, ◌∙◌}
-use Rattle.occ_behaviour.specs.occ_base.declared.names.Name.{Name}
-use Rattle.occ_behaviour.specs.occ_base.declared.width.Width.{Width}
+use Rattle.occ_syntax.specs.occ_base.declared.names.Name.{Name}
+use Rattle.occ_syntax.specs.occ_base.declared.width.Width.{Width}
 use Rattle.occ_run.specs.Founds.{IsAt, asked, effects}
 use Rattle.occ_run.specs.Places.{names_at, values_at}
 use Rattle.occ_run.specs.View.{control}

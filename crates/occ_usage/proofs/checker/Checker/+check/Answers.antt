@@ -1,5 +1,5 @@
 use Rattle.std.proofs.Common.{◌≡◌, ◌++◌, List, IfOk, IfNone, arith, ap, sym, ◌∙◌, subst}
-use Rattle.occ_names.specs.occ_base.declared.names.Name.{Name}
+use Rattle.occ_syntax.specs.occ_base.declared.names.Name.{Name}
 use Rattle.occ_syntax.specs.Tree.{seq, par, select, alt}
 use Rattle.occ_syntax.specs.View.{numbers, tree, trees, cases, branches}
 use Rattle.occ_syntax.proofs.Views.{tree-Seq, tree-Par, tree-If, tree-Alt}

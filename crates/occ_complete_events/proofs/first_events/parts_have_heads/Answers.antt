@@ -1,5 +1,0 @@
-use Rattle.occ_complete_events.proofs.Heading.{part_has_head}
-use Rattle.occ_complete_events.proofs.first_events.parts_have_heads.Goals as goal
-
-pub returns : goal.returns
-returns c = part_has_head

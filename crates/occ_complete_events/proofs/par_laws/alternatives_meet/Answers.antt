@@ -1,9 +1,0 @@
-use Rattle.occ_complete_events.proofs.Expanding.{expansion_spares}
-use Rattle.occ_complete_events.proofs.Meeting.{expansion}
-use Rattle.occ_complete_events.proofs.par_laws.alternatives_meet.Goals as goal
-
-pub returns-clause-law : goal.returns-clause-law
-returns-clause-law c = expansion
-
-pub returns-clause-sparing : goal.returns-clause-sparing
-returns-clause-sparing c = expansion_spares

@@ -1,8 +1,0 @@
-use Rattle.occ_complete_events.proofs.Beside.{choices_leave, choices_leave_spares}
-use Rattle.occ_complete_events.proofs.par_laws.choices_leave_pars.Goals as goal
-
-pub returns-clause-law : goal.returns-clause-law
-returns-clause-law c = choices_leave
-
-pub returns-clause-sparing : goal.returns-clause-sparing
-returns-clause-sparing c = choices_leave_spares

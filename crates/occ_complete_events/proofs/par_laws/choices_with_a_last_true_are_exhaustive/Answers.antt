@@ -1,5 +1,0 @@
-use Rattle.occ_complete_events.proofs.Beside.{last_true}
-use Rattle.occ_complete_events.proofs.par_laws.choices_with_a_last_true_are_exhaustive.Goals as goal
-
-pub returns : goal.returns
-returns c = last_true

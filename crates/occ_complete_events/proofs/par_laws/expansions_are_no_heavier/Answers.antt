@@ -1,5 +1,0 @@
-use Rattle.occ_complete_events.proofs.Heaviest.{expansion_weighs}
-use Rattle.occ_complete_events.proofs.par_laws.expansions_are_no_heavier.Goals as goal
-
-pub returns : goal.returns
-returns c = expansion_weighs

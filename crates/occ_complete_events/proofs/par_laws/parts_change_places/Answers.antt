@@ -1,8 +1,0 @@
-use Rattle.occ_complete_events.proofs.Beside.{turned, turned_spares}
-use Rattle.occ_complete_events.proofs.par_laws.parts_change_places.Goals as goal
-
-pub returns-clause-law : goal.returns-clause-law
-returns-clause-law c = turned
-
-pub returns-clause-sparing : goal.returns-clause-sparing
-returns-clause-sparing c = turned_spares

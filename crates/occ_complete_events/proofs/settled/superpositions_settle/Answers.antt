@@ -1,5 +1,0 @@
-use Rattle.occ_complete_events.proofs.Settling.{superposition_settles}
-use Rattle.occ_complete_events.proofs.settled.superpositions_settle.Goals as goal
-
-pub returns : goal.returns
-returns c = superposition_settles

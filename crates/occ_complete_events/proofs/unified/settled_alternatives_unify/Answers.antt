@@ -1,5 +1,0 @@
-use Rattle.occ_complete_events.proofs.Unifying.{alternatives_unify}
-use Rattle.occ_complete_events.proofs.unified.settled_alternatives_unify.Goals as goal
-
-pub returns : goal.returns
-returns c = alternatives_unify

@@ -1,5 +1,0 @@
-use Rattle.occ_follow.proofs.from_node.Behaviours.{fit_nothing}
-use Rattle.occ_core_tests.proofs.tests.node.stop.Goals as goal
-
-pub make-requires : goal.make-requires
-make-requires c = fit_nothing c.args.world.now c.no_ends.result c.in_ok-accepts.accepts c.new.result c.in_ok-of.field-0 c.no_ends.ensures.known c.new.ensures c.in_ok-of.ensures c.in_ok-accepts.ensures.refuses c.in_ok-accepts.ensures.events

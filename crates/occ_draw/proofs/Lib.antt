@@ -1,0 +1,15 @@
+pub mod Labels
+pub mod Ends
+pub mod Alike
+pub mod Spanned
+pub mod Drawn
+pub mod Started
+pub mod Found
+pub mod Named
+pub mod Written
+pub mod Grouped
+pub mod Counted
+pub mod Listed
+pub mod Known
+pub mod Drawing
+pub mod Once

@@ -1,7 +1,0 @@
-use Rattle.std.proofs.Common.{◌≡◌, ◌++◌, take}
-use Rattle.std.specs.List.{flat_map}
-use Rattle.occ_draw_run.specs.Pictures.{accept_line}
-use Rattle.occ_draw_run.proofs.rows.push_accepts.Given as goal
-
-abbrev pub invariant-loop-set : goal.invariant-loop-set
-invariant-loop-set l = l.label.items ≡ l.fn.label.items ++ flat_map (accept_line l.names) (take l.set-index l.accepts)

@@ -1,7 +1,0 @@
-use Rattle.std.proofs.Common.{◌≡◌, ◌++◌, take}
-use Rattle.std.specs.List.{flat_map}
-use Rattle.occ_draw_run.specs.Pictures.{edge_text}
-use Rattle.occ_draw_run.proofs.rows.push_all.Given as goal
-
-abbrev pub invariant-loop-edge : goal.invariant-loop-edge
-invariant-loop-edge l = l.text.items ≡ l.fn.text.items ++ flat_map (edge_text l.names l.number) (take l.edge-index l.edges)

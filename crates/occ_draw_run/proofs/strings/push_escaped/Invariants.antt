@@ -1,7 +1,0 @@
-use Rattle.std.proofs.Common.{◌≡◌, ◌++◌, take}
-use Rattle.std.specs.List.{flat_map}
-use Rattle.occ_draw_run.specs.Strings.{escaped}
-use Rattle.occ_draw_run.proofs.strings.push_escaped.Given as goal
-
-abbrev pub invariant-loop-character : goal.invariant-loop-character
-invariant-loop-character l = l.text.items ≡ l.fn.text.items ++ flat_map escaped (take l.character-index l.label)

@@ -1,7 +1,0 @@
-use Rattle.std.proofs.Common.{◌∙◌}
-use Rattle.occ_syntax.specs.View.{tree}
-use Rattle.occ_draw_run.proofs.Counted.{lines_are}
-use Rattle.occ_draw_run.proofs.words.lines.Goals as goal
-
-pub returns : goal.returns
-returns c = c.controls.ensures ∙ lines_are (tree c.args.part.now)

@@ -1,5 +1,0 @@
-use Rattle.occ_syntax.proofs.Views.{tree-Seq}
-use Rattle.occ_law_par.proofs.made.seq_of.Goals as goal
-
-pub returns : goal.returns
-returns c = tree-Seq c.args.parts

@@ -1,5 +1,0 @@
-use Rattle.std.proofs.Common.{length}
-use Rattle.occ_prove_steps.proofs.joining.+are_same_parameters.Given as goal
-
-abbrev pub decreases-are_same_parameters : goal.decreases-are_same_parameters
-decreases-are_same_parameters l = length l.left.now

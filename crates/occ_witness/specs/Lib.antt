@@ -1,0 +1,31 @@
+pub mod Findings
+pub mod Answers
+pub use Rattle.occ_tool_run.specs.occ_behaviour as occ_behaviour
+pub use Rattle.occ_tool_run.specs.occ_behaviour_read as occ_behaviour_read
+pub use Rattle.occ_tool_run.specs.occ_call as occ_call
+pub use Rattle.occ_tool_run.specs.occ_derive_moves as occ_derive_moves
+pub use Rattle.occ_tool_run.specs.occ_desk as occ_desk
+pub use Rattle.occ_tool_run.specs.occ_engine as occ_engine
+pub use Rattle.occ_tool_run.specs.occ_engine_known as occ_engine_known
+pub use Rattle.occ_tool_run.specs.occ_engine_written as occ_engine_written
+pub use Rattle.occ_tool_run.specs.occ_gen as occ_gen
+pub use Rattle.occ_tool_run.specs.occ_lex as occ_lex
+pub use Rattle.occ_tool_run.specs.occ_meaning as occ_meaning
+pub use Rattle.occ_tool_run.specs.occ_nform as occ_nform
+pub use Rattle.occ_tool_run.specs.occ_nform_table as occ_nform_table
+pub use Rattle.occ_tool_run.specs.occ_parse as occ_parse
+pub use Rattle.occ_tool_run.specs.occ_parse_rules as occ_parse_rules
+pub use Rattle.occ_tool_run.specs.occ_parse_unroll as occ_parse_unroll
+pub use Rattle.occ_tool_run.specs.occ_print as occ_print
+pub use Rattle.occ_tool_run.specs.occ_print_back as occ_print_back
+pub use Rattle.occ_tool_run.specs.occ_read_renamed as occ_read_renamed
+pub use Rattle.occ_tool_run.specs.occ_renamed as occ_renamed
+pub use Rattle.occ_tool_run.specs.occ_replay as occ_replay
+pub use Rattle.occ_tool_run.specs.occ_replay_rules as occ_replay_rules
+pub use Rattle.occ_tool_run.specs.occ_script as occ_script
+pub use Rattle.occ_tool_run.specs.occ_script_back as occ_script_back
+pub use Rattle.occ_tool_run.specs.occ_script_lines as occ_script_lines
+pub use Rattle.occ_tool_run.specs.occ_script_write as occ_script_write
+pub use Rattle.occ_tool_run.specs as occ_tool_run
+pub use Rattle.occ_tool_run.specs.occ_tool_words as occ_tool_words
+pub use Rattle.occ_tool_run.specs.occ_usage as occ_usage

@@ -1,0 +1,66 @@
+-- What the words of a command line ask for.
+use Rattle.std.specs.Prelude.{ℕ, ◌&&◌, List, [], ◌∷◌, Option, Some, None, codes, if◌then◌else◌}
+use Rattle.std.specs.Option.{option_map_or}
+use Rattle.std.specs.Str.{bytes_eq}
+use Rattle.occ_witness.specs.occ_tool_words.Words.{is_plain}
+use Rattle.occ_workshop_run.specs.declared.words.Command.{Command}
+use Rattle.occ_workshop_run.specs.declared.words.Command.TheVariants.{Usage, Draw, Prove, Witness}
+
+-- a command with the names of its files as they stand
+pub data Job : Type 0 where
+  draw : List ℕ → Job
+  prove : List ℕ → List ℕ → Job
+  witness : List ℕ → List ℕ → Job
+
+abbrev pub job : Command → Option Job
+job Usage = None
+job (Draw text) = Some (draw text.now)
+job (Prove first second) = Some (prove first.now second.now)
+job (Witness program text) = Some (witness program.now text.now)
+
+-- a command that one word follows
+abbrev pub of_one : List ℕ → List ℕ → Option Job
+of_one command first = if bytes_eq command (codes "draw") then Some (draw first) else None
+
+-- a command that two words follow
+abbrev pub of_two : List ℕ → List ℕ → List ℕ → Option Job
+of_two command first second =
+    if bytes_eq command (codes "prove") then Some (prove first second)
+    else (if bytes_eq command (codes "witness") then Some (witness first second) else None)
+
+-- the words that follow are neither empty nor begin with a hyphen
+abbrev pub with_one : List ℕ → List ℕ → Option Job
+with_one command first = if is_plain first then of_one command first else None
+
+abbrev pub with_two : List ℕ → List ℕ → List ℕ → Option Job
+with_two command first second = if is_plain first && is_plain second then of_two command first second else None
+
+-- The words fit where the second, after the program's own name, is a command, exactly that command's words follow, and none of these is
+-- empty or begins with a hyphen.
+abbrev pub job_of : List (List ℕ) → Option Job
+job_of [] = None
+job_of (name ∷ []) = None
+job_of (name ∷ command ∷ []) = None
+job_of (name ∷ command ∷ first ∷ []) = with_one command first
+job_of (name ∷ command ∷ first ∷ second ∷ []) = with_two command first second
+job_of (name ∷ command ∷ first ∷ second ∷ third ∷ words) = None
+
+-- the words of a command that name files, in order
+abbrev pub files_of : Job → List (List ℕ)
+files_of (draw text) = text ∷ []
+files_of (prove first second) = first ∷ second ∷ []
+files_of (witness program text) = program ∷ text ∷ []
+
+abbrev pub file_words : List (List ℕ) → List (List ℕ)
+file_words words = option_map_or files_of (job_of words) []
+
+-- the words ask for a proof
+abbrev pub AskForProof : Option Job → Type 0
+AskForProof None = ⊥
+AskForProof (Some (draw text)) = ⊥
+AskForProof (Some (prove first second)) = Unit {0}
+AskForProof (Some (witness program text)) = ⊥
+
+-- the line of usage
+abbrev pub usage_text : List ℕ
+usage_text = codes "USAGE draw T, prove A B, witness A T\n"

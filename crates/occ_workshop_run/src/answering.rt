@@ -1,0 +1,64 @@
+//! What a command reads, and the reply to it.
+
+ghost use Rattle.std.specs.Prelude.{◌≡◌, None, IfOk};
+ghost use Rattle.occ_witness.specs.occ_call.Files.{AreShort};
+ghost use Rattle.occ_witness.specs.occ_call.Ran.{IsOwnStatus};
+ghost use Rattle.occ_workshop_run.specs.Answers.{IsReplyTo, wanted_of};
+ghost use Rattle.occ_workshop_run.specs.Words.{AskForProof, job, usage_text};
+
+use crate::words::Command;
+use occ_draw::{Memory, draw};
+use occ_prove::prove;
+use occ_witness::{Contents, MOST_BYTES, MOST_TABLE_BYTES, Named, Reply, Wanted, witness};
+use std::alloc::Global;
+
+/// The files that a command reads, and how many bytes each may have.
+pub(crate) fn wanted<'a>(command: &Command<'a>) -> Wanted<'a>
+    ensures { result ≡ wanted_of command.now }
+{
+    match command {
+        Command::Usage => Wanted::Nothing,
+        Command::Draw { text } => Wanted::One(Named::new(text, MOST_TABLE_BYTES)),
+        Command::Prove { first, second } => {
+            Wanted::Two(
+                Named::new(first, MOST_BYTES),
+                Named::new(second, MOST_BYTES),
+            )
+        }
+        Command::Witness { program, text } => {
+            Wanted::Two(
+                Named::new(program, MOST_BYTES),
+                Named::new(text, MOST_BYTES),
+            )
+        }
+    }
+}
+
+/// The reply to a command whose files were read.
+pub(crate) fn reply(alloc: Global, command: &Command, contents: &Contents) -> Result<Reply, Memory>
+    requires { AreShort (wanted_of command.now) contents.now }
+    ensures answers { IfOk result (IsReplyTo command.now contents.now) }
+    ensures status { IfOk result (λ reply. IsOwnStatus reply.status) }
+    ensures apart { IfOk result (λ reply. reply.status ≡ 7 → AskForProof (job command.now)) }
+    ensures usage { IfOk result (λ reply. reply.status ≡ 2 → job command.now ≡ None) }
+    ensures unfit { job command.now ≡ None → IfOk result (λ reply. reply.status ≡ 2) }
+{
+    let Contents { first, second } = contents;
+    match command {
+        Command::Usage => usage(alloc),
+        Command::Draw { .. } => draw(alloc, first),
+        Command::Prove { .. } => prove(alloc, first, second),
+        Command::Witness { .. } => witness(alloc, first, second),
+    }
+}
+
+/// The reply to words that don't fit.
+fn usage(alloc: Global) -> Result<Reply, Memory>
+    ensures status { IfOk result (λ reply. reply.status ≡ 2) }
+    ensures text { IfOk result (λ reply. reply.text.items ≡ usage_text) }
+{
+    Ok(Reply {
+        status: 2,
+        text: Vec::from_slice(alloc, b"USAGE draw T, prove A B, witness A T\n")?,
+    })
+}

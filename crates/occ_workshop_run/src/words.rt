@@ -1,0 +1,79 @@
+//! The words of a command line: `draw T`, `prove A B` and `witness A T`. The words behind a command name files.
+
+ghost use Rattle.std.specs.Prelude.{◌≡◌, map, string_bytes};
+ghost use Rattle.occ_workshop_run.specs.Words.{job, job_of, of_one, of_two, with_one, with_two};
+
+use occ_witness::is_plain_word;
+
+/// What a command line asks for.
+#[derive(Clone, Copy, Debug)]
+pub enum Command<'a> {
+    /// Nothing: the words don't fit.
+    Usage,
+    /// To write the normal text or the script in a file as a picture or a list.
+    Draw { text: &'a str },
+    /// To prove the programs in two files the same, law by law, and to write the script.
+    Prove { first: &'a str, second: &'a str },
+    /// To find a schedule with which the program in a file shows the behaviour in another.
+    Witness { program: &'a str, text: &'a str },
+}
+
+/// What the words of a command line ask for, the program's own name first.
+pub fn command_in<'a>(words: &'a [String]) -> Command<'a>
+    ensures { job result ≡ job_of (map string_bytes words.entry.now) }
+{
+    match words {
+        [_, command, first] => command_of_one(command.as_str(), first.as_str()),
+        [_, command, first, second] => {
+            command_of_two(command.as_str(), first.as_str(), second.as_str())
+        }
+        _ => Command::Usage,
+    }
+}
+
+/// A command with one word.
+fn command_of_one<'a>(command: &str, first: &'a str) -> Command<'a>
+    ensures { job result ≡ with_one command.now first.entry.now }
+{
+    if is_plain_word(first) {
+        one_named(command, first)
+    } else {
+        Command::Usage
+    }
+}
+
+fn one_named<'a>(command: &str, first: &'a str) -> Command<'a>
+    ensures { job result ≡ of_one command.now first.entry.now }
+{
+    if command == "draw" {
+        Command::Draw { text: first }
+    } else {
+        Command::Usage
+    }
+}
+
+/// A command with two words.
+fn command_of_two<'a>(command: &str, first: &'a str, second: &'a str) -> Command<'a>
+    ensures { job result ≡ with_two command.now first.entry.now second.entry.now }
+{
+    if is_plain_word(first) && is_plain_word(second) {
+        two_named(command, first, second)
+    } else {
+        Command::Usage
+    }
+}
+
+fn two_named<'a>(command: &str, first: &'a str, second: &'a str) -> Command<'a>
+    ensures { job result ≡ of_two command.now first.entry.now second.entry.now }
+{
+    if command == "prove" {
+        Command::Prove { first, second }
+    } else if command == "witness" {
+        Command::Witness {
+            program: first,
+            text: second,
+        }
+    } else {
+        Command::Usage
+    }
+}
