@@ -1,0 +1,3 @@
+mod Beginnings
+mod Silence
+mod NearMisses
