@@ -3,7 +3,6 @@ use Rattle.std.proofs.Common.{◌≡◌, ℕ, true, List, Some, sym, ap, subst, 
 use Rattle.std.proofs.Math.Bool.{Bool-set}
 use Rattle.std.proofs.Math.Logic.{∥∥₁_elim, ∥∥₁_map}
 use Rattle.std.proofs.lemmas.Bool.{lt-ltb, ltb-true}
-use Rattle.std.proofs.lemmas.Grind.{merely}
 use Rattle.occ_behaviour.specs.States.{is_state}
 use Rattle.occ_run.proofs.Holding.{holds_state}
 use Rattle.occ_run_steps.proofs.KeptSettled.{begun_kept}
@@ -63,11 +62,11 @@ same_made p q s r C D t u e f g h =
 
 -- ---- before the first step
 
-pub started_kept : (scope params : List (Name × Kind)) (s : Values) (p : Tree) (C : Control) → scope ≡ params → Keeps (environment params) p → C ≡ begun (environment scope) s p
+pub started_kept : (scope params : List (Name × Kind)) (s : Values) (p : Tree) (C : Control) → scope ≡ params → ∥ Keeps (environment params) p ∥₁ → C ≡ begun (environment scope) s p
     → ∥ Kept (environment scope) C ∥₁
 started_kept scope params s p C e keeps f =
     let P : Control → Type 0 = λ D. ∥ Kept (environment scope) D ∥₁ in
-    subst P (sym f) (merely (begun_kept (environment scope) s p (ap (λ ps. types_kept p (environment ps)) e ∙ keeps.types) keeps.usage))
+    subst P (sym f) (∥∥₁_map keeps (λ k. begun_kept (environment scope) s p (ap (λ ps. types_kept p (environment ps)) e ∙ k.types) k.usage))
 
 pub started_state : (scope params : List (Name × Kind)) (l m : List (Name × ℕ)) → scope ≡ params → l ≡ m → is_state params m ≡ true → IsState (environment scope) (values l)
 started_state scope params l m e f h =

@@ -46,7 +46,7 @@ fn begins<'a>(alloc: Global, next: Next<'a>) -> Result<Control<'a>, Memory>
 }
 
 /// The effect on the body of a VAR.
-pub(crate) fn inside<'e, 'a>(effect: &'e Effect<'a>) -> &'e Effect<'a>
+pub fn inside<'e, 'a>(effect: &'e Effect<'a>) -> &'e Effect<'a>
     ensures { seen result.now ≡ body_of (seen effect.now) }
 {
     match effect {
@@ -56,7 +56,7 @@ pub(crate) fn inside<'e, 'a>(effect: &'e Effect<'a>) -> &'e Effect<'a>
 }
 
 /// The value that the variable of a VAR has then.
-pub(crate) fn value_inside(old: u8, effect: &Effect) -> u8
+pub fn value_inside(old: u8, effect: &Effect) -> u8
     ensures { result ≡ value_of old (seen effect.now) }
 {
     match effect {
@@ -66,7 +66,7 @@ pub(crate) fn value_inside(old: u8, effect: &Effect) -> u8
 }
 
 /// The effect on the control of that index among controls at once; None where it doesn't change.
-pub(crate) fn effect_on<'e, 'a>(effect: &'e Effect<'a>, index: usize) -> Option<&'e Effect<'a>>
+pub fn effect_on<'e, 'a>(effect: &'e Effect<'a>, index: usize) -> Option<&'e Effect<'a>>
     ensures { IsPartOf (part_of (seen effect.now) index) result }
 {
     match effect {

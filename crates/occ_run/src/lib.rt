@@ -24,6 +24,7 @@ mod together;
 mod within;
 
 pub use answer::{Move, Stand, StepFault};
+pub use apply::{effect_on, inside, value_inside};
 pub use control::{Control, is_over};
 pub use effect::{Effect, Next, Offer};
 pub use law::{
@@ -43,6 +44,6 @@ pub use pairs::{add_alone, is_same};
 pub use place::Place;
 pub use run::Run;
 pub use stand::held;
-pub use stepping::start;
+pub use stepping::{point_of, start};
 pub use together::both_runs;
 pub use within::{of_variable, off_channels};
