@@ -4,6 +4,7 @@ ghost use Rattle.std.specs.Prelude.{◌≡◌, ◌≤◌, ◌<◌, Err, IfOk, If
 ghost use Rattle.occ_derive.specs.Derived.{CanBeWritten, IsDerivation, IsNormalWith, StandsFor, normal_of};
 ghost use Rattle.occ_derive_search.specs.occ_derive_moves.Steps.{Derivable};
 ghost use Rattle.occ_script_back.specs.occ_lex.Growth.{GrowsByNames};
+ghost use Rattle.occ_derive_search.specs.occ_target.Inputs.{input_names};
 ghost use Rattle.occ_syntax.specs.Counts.{controls};
 ghost use Rattle.occ_syntax.specs.View.{tree};
 
@@ -94,7 +95,8 @@ pub fn derive_to(
 }
 
 /// A derivation of the normal program from an accepted program, whose normal table is given. `Long` comes exactly where the normal program
-/// has more than 4,096 controls. Otherwise it is as `derive_to` says.
+/// has more than 4,096 controls. Otherwise it is as `derive_to` says: behind the names that were there the table has those of the normal
+/// program's own variables, and then others.
 pub fn derive(
     alloc: Global,
     names: &mut Names,
@@ -106,6 +108,7 @@ pub fn derive(
     requires stands { StandsFor table.now accepted.now.program }
     ensures derived { IfOk result (IsDerivation accepted.now.program (normal_of names.old table.now)) }
     ensures grown { OnOk result (GrowsByNames names.old names.new) }
+    ensures named { OnOk result (GrowsByNames (input_names names.old table.now.params) names.new) }
     ensures writable { IfOk result (CanBeWritten names.new accepted.now.program) }
     ensures fits { OnOk result (controls (normal_of names.old table.now) ≤ 4096) }
     ensures long { result ≡ Err DeriveFault.Long → 4096 < controls (normal_of names.old table.now) }

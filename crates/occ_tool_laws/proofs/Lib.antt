@@ -8,3 +8,4 @@ pub mod Replayed
 mod Printed
 mod Told
 mod ProvePrinted
+mod Witnessed

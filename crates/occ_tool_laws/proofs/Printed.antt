@@ -190,7 +190,7 @@ expand_printed law file path names p answer text narrow short a z e (expanded st
 derive_printed : NarrowLaw → KnownLaw → (file : Option (List ℕ)) (names : Table) (p : Stored) (answer : _) (text : List ℕ) → IsPrintedNarrow file
     → IsAccepted file [] names (seen p) → status_of answer ≡ 0 → text ≡ text_of answer → normal.IsDerived names p answer → IsPrintedOut file text
 derive_printed few law file names p answer text narrow a z e (normal.long body n c is) = absurd (refusing answer 3 z (ap status_of is) (omega arith))
-derive_printed few law file names p answer text narrow a z e (normal.derived new steps to n c taken k s) = record {
+derive_printed few law file names p answer text narrow a z e (normal.derived new steps to n c taken k v s) = record {
   first = names;
   from = p;
   is_accepted = a;

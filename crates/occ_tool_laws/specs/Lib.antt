@@ -1,3 +1,4 @@
 pub mod Rows
 pub mod Joined
 pub mod ProveJoined
+pub mod Witnessed

@@ -10,6 +10,7 @@ use Rattle.occ_syntax.specs.Counts.{controls}
 use Rattle.occ_syntax.specs.declared.scope.Program.{Program}
 use Rattle.occ_syntax.specs.Tree.{Tree}
 use Rattle.occ_syntax.specs.View.{tree}
+use Rattle.occ_derive.specs.occ_target.Inputs.{input_names}
 use Rattle.occ_derive.specs.occ_target.Program.{normal_body}
 use Rattle.occ_tool_run.specs.declared.answer.Answer.{Answer}
 use Rattle.occ_tool_run.specs.Derived.{IsDerived, IsNormalBody, derived}
@@ -27,8 +28,8 @@ derived_written names p o h = record { first = h.first; steps = h.steps; last = 
 
 -- and is written as a script
 pub derived_script : (r : Result Answer Memory) (names new : List (List ℕ)) (p : Program) (o : Outcome) (body : Tree) → IsNormalBody names p body
-    → controls body ≤ 4096 → IsDerivation p body o → GrowsByNames names new → IsDerivedIn new p o → IfOk r (IsScriptOf new p o.steps o.to) → IfOk r (IsDerived names p)
-derived_script (Ok a) names new p o body n few d g w h =
+    → controls body ≤ 4096 → IsDerivation p body o → GrowsByNames names new → GrowsByNames (input_names names p.params) new → IsDerivedIn new p o → IfOk r (IsScriptOf new p o.steps o.to) → IfOk r (IsDerived names p)
+derived_script (Ok a) names new p o body n few d g v w h =
     derived new o.steps o.to (subst (IsNormalBody names p) (sym d.to_is) n) (subst (λ b. controls b ≤ 4096) (sym d.to_is) few) d.outcome_is.steps
-    (record { grown = g; written = w.steps; said = w.said }) h
-derived_script (Err m) names new p o body n few d g w h = tt
+    (record { grown = g; written = w.steps; said = w.said }) v h
+derived_script (Err m) names new p o body n few d g v w h = tt

@@ -18,6 +18,7 @@ pub mod OneReplay
 pub mod OneTransform
 pub mod Engine
 pub mod Deriving
+mod OneEnd
 pub mod AsWritten
 pub use Rattle.occ_call.proofs as from_call
 pub use Rattle.occ_derive.proofs.from_derive_moves as from_derive_moves

@@ -13,6 +13,7 @@ use Rattle.occ_syntax.specs.Counts.{controls}
 use Rattle.occ_syntax.specs.declared.scope.Program.{Program}
 use Rattle.occ_syntax.specs.Tree.{Tree}
 use Rattle.occ_syntax.specs.View.{tree}
+use Rattle.occ_derive.specs.occ_target.Inputs.{input_names}
 use Rattle.occ_derive.specs.occ_target.Program.{normal_body}
 use Rattle.occ_tool_run.specs.declared.answer.Answer.{Answer}
 use Rattle.occ_tool_run.specs.declared.answer.Answer.TheVariants.{Long}
@@ -31,9 +32,10 @@ pub record AreSteps (old new : List (List ℕ)) (steps : List Done) : Type 0 whe
   pub said : AllByRecursion IsSaid steps
 
 -- The answer to an accepted program whose normal program is to be derived: it has more than 4,096 controls; or steps lead from the
--- program to it, each by a law, and the answer is the script that says so. The names of its steps are those of a table that has grown.
+-- program to it, each by a law, and the answer is the script that says so. The names of its steps are those of a table that has grown, first
+-- by the names of the normal program's own variables.
 pub data IsDerived (names : List (List ℕ)) (p : Program) (answer : Answer) : Type 0 where
   long : (body : Tree) → IsNormalBody names p body → 4096 < controls body → answer ≡ Long → IsDerived names p answer
   derived : (new : List (List ℕ)) (steps : List Done) (to : Program) → IsNormalBody names p (tree to.body) → controls (tree to.body) ≤ 4096
-      → Steps p.params (tree p.body) (moves_of steps) (tree to.body) → AreSteps names new steps → IsScriptOf new p steps to answer
+      → Steps p.params (tree p.body) (moves_of steps) (tree to.body) → AreSteps names new steps → GrowsByNames (input_names names p.params) new → IsScriptOf new p steps to answer
       → IsDerived names p answer

@@ -5,6 +5,7 @@ pub mod Derivations
 pub mod Runs
 pub mod Transforms
 pub mod Derived
+pub mod Ends
 pub mod Pairs
 pub mod Answers
 pub mod Replies

@@ -1,10 +1,11 @@
-ghost use Rattle.std.specs.Prelude.{ℕ, ◌≡◌, ◌↔◌, List, [], ◌∷◌, codes};
+ghost use Rattle.std.specs.Prelude.{ℕ, ◌≡◌, ◌↔◌, List, Some, [], ◌∷◌, codes};
 ghost use Rattle.occ_syntax.specs.occ_base.Names.{IsDistinct};
 ghost use Rattle.occ_syntax.specs.Usage.{KeepsUsage};
 ghost use Rattle.occ_tool_run.specs.Accepts.{IsAcceptedText, Program};
 ghost use Rattle.occ_call.specs.Files.{Files};
+ghost use Rattle.occ_tool_run.specs.Ends.{HaveOneEnd};
 ghost use Rattle.occ_tool_run.specs.Answers.{Answers, IsDetermined};
-ghost use Rattle.occ_tool_words.specs.Words.{job_of};
+ghost use Rattle.occ_tool_words.specs.Words.{derive, job_of};
 
 use occ_engine_written::{
     expansions_have_no_fault, expansions_have_one_fault, expansions_have_one_outcome,
@@ -44,6 +45,16 @@ pub fn one_answer()
     expansions_have_one_outcome();
     expansions_have_no_fault();
     expansions_have_one_fault();
+}
+
+/// Two answers of `derive` to one command line over the same files have one status and one text; or both are scripts, which begin with one
+/// program and end with one, whose names are numbers of one table.
+pub fn derivations_have_one_end()
+    ensures { (files : Files) (words : List (List ℕ)) (program : List ℕ) (s t : ℕ) (a b : List ℕ)
+        → job_of words ≡ Some (derive program) → Answers files words s a → Answers files words t b → HaveOneEnd s a t b }
+{
+    one_reading();
+    programs_have_one_table();
 }
 
 /// The program of an accepted text keeps the rule of usage: at each PAR no part names a variable that another writes, and no end of a channel

@@ -19,7 +19,9 @@ mod to_normal;
 mod top;
 pub mod transforming;
 
-pub use law::{accepted_programs_keep_usage, one_answer, same_where_both_refine};
+pub use law::{
+    accepted_programs_keep_usage, derivations_have_one_end, one_answer, same_where_both_refine,
+};
 pub use occ_call::{
     Contents, Desk, Loaded, MOST_BYTES, MOST_TABLE_BYTES, MemoryDesk, Named as CallNamed, RealDesk,
     Reply, Stop, Wanted, command_words, load, send_reply,

@@ -15,10 +15,10 @@ use std::alloc::Global;
 ///
 /// | status | comes exactly where | written |
 /// |---|---|---|
-/// | 0 | the programs mean the same; the second refines the first; the program can't be stuck; the normal text is written; the text is normal; the behaviour belongs to the program; the generated program is measured; the script joins its programs; the schedule was followed; the orders were followed; the PAR is expanded | the answer |
+/// | 0 | the programs mean the same; the second refines the first; the program can't be stuck; the normal text is written; the text is normal; the behaviour belongs to the program; the generated program is measured; the script joins its programs; the schedule was followed; the orders were followed; the PAR is expanded; the normal program is derived | the answer |
 /// | 1 | the programs differ; the second does more than the first; the program can be stuck; the behaviour doesn't belong to the program; the script doesn't join its programs | the answer |
 /// | 2 | the words don't fit | the line of usage |
-/// | 3 | a text is refused, or a step of a schedule isn't there, or an order or the path of a PAR is refused | the refusal |
+/// | 3 | a text is refused, or a step of a schedule isn't there, or an order or the path of a PAR is refused, or the normal program is too long | the refusal |
 /// | 4 | a read failed in this call | nothing |
 /// | 5 | a write failed in this call | a front of the answer |
 /// | 6 | out of memory, before the first write | nothing |

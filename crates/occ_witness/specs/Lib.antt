@@ -22,6 +22,7 @@ pub use Rattle.occ_tool_run.specs.occ_read_renamed as occ_read_renamed
 pub use Rattle.occ_tool_run.specs.occ_renamed as occ_renamed
 pub use Rattle.occ_tool_run.specs.occ_replay as occ_replay
 pub use Rattle.occ_tool_run.specs.occ_replay_rules as occ_replay_rules
+pub use Rattle.occ_tool_run.specs.occ_run_schedule as occ_run_schedule
 pub use Rattle.occ_tool_run.specs.occ_script as occ_script
 pub use Rattle.occ_tool_run.specs.occ_script_back as occ_script_back
 pub use Rattle.occ_tool_run.specs.occ_script_lines as occ_script_lines

@@ -24,6 +24,7 @@ pub use Rattle.occ_witness.specs.occ_read_renamed as occ_read_renamed
 pub use Rattle.occ_witness.specs.occ_renamed as occ_renamed
 pub use Rattle.occ_witness.specs.occ_replay as occ_replay
 pub use Rattle.occ_witness.specs.occ_replay_rules as occ_replay_rules
+pub use Rattle.occ_witness.specs.occ_run_schedule as occ_run_schedule
 pub use Rattle.occ_witness.specs.occ_script as occ_script
 pub use Rattle.occ_witness.specs.occ_script_back as occ_script_back
 pub use Rattle.occ_witness.specs.occ_script_lines as occ_script_lines
@@ -32,3 +33,4 @@ pub use Rattle.occ_draw.specs.occ_syntax as occ_syntax
 pub use Rattle.occ_witness.specs.occ_tool_run as occ_tool_run
 pub use Rattle.occ_witness.specs.occ_tool_words as occ_tool_words
 pub use Rattle.occ_witness.specs.occ_usage as occ_usage
+pub use Rattle.occ_witness.specs as occ_witness

@@ -1,7 +1,8 @@
-use Rattle.std.proofs.Common.{◌≤◌, length, ap, arith, subst, sym}
+use Rattle.std.proofs.Common.{◌≤◌, ℕ, List, length, ap, arith, subst, sym}
 use Rattle.occ_derive.proofs.Targets.{derived_grows}
 use Rattle.occ_derive.specs.Derived.{IsDerivation}
 use Rattle.occ_derive_search.specs.occ_derive_moves.Steps.{Derivable}
+use Rattle.occ_script_back.specs.occ_lex.Growth.{GrowsByNames}
 use Rattle.occ_syntax.specs.Tree.{Tree}
 use Rattle.occ_syntax.specs.View.{tree}
 use Rattle.occ_script_back.proofs.from_usage.Law.{faultless_keeps}
@@ -25,3 +26,6 @@ returns-clause-grown c =
     let few = (faultless_keeps c.args.accepted.now.program c.args.accepted.now.kept).typed.parameters in
     omega (arith, few, ap length c.requires.params) in
     derived_grows c.args.table.now.params c.args.names.now c.target.new.names c.derive_to.new.names count c.in-Ok.ensures.names c.in_ok-outcome.ensures.grown
+
+pub returns-clause-named : goal.returns-clause-named
+returns-clause-named c = subst (λ (n : List (List ℕ)). GrowsByNames n c.derive_to.new.names) c.in-Ok.ensures.names c.in_ok-outcome.ensures.grown

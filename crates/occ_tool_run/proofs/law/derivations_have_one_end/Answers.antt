@@ -1,0 +1,12 @@
+use Rattle.occ_tool_words.specs.occ_parse.declared.bound.Bound.TheVariants as bound
+use Rattle.occ_tool_run.proofs.OneEnd.{have_one_end}
+use Rattle.occ_tool_run.proofs.law.derivations_have_one_end.Goals as goal
+
+pub returns : goal.returns
+returns c = have_one_end (record {
+  one_reading = λ text old m n p q ls ks r s.
+      let e = c.one_reading.ensures.program bound.Program text old m n p.name q.name p.params q.params p.body q.body ls ks r s in
+      record { names = e.table; name = e.name; params = e.params; body = e.body; numbers = e.numbers };
+  one_fault = λ text old f g r s. c.one_reading.ensures.fault bound.Program text old f g r s;
+  not_both = λ text old m p ls f r s. c.one_reading.ensures.apart bound.Program text old m p.name p.params p.body ls f r s;
+}) c.programs_have_one_table.ensures
