@@ -3,8 +3,9 @@ _occam() {
     local word=${COMP_WORDS[COMP_CWORD]} ends='' choices='' end
     COMPREPLY=()
     case ${COMP_CWORD}:${COMP_WORDS[1]} in
-    1:*) choices="same refine deadlock normalise normal belongs run witness replay transform expand derive prove draw stress help --version" ;;
-    2:help) choices="same refine deadlock normalise normal belongs run witness replay transform expand derive prove draw stress" ;;
+    1:*) choices="check same refine deadlock normalise normal belongs run witness replay transform expand derive prove draw aut promela stress help --version" ;;
+    2:help) choices="check same refine deadlock normalise normal belongs run witness replay transform expand derive prove draw aut promela stress" ;;
+    2:check) ends="occ" ;;
     2:same) ends="occ" ;;
     3:same) ends="occ" ;;
     2:refine) ends="occ" ;;
@@ -27,6 +28,8 @@ _occam() {
     2:prove) ends="occ" ;;
     3:prove) ends="occ" ;;
     2:draw) ends="normal script" ;;
+    2:aut) ends="occ" ;;
+    2:promela) ends="occ" ;;
     2:stress) choices="buffers adders muxes" ;;
     esac
     if [ -n "$choices" ]; then

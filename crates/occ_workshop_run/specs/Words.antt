@@ -4,29 +4,42 @@ use Rattle.std.specs.Option.{option_map_or}
 use Rattle.std.specs.Str.{bytes_eq}
 use Rattle.occ_witness.specs.occ_tool_words.Words.{is_plain}
 use Rattle.occ_workshop_run.specs.declared.words.Command.{Command}
-use Rattle.occ_workshop_run.specs.declared.words.Command.TheVariants.{Usage, Draw, Prove, Witness}
+use Rattle.occ_workshop_run.specs.declared.words.Command.TheVariants.{Usage, Check, Draw, Explain, Prove, Witness, Aut, Promela}
 
 -- a command with the names of its files as they stand
 pub data Job : Type 0 where
+  check : List ℕ → Job
   draw : List ℕ → Job
+  explain : List ℕ → List ℕ → Job
   prove : List ℕ → List ℕ → Job
   witness : List ℕ → List ℕ → Job
+  aut : List ℕ → Job
+  promela : List ℕ → Job
 
 abbrev pub job : Command → Option Job
 job Usage = None
+job (Check program) = Some (check program.now)
 job (Draw text) = Some (draw text.now)
+job (Explain text refusal) = Some (explain text.now refusal.now)
 job (Prove first second) = Some (prove first.now second.now)
 job (Witness program text) = Some (witness program.now text.now)
+job (Aut program) = Some (aut program.now)
+job (Promela program) = Some (promela program.now)
 
 -- a command that one word follows
 abbrev pub of_one : List ℕ → List ℕ → Option Job
-of_one command first = if bytes_eq command (codes "draw") then Some (draw first) else None
+of_one command first =
+    if bytes_eq command (codes "draw") then Some (draw first)
+    else (if bytes_eq command (codes "check") then Some (check first)
+    else (if bytes_eq command (codes "aut") then Some (aut first)
+    else (if bytes_eq command (codes "promela") then Some (promela first) else None)))
 
 -- a command that two words follow
 abbrev pub of_two : List ℕ → List ℕ → List ℕ → Option Job
 of_two command first second =
     if bytes_eq command (codes "prove") then Some (prove first second)
-    else (if bytes_eq command (codes "witness") then Some (witness first second) else None)
+    else (if bytes_eq command (codes "witness") then Some (witness first second)
+    else (if bytes_eq command (codes "explain") then Some (explain first second) else None))
 
 -- the words that follow are neither empty nor begin with a hyphen
 abbrev pub with_one : List ℕ → List ℕ → Option Job
@@ -47,9 +60,13 @@ job_of (name ∷ command ∷ first ∷ second ∷ third ∷ words) = None
 
 -- the words of a command that name files, in order
 abbrev pub files_of : Job → List (List ℕ)
+files_of (check program) = program ∷ []
 files_of (draw text) = text ∷ []
+files_of (explain text refusal) = text ∷ []
 files_of (prove first second) = first ∷ second ∷ []
 files_of (witness program text) = program ∷ text ∷ []
+files_of (aut program) = program ∷ []
+files_of (promela program) = program ∷ []
 
 abbrev pub file_words : List (List ℕ) → List (List ℕ)
 file_words words = option_map_or files_of (job_of words) []
@@ -57,10 +74,14 @@ file_words words = option_map_or files_of (job_of words) []
 -- the words ask for a proof
 abbrev pub AskForProof : Option Job → Type 0
 AskForProof None = ⊥
+AskForProof (Some (check program)) = ⊥
 AskForProof (Some (draw text)) = ⊥
+AskForProof (Some (explain text refusal)) = ⊥
 AskForProof (Some (prove first second)) = Unit {0}
 AskForProof (Some (witness program text)) = ⊥
+AskForProof (Some (aut program)) = ⊥
+AskForProof (Some (promela program)) = ⊥
 
 -- the line of usage
 abbrev pub usage_text : List ℕ
-usage_text = codes "USAGE draw T, prove A B, witness A T\n"
+usage_text = codes "USAGE check A, draw T, aut A, promela A, prove A B, witness A T, explain T REFUSAL\n"

@@ -7,7 +7,9 @@ ghost use Rattle.occ_workshop_run.specs.Answers.{IsReplyTo, wanted_of};
 ghost use Rattle.occ_workshop_run.specs.Words.{AskForProof, job, usage_text};
 
 use crate::words::Command;
+use occ_check::{check, explain};
 use occ_draw::{Memory, draw};
+use occ_lts::{aut, promela};
 use occ_prove::prove;
 use occ_witness::{Contents, MOST_BYTES, MOST_TABLE_BYTES, Named, Reply, Wanted, witness};
 use std::alloc::Global;
@@ -18,7 +20,9 @@ pub(crate) fn wanted<'a>(command: &Command<'a>) -> Wanted<'a>
 {
     match command {
         Command::Usage => Wanted::Nothing,
+        Command::Check { program } => Wanted::One(Named::new(program, MOST_BYTES)),
         Command::Draw { text } => Wanted::One(Named::new(text, MOST_TABLE_BYTES)),
+        Command::Explain { text, .. } => Wanted::One(Named::new(text, MOST_TABLE_BYTES)),
         Command::Prove { first, second } => {
             Wanted::Two(
                 Named::new(first, MOST_BYTES),
@@ -30,6 +34,9 @@ pub(crate) fn wanted<'a>(command: &Command<'a>) -> Wanted<'a>
                 Named::new(program, MOST_BYTES),
                 Named::new(text, MOST_BYTES),
             )
+        }
+        Command::Aut { program } | Command::Promela { program } => {
+            Wanted::One(Named::new(program, MOST_BYTES))
         }
     }
 }
@@ -46,9 +53,13 @@ pub(crate) fn reply(alloc: Global, command: &Command, contents: &Contents) -> Re
     let Contents { first, second } = contents;
     match command {
         Command::Usage => usage(alloc),
+        Command::Check { program } => check(alloc, program, first),
         Command::Draw { .. } => draw(alloc, first),
+        Command::Explain { text, refusal } => explain(alloc, text, refusal, first),
         Command::Prove { .. } => prove(alloc, first, second),
         Command::Witness { .. } => witness(alloc, first, second),
+        Command::Aut { .. } => aut(alloc, first),
+        Command::Promela { .. } => promela(alloc, first),
     }
 }
 
@@ -59,6 +70,9 @@ fn usage(alloc: Global) -> Result<Reply, Memory>
 {
     Ok(Reply {
         status: 2,
-        text: Vec::from_slice(alloc, b"USAGE draw T, prove A B, witness A T\n")?,
+        text: Vec::from_slice(
+            alloc,
+            b"USAGE check A, draw T, aut A, promela A, prove A B, witness A T, explain T REFUSAL\n",
+        )?,
     })
 }

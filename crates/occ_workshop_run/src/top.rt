@@ -17,10 +17,10 @@ use std::alloc::Global;
 ///
 /// | status | comes exactly where | written |
 /// |---|---|---|
-/// | 0 | `draw`: the text is a normal one, or a script whose steps can be told; `prove`: steps lead from the one program to the other, or both mean the same and the names behind PROC differ; `witness`: the program has the behaviour, and the schedule isn't too long | the picture or the list; the script, or `SAME`; the schedule |
+/// | 0 | `check`, `aut`, `promela`: the program is accepted; `draw`: the text is a normal one, or a script whose steps can be told; `prove`: steps lead from the one program to the other, or both mean the same and the names behind PROC differ; `witness`: the program has the behaviour, and the schedule isn't too long | its warnings; the transition system; the model; the picture or the list; the script, or `SAME`; the schedule |
 /// | 1 | `prove`: the programs differ; `witness`: the program hasn't the behaviour | the answer of `same`; `NO` |
 /// | 2 | the words don't fit | the line of usage |
-/// | 3 | a text or a step is refused; `prove`: both programs mean the same, and their normal program is too long; `witness`: the schedule is too long | the refusal |
+/// | 3 | a text or a step is refused; `prove`: both programs mean the same, and their normal program is too long; `witness`: the schedule is too long | the refusal, explained by `check` |
 /// | 4 | a read failed in this call | nothing |
 /// | 5 | a write failed in this call | a front of the answer |
 /// | 6 | out of memory, before the first write | nothing |

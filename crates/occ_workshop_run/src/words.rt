@@ -1,4 +1,5 @@
-//! The words of a command line: `draw T`, `prove A B` and `witness A T`. The words behind a command name files.
+//! The words of a command line: `check A`, `draw T`, `aut A`, `promela A`, `prove A B`, `witness A T` and `explain T REFUSAL`. The
+//! words behind a command name files, but for the refusal.
 
 ghost use Rattle.std.specs.Prelude.{◌≡◌, map, string_bytes};
 ghost use Rattle.occ_workshop_run.specs.Words.{job, job_of, of_one, of_two, with_one, with_two};
@@ -10,12 +11,20 @@ use occ_witness::is_plain_word;
 pub enum Command<'a> {
     /// Nothing: the words don't fit.
     Usage,
+    /// To say what is wrong with the program in a file.
+    Check { program: &'a str },
     /// To write the normal text or the script in a file as a picture or a list.
     Draw { text: &'a str },
+    /// To explain why the text in a file was refused.
+    Explain { text: &'a str, refusal: &'a str },
     /// To prove the programs in two files the same, law by law, and to write the script.
     Prove { first: &'a str, second: &'a str },
     /// To find a schedule with which the program in a file shows the behaviour in another.
     Witness { program: &'a str, text: &'a str },
+    /// To write what the program in a file does as a labelled transition system.
+    Aut { program: &'a str },
+    /// To write the program in a file as a model for Spin.
+    Promela { program: &'a str },
 }
 
 /// What the words of a command line ask for, the program's own name first.
@@ -47,6 +56,12 @@ fn one_named<'a>(command: &str, first: &'a str) -> Command<'a>
 {
     if command == "draw" {
         Command::Draw { text: first }
+    } else if command == "check" {
+        Command::Check { program: first }
+    } else if command == "aut" {
+        Command::Aut { program: first }
+    } else if command == "promela" {
+        Command::Promela { program: first }
     } else {
         Command::Usage
     }
@@ -72,6 +87,11 @@ fn two_named<'a>(command: &str, first: &'a str, second: &'a str) -> Command<'a>
         Command::Witness {
             program: first,
             text: second,
+        }
+    } else if command == "explain" {
+        Command::Explain {
+            text: first,
+            refusal: second,
         }
     } else {
         Command::Usage

@@ -1,0 +1,5 @@
+mod Lists
+mod Growing
+mod Steps
+mod Named
+pub mod Answering

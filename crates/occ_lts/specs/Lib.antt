@@ -1,0 +1,4 @@
+pub mod Moves
+pub mod Texts
+pub mod Steps
+pub mod Answers

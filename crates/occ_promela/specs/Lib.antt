@@ -1,0 +1,1 @@
+unfoldable pub use Rattle.occ_syntax.specs.View.{tree}

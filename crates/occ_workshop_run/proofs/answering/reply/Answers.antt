@@ -1,0 +1,16 @@
+use Rattle.std.proofs.Common.{IfOk, subst, sym}
+use Rattle.std.proofs.lemmas.Result.{IfOk-weaker}
+use Rattle.occ_workshop_run.specs.Answers.{IsReplyTo}
+use Rattle.occ_workshop_run.proofs.answering.reply.Goals as goal
+
+pub returns-in-Check-clause-answers : goal.returns-in-Check-clause-answers
+returns-in-Check-clause-answers c =
+    subst (λ command. IfOk c.check.result (IsReplyTo command c.args.contents.now)) (sym c.in-Check.is) (IfOk-weaker c.check.result _ _ (λ reply done files loaded. done _ loaded) c.check.ensures.answers)
+
+pub returns-in-Aut-clause-answers : goal.returns-in-Aut-clause-answers
+returns-in-Aut-clause-answers c =
+    subst (λ command. IfOk c.aut.result (IsReplyTo command c.args.contents.now)) (sym c.in-Aut.is) (IfOk-weaker c.aut.result _ _ (λ reply done files loaded. done _ loaded) c.aut.ensures.answers)
+
+pub returns-in-Promela-clause-answers : goal.returns-in-Promela-clause-answers
+returns-in-Promela-clause-answers c =
+    subst (λ command. IfOk c.promela.result (IsReplyTo command c.args.contents.now)) (sym c.in-Promela.is) (IfOk-weaker c.promela.result _ _ (λ reply done files loaded. done _ loaded) c.promela.ensures.answers)
