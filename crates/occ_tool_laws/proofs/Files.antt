@@ -66,7 +66,7 @@ pub asked : (files : Files) (words : List (List ℕ)) (job : Job) (status : ℕ)
 asked files words job status text e h = subst (λ j. IsAnswerTo files j h.answer) e (does files words h.answer h.is)
 
 -- the program of a file keeps types
-typed_in : (file : File) (old names : Table) (p : Program) → IsAccepted file old names p → IsDistinct old → AreKept p.params p.body
+pub typed_in : (file : File) (old names : Table) (p : Program) → IsAccepted file old names p → IsDistinct old → AreKept p.params p.body
 typed_in file old names p a d = read_kept a.bytes old names p a.text.numbers d a.text.read
 
 module _ (L : Laws) where
@@ -74,7 +74,7 @@ module _ (L : Laws) where
       → Takes place file old R a → ((names : Table) (p : Program) → IsAccepted file old names p → R names p a → P) → P
   taken_file place file text x old d R a P h next = taken place file old R a P (no_refusal L file text x old d) (no_misuse L file text x old d) h next
 
-  left_distinct : (file : File) (names : Table) (p : Program) → IsAccepted file [] names p → IsDistinct names
+  pub left_distinct : (file : File) (names : Table) (p : Program) → IsAccepted file [] names p → IsDistinct names
   left_distinct file names p r = L.distinct r.bytes [] names p.name p.params p.body r.text.numbers no_name_twice r.text.read
 
   module _ (c d : File) (s t : List ℕ) (x : IsTextOf c s) (y : IsTextOf d t) (a : Answer) where

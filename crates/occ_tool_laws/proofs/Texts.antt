@@ -71,7 +71,7 @@ read_extends text old new n ps p ks r =
     extends_trans old (names_in text old) new (extends_all text old (reading_of text).0)
     (subst (Extends (names_in text old)) (sym r.table) (places_extend (names_in text old) (program_places (header_params r.draft) (header_below r.draft))))
 
-none_stands : (names : Table) → StandIn [] names
+pub none_stands : (names : Table) → StandIn [] names
 none_stands names i text e = absurd (let no : ⊥ = cc in no)
 
 -- the normal text of the program of a file
@@ -153,7 +153,7 @@ module _ (L : Laws) where
   read_as t (Err f) = t
 
   -- one text has one interface
-  one_interface : (names : Table) (ps qs : List (Name × Kind)) (p q : Tree) (s t : List ℕ) → IsNormalText names ps p s → IsNormalText names qs q t → s ≡ t → ps ≡ qs
+  pub one_interface : (names : Table) (ps qs : List (Name × Kind)) (p q : Tree) (s t : List ℕ) → IsNormalText names ps p s → IsNormalText names qs q t → s ≡ t → ps ≡ qs
   unfolding read_as
   one_interface names ps qs p q s t x y e =
       let tables : x.table ≡ y.table = ap (read_as x.table) (sym x.reads ∙ (ap (text_read names) e ∙ y.reads)) in

@@ -12,6 +12,7 @@ use Rattle.occ_workshop_run.specs.occ_tool_run.declared.judge.Question.TheVarian
 use Rattle.occ_workshop_run.specs.occ_tool_run.Accepts.{Program}
 use Rattle.occ_workshop_run.specs.occ_tool_run.Answers.{Compares, Settles, Takes, TakesBoth, Turned, accepted, accepted_behind, apart, compared, refused, refused_behind, unusable, unusable_behind}
 use Rattle.occ_workshop_run.specs.occ_call.Files.{order_of}
+use Rattle.occ_workshop_run.specs.occ_prove.Proofs.{IsSame}
 use Rattle.occ_workshop_run.specs.occ_tool_run.Texts.{status_of, text_of}
 
 -- an answer with a status other than 0
@@ -19,10 +20,10 @@ pub refusing : (answer : Answer) (n : ℕ) → status_of answer ≡ 0 → status
 refusing answer n z e h = absurd (omega (arith, z, e, h))
 
 abbrev Says : Answer → Type 0
-Says answer = status_of answer ≡ 0 → text_of answer ≡ codes "SAME\n"
+Says answer = status_of answer ≡ 0 → IsSame answer
 
 of_verdict : (names : List (List ℕ)) (v : Verdict) (answer : Answer) → answer ≡ Compared names v → Says answer
-of_verdict names Same answer e z = ap text_of e
+of_verdict names Same answer e z = (names, e)
 of_verdict names (Differ b side) answer e z = absurd (refusing answer 1 z (ap status_of e) (omega arith))
 
 compares : (p : Program) (names : List (List ℕ)) (q : Program) (answer : Answer) → Compares p names q answer → Says answer
@@ -49,5 +50,10 @@ both Less one two answer t z =
 both Equal one two answer t z = takes First one [] (λ names p. Compares p names p) answer (λ names p c. compares p names p answer c) t z
 both Greater one two answer t z = turned one two answer t z
 
+-- that both mean the same
+pub told_same : (one two : Option (List ℕ)) (answer : Answer) → Settles WhetherSame one two answer → status_of answer ≡ 0 → IsSame answer
+told_same one two answer s z = both (order_of one two) one two answer s.text z
+
+-- by its text
 pub settled : (one two : Option (List ℕ)) (answer : Answer) → Settles WhetherSame one two answer → status_of answer ≡ 0 → text_of answer ≡ codes "SAME\n"
-settled one two answer s z = both (order_of one two) one two answer s.text z
+settled one two answer s z = ap text_of (told_same one two answer s z).1

@@ -8,6 +8,7 @@ ghost use Rattle.occ_workshop_run.specs.occ_call.Files.{Files, most_table_bytes}
 ghost use Rattle.occ_workshop_run.specs.occ_tool_run.Texts.{figure_text};
 ghost use Rattle.occ_workshop_run.specs.occ_tool_words.Words.{job_of, normal, normalise, same};
 
+use crate::texts_read_with_each_table;
 use occ_workshop_run::{
     faults_are_those_of_what_is_written, normal_texts_are_read_as_written,
     normal_texts_are_renamed, normal_texts_need_no_names, normal_texts_tell_programs_apart,
@@ -15,11 +16,15 @@ use occ_workshop_run::{
     readings_are_renamed, texts_of_programs_are_those_of_their_tables,
 };
 
-/// Where two files have normal texts, the two texts are one exactly where the files are answered with SAME, whatever names their programs
-/// have beside those of their parameters, and in whichever order they are given. Programs of different interfaces have different texts, and
-/// aren't answered with SAME.
+/// Where two files have normal texts, the two texts are one exactly where the files have the answer SAME, and where each answer to them is
+/// that, whatever names their programs have beside those of their parameters, and in whichever order they are given. Programs of different
+/// interfaces have different texts, and aren't answered with SAME.
 pub fn normal_texts_tell_files_apart()
-    ensures { (files : Files) (words again both : List (List ℕ)) (first second : List ℕ) (status : ℕ) (x y z : List ℕ)
+    ensures has { (files : Files) (words again both : List (List ℕ)) (first second : List ℕ) (x y : List ℕ)
+        → job_of words ≡ Some (normalise first) → Answers files words 0 x
+        → job_of again ≡ Some (normalise second) → Answers files again 0 y
+        → job_of both ≡ Some (same first second) → (x ≡ y) ↔ Answers files both 0 (codes "SAME\n") }
+    ensures each { (files : Files) (words again both : List (List ℕ)) (first second : List ℕ) (status : ℕ) (x y z : List ℕ)
         → job_of words ≡ Some (normalise first) → Answers files words 0 x
         → job_of again ≡ Some (normalise second) → Answers files again 0 y
         → job_of both ≡ Some (same first second) → Answers files both status z
@@ -33,6 +38,7 @@ pub fn normal_texts_tell_files_apart()
     normal_texts_are_renamed();
     normal_texts_tell_programs_apart();
     texts_of_programs_are_those_of_their_tables();
+    texts_read_with_each_table();
 }
 
 /// Where words that ask for the normal text of a file are answered with status 0, the answer is a normal text: words that ask of a file that

@@ -1,6 +1,8 @@
-//! What `prove` prints, `replay` joins. There is no code: the law is the contract of a function without a body of its own.
+//! What `prove` prints, `replay` joins; and what two of its answers have to do with each other. There is no code: each law is the contract of
+//! a function without a body of its own.
 
 ghost use Rattle.std.specs.Prelude.{ℕ, ◌≡◌, ◌≢◌, ◌≤◌, List, Some, codes, length};
+ghost use Rattle.occ_tool_laws.specs.OneProof.{HaveOneWay};
 ghost use Rattle.occ_tool_laws.specs.ProveJoined.{IsJoined};
 ghost use Rattle.occ_workshop_run.specs.Answers.{Answers};
 ghost use Rattle.occ_workshop_run.specs.Words.{job_of as asked_by, prove};
@@ -9,9 +11,9 @@ ghost use Rattle.occ_workshop_run.specs.occ_call.Files.{Files, most_script_bytes
 ghost use Rattle.occ_workshop_run.specs.occ_tool_words.Words.{job_of, replay};
 
 use occ_workshop_run::{
-    kept_parts_have_known_names, names_stay_below, narrow_steps_are_moves,
+    kept_parts_have_known_names, names_stay_below, narrow_steps_are_moves, one_reading,
     printed_moves_are_joined, programs_leave_places, read_programs_have_known_names,
-    read_programs_print_within_levels, scripts_have_one_answer,
+    read_programs_print_within_levels, scripts_have_one_answer, tool_run_one_answer as one_answer,
 };
 
 /// Where words that ask the workshop for a proof are answered with status 0 and another text than SAME, the text is a script from the program of the first
@@ -33,4 +35,15 @@ pub fn proved_scripts_are_joined()
     read_programs_print_within_levels();
     scripts_have_one_answer();
     printed_moves_are_joined();
+}
+
+/// Two answers of `prove` to one command line over the same files have one status and one text; or each is a script from the program of the
+/// first file to that of the second, whose names are numbers of one table, or says that their normal program is too long, as it is then.
+pub fn proofs_have_one_way()
+    ensures { (files : Files) (words : List (List ℕ)) (first second : List ℕ) (s t : ℕ) (a b : List ℕ)
+        → asked_by words ≡ Some (prove first second) → Answers files words s a → Answers files words t b
+        → HaveOneWay (files first) (files second) s a t b }
+{
+    one_reading();
+    one_answer();
 }
