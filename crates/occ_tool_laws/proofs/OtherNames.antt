@@ -46,30 +46,25 @@ counted_same f opened (s ∷ symbols) =
 limit_same : (f : ℕ → ℕ) (b : Bound) (row : Row) → line_limit b (row_renamed f row) ≡ line_limit b row
 limit_same f b row = ap (λ n. if is_limited b && nat_lt 64 row.level then Some which.Levels else (if nat_lt 4096 n then Some which.Tokens else None)) (counted_same f false row.symbols)
 
-stop_same : (f : ℕ → ℕ) (row : Row) (o : Option Which) (us vs : List Row × Option ParseFault) → us.0 ≡ rows_renamed f vs.0
-    → (stop_at (row_renamed f row) o us).0 ≡ rows_renamed f (stop_at row o vs).0
-stop_same f row (Some w) us vs h = refl
-stop_same f row None us vs h = ap (λ rows. row_renamed f row ∷ rows) h
+stop_other : (f : ℕ → ℕ) (row : Row) (o : Option Which) (us vs : List Row × Option ParseFault) → us ≡ (rows_renamed f vs.0, vs.1)
+    → stop_at (row_renamed f row) o us ≡ (rows_renamed f (stop_at row o vs).0, (stop_at row o vs).1)
+stop_other f row (Some w) us vs h = refl
+stop_other f row None us vs h = λ i. (row_renamed f row ∷ (h i).0, (h i).1)
 
--- the rows in front of the first that is over a limit
+-- the rows in front of the first that is over a limit, and the fault of that one
+stopped_other : (f : ℕ → ℕ) (b : Bound) (rows : List Row) (found : Option (ℕ × LineFault))
+    → stopped b (rows_renamed f rows) found ≡ (rows_renamed f (stopped b rows found).0, (stopped b rows found).1)
+stopped_other f b [] found = refl
+stopped_other f b (row ∷ rows) found =
+    ap (λ o. stop_at (row_renamed f row) o (stopped b (rows_renamed f rows) found)) (limit_same f b row)
+    ∙ stop_other f row (line_limit b row) (stopped b (rows_renamed f rows) found) (stopped b rows found) (stopped_other f b rows found)
+
 pub stopped_same : (f : ℕ → ℕ) (b : Bound) (rows : List Row) (found : Option (ℕ × LineFault))
     → (stopped b (rows_renamed f rows) found).0 ≡ rows_renamed f (stopped b rows found).0
-stopped_same f b [] found = refl
-stopped_same f b (row ∷ rows) found =
-    ap (λ o. (stop_at (row_renamed f row) o (stopped b (rows_renamed f rows) found)).0) (limit_same f b row)
-    ∙ stop_same f row (line_limit b row) (stopped b (rows_renamed f rows) found) (stopped b rows found) (stopped_same f b rows found)
+stopped_same f b rows found = ap (λ p. p.0) (stopped_other f b rows found)
 
-stop_behind : (f : ℕ → ℕ) (row : Row) (o : Option Which) (us vs : List Row × Option ParseFault) → us.1 ≡ vs.1
-    → (stop_at (row_renamed f row) o us).1 ≡ (stop_at row o vs).1
-stop_behind f row (Some w) us vs h = refl
-stop_behind f row None us vs h = h
-
--- and the fault of that one
 pub stop_kept : (f : ℕ → ℕ) (b : Bound) (rows : List Row) (found : Option (ℕ × LineFault)) → (stopped b (rows_renamed f rows) found).1 ≡ (stopped b rows found).1
-stop_kept f b [] found = refl
-stop_kept f b (row ∷ rows) found =
-    ap (λ o. (stop_at (row_renamed f row) o (stopped b (rows_renamed f rows) found)).1) (limit_same f b row)
-    ∙ stop_behind f row (line_limit b row) (stopped b (rows_renamed f rows) found) (stopped b rows found) (stop_kept f b rows found)
+stop_kept f b rows found = ap (λ p. p.1) (stopped_other f b rows found)
 
 -- ---- what lines say
 
