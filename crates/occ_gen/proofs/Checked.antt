@@ -115,17 +115,7 @@ elements_good Buffers n h = agree_below_at (of_chains has_no_elements Buffers) a
 elements_good Adders n h = agree_below_at (of_chains has_no_elements Adders) always 49 n refl h
 elements_good Muxes n h = agree_below_at (of_chains has_no_elements Muxes) always 49 n refl h
 
-usages_short : (n : ℕ) → n < 32 → of_chains usage_is_kept Muxes n ≡ true
-usages_short n h = agree_below_at (of_chains usage_is_kept Muxes) always 32 n refl h
-
-usages_middle : (n : ℕ) → n < 10 → of_chains usage_is_kept Muxes (n + 32) ≡ true
-usages_middle n h = agree_below_at (λ k. of_chains usage_is_kept Muxes (k + 32)) always 10 n refl h
-
-usages_long : (n : ℕ) → n < 7 → of_chains usage_is_kept Muxes (n + 42) ≡ true
-usages_long n h = agree_below_at (λ k. of_chains usage_is_kept Muxes (k + 42)) always 7 n refl h
-
 pub usage_good : (shape : Kind) (n : ℕ) → n < 49 → of_chains usage_is_kept shape n ≡ true
 usage_good Buffers n h = agree_below_at (of_chains usage_is_kept Buffers) always 49 n refl h
 usage_good Adders n h = agree_below_at (of_chains usage_is_kept Adders) always 49 n refl h
-usage_good Muxes n h =
-    in_parts (of_chains usage_is_kept Muxes) 42 7 n (λ k l. in_parts (of_chains usage_is_kept Muxes) 32 10 k usages_short usages_middle l) usages_long h
+usage_good Muxes n h = agree_below_at (of_chains usage_is_kept Muxes) always 49 n refl h
