@@ -12,17 +12,30 @@ use std::mem;
 const MESSAGES: usize = 10;
 
 /// The figures of a chain.
-#[derive(Clone, Copy, Debug)]
-pub struct Figures {
+#[derive(Clone, Copy)]
+struct Figures {
     /// How many nodes were made.
-    pub made: usize,
+    made: usize,
     /// How many of them are reached from the result: its rows.
-    pub rows: usize,
+    rows: usize,
+}
+
+/// How many nodes were made for a chain and how many are its rows, in words, with names of its own for each channel or two in turn.
+pub fn line(alloc: Global, stages: usize, apart: bool) -> Result<String, Memory>
+    requires { 1 ≤ stages }
+{
+    let figures = if apart {
+        measure_apart(alloc, stages)
+    } else {
+        measure_in_turn(alloc, stages)
+    };
+    let Figures { made, rows } = figures?;
+    Ok(format!(in alloc; "{stages} stages: {made} nodes made, {rows} rows of the result")?)
 }
 
 /// The figures of a chain of buffers whose inner channels have two names in turn: a closed name is free again. It is woven
 /// from its end, by tables that serve all stages.
-pub fn measure_in_turn(alloc: Global, stages: usize) -> Result<Figures, Memory>
+fn measure_in_turn(alloc: Global, stages: usize) -> Result<Figures, Memory>
     requires { 1 ≤ stages }
     ensures { IfOk result (λ r. r.rows ≤ r.made) }
 {
@@ -42,7 +55,7 @@ pub fn measure_in_turn(alloc: Global, stages: usize) -> Result<Figures, Memory>
 }
 
 /// The figures of a chain of buffers whose channels have names of their own. It is woven from its end.
-pub fn measure_apart(alloc: Global, stages: usize) -> Result<Figures, Memory>
+fn measure_apart(alloc: Global, stages: usize) -> Result<Figures, Memory>
     requires { 1 ≤ stages }
     ensures { IfOk result (λ r. r.rows ≤ r.made) }
 {

@@ -8,73 +8,46 @@
 //! where else two names serve in turn.
 #![tactic(auto)]
 
-ghost use Rattle.std.specs.Prelude.{◌≤◌};
-
 mod chain;
 mod measure;
 mod reach;
 mod tasks;
 mod texts;
 
-use chain::Figures;
 use occ_syntax::Memory;
-use std::alloc::Global;
 use std::time::Instant;
 use std::{env, io};
 
-// The figures of a chain, with names of its own for each channel or two in turn.
-fn measured(alloc: Global, stages: usize, apart: bool) -> Result<Figures, Memory>
-    requires { 1 ≤ stages }
-{
-    if apart {
-        chain::measure_apart(alloc, stages)
-    } else {
-        chain::measure_in_turn(alloc, stages)
+/// Prints a line and, where that is asked for, the milliseconds since the start.
+fn print_line(
+    rt: HostRuntime,
+    timed: bool,
+    start: Instant,
+    line: Result<String, Memory>,
+) -> io::Result<()> {
+    let Ok(line) = line else {
+        return println!(rt; "out of memory");
+    };
+    if timed {
+        let took = start.elapsed(&rt)?.as_millis();
+        return println!(rt; "{line}, {took} ms");
     }
+    println!(rt; "{line}")
 }
 
 fn diagrams(rt: HostRuntime, timed: bool) -> io::Result<()> {
-    for task in [
-        tasks::Task::Parity,
-        tasks::Task::SumInEitherOrder,
-        tasks::Task::ChainOfSums,
-        tasks::Task::MemoHits,
-    ] {
+    for task in tasks::ALL {
         let start = Instant::now(&rt)?;
-        let Ok(sets) = tasks::run(rt.alloc(), task) else {
-            println!(rt; "{}: out of memory", task.name())?;
-            continue;
-        };
-        let name = task.name();
-        if timed {
-            let took = start.elapsed(&rt)?.as_millis();
-            println!(rt; "{name}: {sets} sets, {took} ms")?;
-        } else {
-            println!(rt; "{name}: {sets} sets")?;
-        }
+        print_line(rt, timed, start, tasks::line(rt.alloc(), task))?;
     }
     Ok(())
 }
 
 fn chains(rt: HostRuntime, timed: bool, apart: bool, longest: usize) -> io::Result<()> {
     for stages in [2, 4, 8, 12, 24, 48] {
-        if stages > longest {
-            break;
-        }
-        let start = Instant::now(&rt)?;
-        let Ok(figures) = measured(rt.alloc(), stages, apart) else {
-            println!(rt; "{stages} stages: out of memory")?;
-            continue;
-        };
-        let made = figures.made;
-        let rows = figures.rows;
-        if timed {
-            let took = start.elapsed(&rt)?.as_millis();
-            println!(rt;
-                "{stages} stages: {made} nodes made, {rows} rows of the result, {took} ms"
-            )?;
-        } else {
-            println!(rt; "{stages} stages: {made} nodes made, {rows} rows of the result")?;
+        if stages <= longest {
+            let start = Instant::now(&rt)?;
+            print_line(rt, timed, start, chain::line(rt.alloc(), stages, apart))?;
         }
     }
     Ok(())
@@ -82,47 +55,35 @@ fn chains(rt: HostRuntime, timed: bool, apart: bool, longest: usize) -> io::Resu
 
 fn parts(rt: HostRuntime, timed: bool) -> io::Result<()> {
     for large in texts::ALL {
-        let name = large.name();
-        let Ok(text) = large.text(rt.alloc()) else {
-            println!(rt; "{name}: out of memory")?;
-            continue;
-        };
-        let bytes = text.len();
         let start = Instant::now(&rt)?;
-        let found = measure::measure(rt.alloc(), &text);
-        let took = start.elapsed(&rt)?.as_millis();
-        match found {
-            Ok(figures) => {
-                let lines = figures.lines;
-                let controls = figures.controls;
-                print!(rt; "{name}: {bytes} bytes, {lines} lines, {controls} controls")?;
-            }
-            Err(refusal) => print!(rt; "{name}: {bytes} bytes, {refusal}")?,
-        }
-        if timed {
-            print!(rt; ", {took} ms")?;
-        }
-        println!(rt)?;
+        print_line(rt, timed, start, measure::line(rt.alloc(), large))?;
     }
     Ok(())
 }
 
+/// Whether a word is among the words of the command line.
+fn has(words: &[String], wanted: &str) -> bool {
+    for word in words {
+        if word.as_str() == wanted {
+            return true;
+        }
+    }
+    false
+}
+
 fn main(rt: HostRuntime) -> io::Result<()> {
     let words: Vec<String> = env::args(&rt)?.collect(rt.alloc())?;
-    let timed = words.iter().any(|word| word.as_str() == "times");
-    let apart = words.iter().any(|word| word.as_str() == "apart");
-    let long = words.iter().any(|word| word.as_str() == "long");
-    let for_diagrams = words.iter().any(|word| word.as_str() == "diagrams");
-    let for_chains = words.iter().any(|word| word.as_str() == "chains");
-    let for_parts = words.iter().any(|word| word.as_str() == "parts");
-    let all = !for_diagrams && !for_chains && !for_parts;
-    if all || for_diagrams {
+    let words = words.as_slice();
+    let timed = has(words, "times");
+    let all = !has(words, "diagrams") && !has(words, "chains") && !has(words, "parts");
+    if all || has(words, "diagrams") {
         diagrams(rt, timed)?;
     }
-    if all || for_chains {
-        chains(rt, timed, apart, if long { 48 } else { 12 })?;
+    if all || has(words, "chains") {
+        let longest = if has(words, "long") { 48 } else { 12 };
+        chains(rt, timed, has(words, "apart"), longest)?;
     }
-    if all || for_parts {
+    if all || has(words, "parts") {
         parts(rt, timed)?;
     }
     Ok(())

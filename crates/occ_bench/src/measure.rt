@@ -1,37 +1,37 @@
 //! The figures of a part.
 
+use crate::texts::Large;
 use occ_parse_part::{LexFault, ParseFault, Raw, form, lines, resolve};
 use occ_syntax::{Kind, Memory, Names, Scope, Width, controls};
 use std::alloc::Global;
-use thiserror::Error;
 
 // Texts that are read are shorter.
 const LONGEST: usize = 4_294_967_295;
 
 /// The figures of a part that was read.
-#[derive(Clone, Copy, Debug)]
-pub struct Figures {
+#[derive(Clone, Copy)]
+struct Figures {
     /// How many of its lines aren't blank.
-    pub lines: usize,
+    lines: usize,
     /// How many controls the process that it is has.
-    pub controls: u64,
+    controls: u64,
 }
 
-/// Why a text isn't a part in the scope.
-#[derive(Clone, Copy, Debug, Error)]
-pub enum Refusal {
-    #[error("too long to be read")]
-    TooLong,
-    #[error("refused: {0}")]
-    Lines(#[from] LexFault),
-    #[error("refused: {0}")]
-    Part(#[from] ParseFault),
-    #[error("out of memory")]
-    Memory(#[from] Memory),
+/// How many bytes, lines and controls a large part has, in words, or why it is refused.
+pub fn line(alloc: Global, large: Large) -> Result<String, Memory> {
+    let text = large.text(alloc)?;
+    let name = large.name();
+    let bytes = text.len();
+    Ok(match measure(alloc, text.as_slice()) {
+        Ok(Figures { lines, controls }) => {
+            format!(in alloc; "{name}: {bytes} bytes, {lines} lines, {controls} controls")?
+        }
+        Err(fault) => format!(in alloc; "{name}: {bytes} bytes, refused: {fault}")?,
+    })
 }
 
 /// Reads a part, resolves it in the scope of one BOOL variable `x`, counts, and drops it.
-pub fn measure(alloc: Global, text: &[u8]) -> Result<Figures, Refusal> {
+fn measure(alloc: Global, text: &[u8]) -> Result<Figures, ParseFault> {
     let mut names = Names::new(alloc);
     let scope = scope(alloc, &mut names)?;
     let (lines, raw) = read(alloc, &mut names, text)?;
@@ -49,15 +49,16 @@ fn scope(alloc: Global, names: &mut Names) -> Result<Scope, Memory> {
 }
 
 // How many lines a text has, and the part that they are.
-fn read(alloc: Global, names: &mut Names, text: &[u8]) -> Result<(usize, Raw), Refusal> {
+fn read(alloc: Global, names: &mut Names, text: &[u8]) -> Result<(usize, Raw), ParseFault> {
     if text.len() >= LONGEST {
-        return Err(Refusal::TooLong);
+        return Err(ParseFault::Memory);
     }
     match lines(alloc, text) {
         Ok(lines) => {
             let raw = form(alloc, names, text, &lines)?;
             Ok((lines.len(), raw))
         }
-        Err(fault) => Err(Refusal::Lines(fault)),
+        Err(LexFault::Line { line, fault }) => Err(ParseFault::Line { line, fault }),
+        Err(LexFault::Memory) => Err(ParseFault::Memory),
     }
 }

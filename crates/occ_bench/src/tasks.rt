@@ -14,7 +14,7 @@ const Y: Name = Name(1);
 const Z: Name = Name(2);
 
 /// What is measured.
-#[derive(Clone, Copy, Debug)]
+#[derive(Clone, Copy)]
 pub enum Task {
     /// The parity of 64 bits.
     Parity,
@@ -26,9 +26,17 @@ pub enum Task {
     MemoHits,
 }
 
+/// The tasks, in the order in which they are done.
+pub const ALL: [Task; 4] = [
+    Task::Parity,
+    Task::SumInEitherOrder,
+    Task::ChainOfSums,
+    Task::MemoHits,
+];
+
 impl Task {
     /// What the task is called in the output.
-    pub fn name(self) -> &'static str {
+    fn name(self) -> &'static str {
         match self {
             Task::Parity => "parity of 64 bits",
             Task::SumInEitherOrder => "x PLUS y = y PLUS x",
@@ -38,8 +46,14 @@ impl Task {
     }
 }
 
+/// A task, and how many sets its store has given numbers to behind it, in words.
+pub fn line(alloc: Global, task: Task) -> Result<String, Memory> {
+    let sets = run(alloc, task)?;
+    Ok(format!(in alloc; "{}: {sets} sets", task.name())?)
+}
+
 /// Does a task, and says how many sets its store has then given numbers to.
-pub fn run(alloc: Global, task: Task) -> Result<usize, Memory> {
+fn run(alloc: Global, task: Task) -> Result<usize, Memory> {
     match task {
         Task::Parity => parity(alloc),
         Task::SumInEitherOrder => sum_in_either_order(alloc),

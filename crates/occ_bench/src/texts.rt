@@ -17,7 +17,7 @@ const DECLARATIONS: usize = 66_000;
 const TOKENS: usize = 4_097;
 
 /// A part that is large in one direction.
-#[derive(Clone, Copy, Debug)]
+#[derive(Clone, Copy)]
 pub enum Large {
     /// A SEQ of many SKIPs.
     Skips,

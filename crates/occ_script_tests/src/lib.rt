@@ -1,10 +1,8 @@
-//! The tests of texts that are read, of scripts, orders and schedules, of the names of laws and of trails, and of the machine that takes
-//! steps. They stand in a crate of their own, since a crate with tests is proved twice. What is expected comes from the rules of the
-//! language and of the formats (docs/DEFINITIONS.md, docs/FORMATS.md).
+//! The tests by public calls of what reads texts, of the names of laws, of trails, and of the machine that takes steps. They stand in a
+//! crate of their own, since a crate with tests is proved twice. What is expected comes from the rules of the language and of the
+//! formats (docs/DEFINITIONS.md, docs/FORMATS.md). Whole texts are tested by the rows of command lines, in occ_tool_rows.
 #![tactic(auto)]
 
-#[cfg(test)]
-mod large;
 #[cfg(test)]
 mod laws;
 #[cfg(test)]
@@ -18,8 +16,6 @@ mod parts;
 #[cfg(test)]
 mod paths;
 #[cfg(test)]
-mod programs;
-#[cfg(test)]
 mod refused;
 #[cfg(test)]
 mod schedules;
@@ -27,5 +23,3 @@ mod schedules;
 mod scripts;
 #[cfg(test)]
 mod steps;
-#[cfg(test)]
-mod texts;

@@ -24,22 +24,9 @@ fn texts_have_sections(rt: HostRuntime) -> Result<(), Memory> {
 }
 
 #[test]
-fn steps_are_read(rt: HostRuntime) -> Result<(), Memory> {
-    let rows: [(&[u8], bool); 8] = [
-        (b"STEP seq-one FORWARD /0/12\n", true),
-        (b"STEP seq-one BACKWARD /  -- back\n", true),
-        (b"STEP  seq-one FORWARD /\n", false),
-        (b"STEP seq-One FORWARD /\n", false),
-        (b"STEP seq-one forward /\n", false),
-        (b"STEP seq-one FORWARD 0\n", false),
-        (b"STEP seq-one FORWARD / 0\n", false),
-        (b"ORDER seq-one FORWARD /\n", false),
-    ];
-    for (row, wanted) in &rows {
-        let found = step_line(rt.alloc(), b"STEP", row)?;
-        assert!(rt; found.is_some() == *wanted);
-    }
-    if let Some(head) = step_line(rt.alloc(), b"STEP", b"STEP seq-one BACKWARD /3")? {
+fn a_step_is_read(rt: HostRuntime) -> Result<(), Memory> {
+    let row = b"STEP seq-one BACKWARD /3".as_slice();
+    if let Some(head) = step_line(rt.alloc(), b"STEP", row)? {
         assert!(rt; head.law == b"seq-one".as_slice());
         assert!(rt; head.dir == Direction::Backward);
     }
