@@ -6,5 +6,4 @@
 mod entry;
 mod table;
 
-pub use occ_desk::Memory;
 pub use table::Table;

@@ -1,9 +1,6 @@
 //! The program: the workshop over the files of the system and its standard output.
 #![tactic(auto)]
 
-#[cfg(test)]
-mod rows;
-
 use occ_workshop_run::{RealDesk, command_words, run};
 use std::process::ExitCode;
 
