@@ -42,7 +42,7 @@ pub struct Told {
 
 impl Told {
     /// Whether another step is the same with the next value.
-    pub fn goes_on(&self, value: u8, next: &Told) -> bool {
+    pub fn goes_on(&self, next: &Told) -> bool {
         let ranges = match self.first.deed {
             Deed::Begin(_) | Deed::Input(_, _) => true,
             Deed::Assign | Deed::Choose | Deed::Output(_) => false,
@@ -51,7 +51,7 @@ impl Told {
             && self.first == next.first
             && self.second.is_none()
             && next.second.is_none()
-            && value.checked_add(1) == Some(next.value)
+            && self.value.checked_add(1) == Some(next.value)
     }
 }
 
