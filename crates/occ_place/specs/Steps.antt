@@ -1,12 +1,12 @@
 -- The steps that can be taken, each with its number, as rows of a table.
-use Rattle.std.specs.Prelude.{ℕ, ◌≡◌, ◌<◌, ◌+◌, ◌-◌, ◌++◌, Bool, true, not, ◌==◌, ◌&&◌, List, [], ◌∷◌, map, length, codes, decimal, replicate, if◌then◌else◌}
-use Rattle.std.specs.List.{flat_map, list_all}
+use Rattle.std.specs.Prelude.{ℕ, ◌≡◌, ◌<◌, ◌+◌, ◌-◌, ◌++◌, ◌==◌, List, [], ◌∷◌, map, length, codes, decimal, replicate, if◌then◌else◌}
+use Rattle.std.specs.List.{flat_map}
 use Rattle.occ_run.specs.occ_behaviour.Texts.{event_text}
 use Rattle.occ_run.specs.declared.answer.Move.{Move}
 use Rattle.occ_run.specs.declared.answer.Move.TheVariants.{Unseen, Seen}
 use Rattle.occ_syntax.specs.Counts.{capped}
 use Rattle.occ_place.specs.declared.spans.Span.{Span}
-use Rattle.occ_place.specs.declared.rows.Row.{Row}
+use Rattle.occ_place.specs.declared.row.Row.{Row}
 
 -- what is seen of the step that is so many behind another one, where values go up one by one
 abbrev pub advanced : Move → ℕ → Move
@@ -18,8 +18,11 @@ abbrev pub spell : ℕ → Move → ℕ → List (ℕ × Move)
 spell n m 0 = (n, m) ∷ []
 spell n m (suc k) = spell n m k ++ (n + suc k, advanced m (suc k)) ∷ []
 
+abbrev pub spell_span : Span → List (ℕ × Move)
+spell_span s = spell s.from s.first (s.last - s.from)
+
 abbrev pub spelled : List Span → List (ℕ × Move)
-spelled spans = flat_map (λ s. spell s.from s.first (s.last - s.from)) spans
+spelled spans = flat_map spell_span spans
 
 -- what is seen of each step, with its number, where the first has that number
 abbrev pub numbered : ℕ → List Move → List (ℕ × Move)
@@ -31,12 +34,10 @@ abbrev pub MoveIsNamed : List (List ℕ) → Move → Type 0
 MoveIsNamed names Unseen = Unit {0}
 MoveIsNamed names (Seen e) = e.chan.0 < length names
 
--- ---- the text of a row
+abbrev pub SpanIsNamed : List (List ℕ) → Span → Type 0
+SpanIsNamed names s = MoveIsNamed names s.first
 
--- no line ends in it, and it is nothing or begins with a space
-abbrev pub is_plain : List ℕ → Bool
-is_plain [] = true
-is_plain (b ∷ bytes) = b == 32 && list_all (λ byte. not (byte == 10)) bytes
+-- ---- the text of a row
 
 -- from one number to another: `3`, `0-3`
 abbrev pub numbers_text : Span → List ℕ

@@ -2,12 +2,13 @@
 
 ghost use Rattle.std.specs.Prelude.{◌≡◌, ◌++◌, IfOk, OnOk, map, List, ℕ};
 ghost use Rattle.std.specs.List.{All};
-ghost use Rattle.occ_place.specs.Steps.{MoveIsNamed, TellsSteps};
+ghost use Rattle.occ_place.specs.Steps.{MoveIsNamed, SpanIsNamed, TellsSteps};
 
 use crate::cells::{event_cell, line_cell, statement_cell, values_cell, who_cell};
 use crate::doing::{Deed, Told, tell};
 use crate::places::Places;
-use crate::rows::{Row, push_events, push_numbers, push_rows, row_of};
+use crate::row::{Row, row_of};
+use crate::rows::{push_events, push_numbers, push_rows};
 use crate::spans::{Span, spans_of};
 use crate::table::{Columns, Line, push_line, widths_of};
 use occ_run::{Move, Point};
@@ -30,19 +31,20 @@ pub struct Listing {
     pub rows: Vec<u8>,
 }
 
-/// The table of the steps of a machine, by what is seen of each. `told` says the same steps in the same order.
+/// The table of the steps of a machine, by what is seen of each. `told` says the same steps in the same order; without places there is
+/// nothing told.
 pub fn list_steps(
     alloc: Global,
     names: &Names,
     moves: &[Move],
-    places: &Places,
+    places: Option<&Places>,
     told: &[Option<Told>],
 ) -> Result<Listing, Memory>
     requires { All (MoveIsNamed names.now) moves.now }
     ensures { IfOk result (λ listing. TellsSteps names.now moves.now listing.rows.items) }
 {
     let spans = spans_of(alloc, moves, told)?;
-    let lines = lines_of(names, &spans, places, told)?;
+    let lines = lines_of(alloc, names, &spans, places, told)?;
     let widths = widths_of(alloc, &lines, COLUMNS)?;
     let mut heads = Vec::new(alloc);
     if let Some(line) = lines.first() {
@@ -67,14 +69,14 @@ const HEADS: [&[u8]; 6] = [
 
 /// The lines of the table, that of the heads first.
 fn lines_of(
+    alloc: Global,
     names: &Names,
     spans: &[Span],
-    places: &Places,
+    places: Option<&Places>,
     told: &[Option<Told>],
 ) -> Result<Vec<Line>, Memory>
-    requires { All (λ s. MoveIsNamed names.now s.first) spans.now }
+    requires { All (SpanIsNamed names.now) spans.now }
 {
-    let alloc = places.alloc();
     let mut lines = Vec::new(alloc);
     let mut cells = Vec::new(alloc);
     for head in &HEADS {
@@ -87,8 +89,10 @@ fn lines_of(
         let mut cells = Vec::new(alloc);
         cells.push(number)?;
         cells.push(events_cell(alloc, names, *span)?)?;
-        if let Some(Some(first)) = told.get(span.from as usize) {
-            add_cells(places, &mut cells, first, value_at(told, span.last))?;
+        if let Some(places) = places {
+            if let Some(Some(first)) = told.get(span.from as usize) {
+                add_cells(places, &mut cells, first, value_at(told, span.last))?;
+            }
         }
         lines.push(Line { cells })?;
     }
@@ -97,7 +101,7 @@ fn lines_of(
 
 /// The events of a span; nothing where they are unseen.
 fn events_cell(alloc: Global, names: &Names, span: Span) -> Result<Vec<u8>, Memory>
-    requires { MoveIsNamed names.now span.first }
+    requires { SpanIsNamed names.now span }
 {
     let mut text = Vec::new(alloc);
     push_events(&mut text, names, span)?;

@@ -30,7 +30,7 @@ fn show(alloc: Global, text: &[u8], steps: &[usize]) -> Result<Vec<u8>, Memory> 
             None => moves.push(Move::Unseen)?,
         }
     }
-    let listing = list_steps(alloc, &names, &moves, &places, &told)?;
+    let listing = list_steps(alloc, &names, &moves, Some(&places), &told)?;
     out.extend_from_slice(&listing.heads)?;
     out.push(b'\n')?;
     out.extend_from_slice(&listing.rows)?;
