@@ -2,34 +2,32 @@
 
 ghost use Rattle.std.specs.Prelude.{◌≡◌, ◌<◌, IfOk, IfSome, length, true};
 ghost use Rattle.occ_run.specs.occ_behaviour.States.{is_state};
-ghost use Rattle.occ_usage.specs.Accepted.{KeepsRules};
+ghost use Rattle.occ_run.specs.occ_usage.Accepted.{IsTyped};
 
 use crate::marking::{End, Marker};
 use crate::source::Source;
 use crate::walking::Layout;
 use occ_parse::{Bound, Frame, ParseFault, grown, judge_rows, least_bad, parse};
 use occ_parse_rules::{read, rows};
-use occ_run::{Point, point_of};
-use occ_syntax::{Memory, Name, Names, Program, State};
-use occ_usage::keeps;
+use occ_run::{Accepted, Point, UsageFault, check, keeps_scope, keeps_types, point_of};
+use occ_syntax::{Memory, Name, Names, Program, State, controls, interface_bits, scope_bits};
 use std::alloc::Global;
 
-/// A marked copy of a program that keeps the rules, and who uses which end of a channel.
+/// A marked copy of a program, and who uses which end of a channel.
 #[derive(Drop)]
 pub struct Marked {
-    pub program: Program,
+    pub accepted: Accepted,
     pub ends: Vec<End>,
-    pub ghost kept: { KeepsRules program },
 }
 
-/// The marked copy of a program. None where it keeps the rules no more, which can't be.
+/// The marked copy of a program. None where it is over the limit of controls; it keeps all other rules that the program keeps.
 fn marked_copy(
     alloc: Global,
     layout: &Layout,
     base: usize,
     program: &Program,
 ) -> Result<Option<Marked>, Memory>
-    ensures { IfOk result (λ found. IfSome found (λ marked. marked.program.params ≡ program.now.params)) }
+    ensures { IfOk result (λ found. IfSome found (λ marked. marked.accepted.program.params ≡ program.now.params)) }
 {
     let mut marker = Marker {
         alloc,
@@ -40,10 +38,30 @@ fn marked_copy(
     };
     let program = marker.program(program)?;
     let Marker { ends, .. } = marker;
-    if !keeps(alloc, &program)? {
+    if !is_typed(alloc, &program)? {
         return Ok(None);
     }
-    Ok(Some(Marked { program, ends }))
+    match check(alloc, program) {
+        Ok(accepted) => Ok(Some(Marked { accepted, ends })),
+        Err(UsageFault::Memory) => Err(Memory),
+        Err(_) => Ok(None),
+    }
+}
+
+/// Whether a program keeps what a check asks of it.
+fn is_typed(alloc: Global, program: &Program) -> Result<bool, Memory>
+    ensures { IfOk result (λ typed. typed ≡ true → IsTyped program.now) }
+{
+    let scope = keeps_scope(alloc, program.params.items())?;
+    let types = keeps_types(alloc, &program.params, &program.body)?;
+    Ok(
+        scope
+            && types
+            && controls(&program.body) <= 4_096
+            && program.params.items().len() <= 16
+            && interface_bits(program) <= 16
+            && scope_bits(program) <= 24,
+    )
 }
 
 /// A program with the places of its text. Its steps are those of a marked copy, in which channels that nothing uses tell where each
@@ -62,7 +80,7 @@ impl Places {
     /// The places of an accepted program, by its text. None where the text isn't that program's.
     pub fn of(alloc: Global, text: &[u8], program: &Program) -> Result<Option<Places>, Memory>
         requires { length text.now < 4294967295 }
-        ensures { IfOk result (λ found. IfSome found (λ places. places.marked.program.params ≡ program.now.params)) }
+        ensures { IfOk result (λ found. IfSome found (λ places. places.marked.accepted.program.params ≡ program.now.params)) }
     {
         let mut names = Names::new(alloc);
         let Some(layout) = layout_of(alloc, &mut names, text)? else {
@@ -85,9 +103,9 @@ impl Places {
 
     /// Where the program stands before its first step, in a state of its parameters. Its steps have the numbers of the program's.
     pub fn point(&self, state: &State) -> Result<Point<'_>, Memory>
-        requires { is_state self.now.marked.program.params state.now ≡ true }
+        requires { is_state self.now.marked.accepted.program.params state.now ≡ true }
     {
-        point_of(self.alloc, &self.marked.program, state)
+        point_of(self.alloc, self.marked.accepted.program(), state)
     }
 
     /// The text of a name of the program.
@@ -100,7 +118,7 @@ impl Places {
 
     /// Whether the outside has the other end of a channel.
     pub fn is_outside(&self, chan: Name) -> bool {
-        for (name, _) in self.marked.program.params.items() {
+        for (name, _) in self.marked.accepted.program().params.items() {
             if *name == chan {
                 return true;
             }
@@ -131,7 +149,7 @@ fn layout_of(alloc: Global, names: &mut Names, text: &[u8]) -> Result<Option<Lay
     let reading = read(alloc, text)?;
     let rows = rows(alloc, names, text, &reading.lines)?;
     let judged = judge_rows(alloc, Bound::Program, &rows, reading.fault)?;
-    if least_bad(alloc, &judged.lines, Frame::Program, false)?.is_some() {
+    if let Some(_) = least_bad(alloc, &judged.lines, Frame::Program, false)? {
         return Ok(None);
     }
     let nodes = grown(alloc, judged.lines, 0)?;

@@ -1,6 +1,5 @@
-use occ_parse_rules::{Form, Group, Node};
-use occ_parse_unroll::declaration;
-use occ_syntax::{Memory, Name, push_number};
+use occ_parse_rules::{Form, Group, Node, ParseFormsDeclared as Declared};
+use occ_syntax::{Kind, Memory, Name, push_number};
 use std::alloc::Global;
 
 /// The number of no part, process, guard or index.
@@ -129,6 +128,13 @@ impl Layout {
         Ok(number)
     }
 
+    fn declared(&mut self, line: u32, here: Here, names: (u64, bool)) -> Result<(), Memory> {
+        for _ in 0..names.0 {
+            self.site(line, here, names.1)?;
+        }
+        Ok(())
+    }
+
     fn count(&mut self, name: Name, value: u16, here: Here) -> Result<Here, Memory> {
         let counter = self.counters.len();
         self.counters.push(Counter {
@@ -220,35 +226,30 @@ fn last_line(nodes: &[Node]) -> u32 {
 fn processes_in(nodes: &[Node]) -> usize {
     let mut count: usize = 0;
     for node in nodes {
-        if declaration(node.seen().1).is_none() {
+        let (_, form, _) = node.seen();
+        if !matches!(form, Form::Declare(_)) {
             count = count.saturating_add(1);
         }
     }
     count
 }
 
-/// How many names a declaration line declares.
-fn declared_on(form: &Form) -> u64 {
+/// How many names a line declares, and whether they are variables; 0 where it is no declaration.
+fn declared_on(form: &Form) -> (u64, bool) {
+    let Form::Declare(declaration) = form else {
+        return (0, false);
+    };
     let mut count: u64 = 0;
-    if let Some(declaration) = declaration(form) {
-        for declared in declaration.declared.items() {
-            count = count.saturating_add(names_of(*declared));
-        }
+    for declared in declaration.declared.items() {
+        count = count.saturating_add(names_of(*declared));
     }
-    count
+    (count, matches!(declaration.kind, Kind::Var(_)))
 }
 
-fn names_of(declared: occ_parse_rules::ParseFormsDeclared) -> u64 {
+fn names_of(declared: Declared) -> u64 {
     match declared {
-        occ_parse_rules::ParseFormsDeclared::Array(_, count) => u64::from(count),
-        _ => 1,
-    }
-}
-
-fn is_variable(form: &Form) -> bool {
-    match declaration(form) {
-        Some(declaration) => matches!(declaration.kind, occ_syntax::Kind::Var(_)),
-        None => false,
+        Declared::Array(_, count) => u64::from(count),
+        Declared::Plain(_) | Declared::Element(_, _) => 1,
     }
 }
 
@@ -267,10 +268,8 @@ fn slots(alloc: Global, layout: &mut Layout, nodes: &[Node], here: Here) -> Resu
             open = true;
         }
         layout.reaches(inside.part, line.max(last_line(below)));
-        if declaration(form).is_some() {
-            for _ in 0..declared_on(form) {
-                layout.site(line, inside, is_variable(form))?;
-            }
+        if matches!(form, Form::Declare(_)) {
+            layout.declared(line, inside, declared_on(form))?;
         } else {
             process(alloc, layout, (line, form, below), inside)?;
             open = false;

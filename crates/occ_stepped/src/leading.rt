@@ -7,8 +7,8 @@ ghost use Rattle.occ_run.specs.occ_behaviour.States.{is_state};
 ghost use Rattle.occ_syntax.specs.Types.{scope_kept};
 ghost use Rattle.occ_stepped.specs.Shown.{HasParams, IsLed, IsStart};
 
-use occ_run::{Machine, StepFault, numbers_that_are_followed_lead};
-use occ_run_schedule::{Accepted, Schedule, start};
+use occ_run::{Machine, StepFault, numbers_that_are_followed_lead, start};
+use occ_run_schedule::{Accepted, Schedule};
 use occ_syntax::{Kind, List, Memory, Name, State};
 use std::alloc::Global;
 

@@ -11,8 +11,8 @@ ghost use Rattle.occ_syntax.specs.declared.scope.Kind.{Kind as TheKind};
 ghost use Rattle.occ_stepped.specs.Shown.{IsAround, Shows};
 
 use crate::heading::push_heading;
-use occ_place::{Listing, Places, Point, list_steps, push_stands, stands, told_at};
-use occ_run::{Machine, Move};
+use occ_place::{Listing, Places, list_steps, push_stands, stands, told_at};
+use occ_run::{Machine, Move, Point};
 use occ_run_schedule::{Accepted, Schedule};
 use occ_syntax::{Memory, Names};
 use std::alloc::Global;
@@ -50,7 +50,7 @@ fn show_places(
     machine: &Machine,
     moves: &[Move],
 ) -> Result<Vec<u8>, Memory>
-    requires state { is_state places.now.marked.program.params schedule.now.state ≡ true }
+    requires state { is_state places.now.marked.accepted.program.params schedule.now.state ≡ true }
     requires named { All (MoveIsNamed names.now) moves.now }
     ensures { IfOk result (λ text. Shows names.now moves.now text.items) }
 {
@@ -87,7 +87,7 @@ fn joined(before: Vec<u8>, listing: Listing, after: &[u8]) -> Result<Vec<u8>, Me
 
 /// Where the marked program is behind a schedule. A step that isn't there is passed over.
 fn point_behind<'p>(places: &'p Places, schedule: &Schedule) -> Result<Point<'p>, Memory>
-    requires { is_state places.now.marked.program.params schedule.now.state ≡ true }
+    requires { is_state places.now.marked.accepted.program.params schedule.now.state ≡ true }
 {
     let mut point = places.point(&schedule.state)?;
     for number in schedule.steps.items() {

@@ -1,11 +1,11 @@
 -- What files are answered with: what `run` says where it refuses them, or the steps.
 use Rattle.std.specs.Prelude.{ℕ, ◌≡◌, ◌≤◌, List, [], length, Option, Some, Ok, Vec}
 use Rattle.std.specs.declared.alloc.Global.{Global}
-use Rattle.occ_run.specs.Configurations.{Configuration, followed, moves_of, started}
-use Rattle.occ_run_schedule.specs.declared.schedule.Schedule.{Schedule}
-use Rattle.occ_run_schedule.specs.Schedules.{schedule_read}
+use Rattle.occ_stepped.specs.occ_run.Configurations.{Configuration, followed, moves_of, started}
+use Rattle.occ_stepped.specs.occ_run_schedule.declared.schedule.Schedule.{Schedule}
+use Rattle.occ_stepped.specs.occ_run_schedule.Schedules.{schedule_read}
 use Rattle.occ_stepped.specs.Shown.{IsStart, Shows}
-use Rattle.occ_syntax.specs.declared.scope.Program.{Program}
+use Rattle.occ_stepped.specs.occ_syntax.declared.scope.Program.{Program}
 use Rattle.occ_tool_run.specs.declared.accept.Refusal.{Refusal}
 use Rattle.occ_tool_run.specs.declared.answer.Answer.{Answer}
 use Rattle.occ_tool_run.specs.occ_behaviour.declared.behaviour.Side.TheVariants.{First}

@@ -2,14 +2,13 @@
 
 ghost use Rattle.std.specs.Prelude.{◌≡◌, ◌≤◌, ℕ, List, Option, Some, IfOk, length, true};
 ghost use Rattle.std.specs.List.{All};
-ghost use Rattle.occ_place.specs.Steps.{MoveIsNamed};
+ghost use Rattle.occ_stepped.specs.occ_place.Steps.{MoveIsNamed};
 ghost use Rattle.occ_tool_run.specs.occ_call.Files.{IsLoaded, IsShort, most_bytes};
 ghost use Rattle.occ_tool_run.specs.Judged.{HasInterface};
 ghost use Rattle.occ_steps.specs.Findings.{IsSayable, Lists, ListsAtStart};
 
 use crate::finding::Finding;
-use occ_run_schedule::Followed;
-use occ_stepped::{Led, Schedule, ScheduleFault, beginning, lead, read, show};
+use occ_stepped::{Followed, Led, Schedule, ScheduleFault, beginning, lead, read, show};
 use occ_tool_run::accept::{accept_first, refused};
 use occ_tool_run::answer::Answer;
 use occ_tool_run::{Accepted, Loaded, Memory, Names, Side};

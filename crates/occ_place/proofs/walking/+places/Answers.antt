@@ -1,5 +1,5 @@
 use Rattle.std.proofs.Common.{arith}
-use Rattle.occ_parse_unroll.proofs.Lines.{lines_at, lines-and}
+use Rattle.occ_parse.proofs.from_parse_unroll.Lines.{lines_at, lines-and}
 use Rattle.occ_place.proofs.walking.+places.Goals as goal
 
 pub slots-process-requires : goal.slots-process-requires

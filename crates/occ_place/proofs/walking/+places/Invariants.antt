@@ -1,6 +1,6 @@
 use Rattle.std.proofs.Common.{◌+◌, ◌*◌, ◌≤◌, drop}
 use Rattle.occ_parse_rules.specs.Forest.{forest}
-use Rattle.occ_parse_unroll.proofs.Lines.{lines}
+use Rattle.occ_parse.proofs.from_parse_unroll.Lines.{lines}
 use Rattle.occ_place.proofs.walking.+places.Given as goal
 
 abbrev pub decreases-slots : goal.decreases-slots
