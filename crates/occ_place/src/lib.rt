@@ -14,8 +14,6 @@ mod spans;
 mod standing;
 mod table;
 mod telling;
-#[cfg(test)]
-mod tests;
 mod walking;
 mod worth;
 

@@ -6,6 +6,5 @@ mod leading;
 mod showing;
 
 pub use leading::{Led, beginning, lead};
-pub use showing::show;
-
 pub use occ_run_schedule::{Followed, Schedule, ScheduleFault, read};
+pub use showing::show;
