@@ -1,0 +1,159 @@
+use crate::look::Look;
+use crate::others::push_other;
+use crate::parts::push_parts;
+use crate::phrases::{push_paragraph, push_set, push_state};
+use crate::route::{push_route, route, steps_in};
+use crate::subject::Subject;
+use crate::verdict::{push_deadlock, push_difference};
+use crate::waiting::{push_waits, ring_of, waits_of};
+use occ_behaviour::Last;
+use occ_place::{Point, Told, push_stands, stands};
+use occ_run::{held, is_over};
+use occ_syntax::{Kind, Memory, Name, push_number};
+
+/// What is told of: the program that has a behaviour, the schedule that leads it there, and the other one, looked through along the events
+/// of the behaviour; or none, where the program gets stuck.
+#[derive(Drop)]
+pub struct Case<'p> {
+    pub owner: Subject<'p>,
+    pub other: Option<(Subject<'p>, Look<'p>)>,
+    pub schedule: &'p [u8],
+    /// Whether what the other program does is told first.
+    pub is_turned: bool,
+}
+
+/// The text about a case; the program begins at that point. None where the schedule doesn't lead on.
+pub fn page<'p>(case: &Case<'p>, start: Point<'p>) -> Result<Option<Vec<u8>>, Memory> {
+    let owner = &case.owner;
+    let places = owner.places;
+    let alloc = places.alloc();
+    let steps = steps_in(alloc, case.schedule)?;
+    let Some((told, end)) = route(places, &start, &steps)? else {
+        return Ok(None);
+    };
+    let end = match end {
+        Some(end) => end,
+        None => start,
+    };
+    let mut text = Vec::new(alloc);
+    let stood = stands(places, &end)?;
+    let waits = waits_of(places, &stood)?;
+    match &case.other {
+        Some(_) => push_difference(&mut text, case)?,
+        None => {
+            let ring = ring_of(places, &stood, &waits)?;
+            push_deadlock(&mut text, owner, &stood, &waits, &ring)?;
+        }
+    }
+    push_parts(&mut text, owner)?;
+    push_how(&mut text, owner, &told)?;
+    if is_over(end.control()) {
+        push_ended(&mut text, owner, &end)?;
+    } else {
+        let which = if owner.has_parts() {
+            b"its parts stand".as_slice()
+        } else {
+            b"it stands"
+        };
+        text.extend_from_slice(b"\nThen ")?;
+        text.extend_from_slice(which)?;
+        text.extend_from_slice(b" so:\n\n")?;
+        push_stands(places, &mut text, &stood)?;
+        text.push(b'\n')?;
+        push_waits(&mut text, places, &stood, &waits)?;
+        push_offers(&mut text, owner, &end, true)?;
+    }
+    if let Some((other, look)) = &case.other {
+        push_other(&mut text, other, look)?;
+        push_smallest(&mut text, owner, other)?;
+    }
+    Ok(Some(text))
+}
+
+/// Adds how a program comes to its behaviour.
+fn push_how(text: &mut Vec<u8>, owner: &Subject, told: &[Told]) -> Result<(), Memory> {
+    text.extend_from_slice(b"\n")?;
+    if told.is_empty() {
+        text.extend_from_slice(owner.file)?;
+        text.extend_from_slice(b" comes to it without a step.\n")?;
+        return Ok(());
+    }
+    text.extend_from_slice(b"How ")?;
+    text.extend_from_slice(owner.file)?;
+    text.extend_from_slice(b" comes to it (")?;
+    push_number(text, told.len() as u64)?;
+    text.extend_from_slice(if told.len() == 1 { b" step" } else { b" steps" })?;
+    text.extend_from_slice(b"):\n\n")?;
+    push_route(text, owner.places, told)
+}
+
+/// The values of a program's parameters at a point.
+pub(crate) fn state_at(subject: &Subject, point: &Point) -> Result<Vec<(Name, u8)>, Memory> {
+    let mut state = Vec::new(subject.places.alloc());
+    for (name, kind) in subject.params {
+        if let Kind::Var(_) = kind {
+            state.push((*name, held(point.place().state(), *name)))?;
+        }
+    }
+    Ok(state)
+}
+
+/// Adds that a program has ended, with which values.
+pub(crate) fn push_ended(
+    text: &mut Vec<u8>,
+    subject: &Subject,
+    point: &Point,
+) -> Result<(), Memory> {
+    let alloc = subject.places.alloc();
+    let mut words = Vec::from_slice(alloc, b"Then it has ended")?;
+    let state = state_at(subject, point)?;
+    if !state.is_empty() {
+        words.extend_from_slice(b", with ")?;
+        push_state(&mut words, subject.places, &state)?;
+    }
+    words.push(b'.')?;
+    text.push(b'\n')?;
+    push_paragraph(alloc, text, &words, 0)
+}
+
+/// Adds which events a program offers at a point; of the program whose behaviour is told, that it refuses the rest.
+pub(crate) fn push_offers(
+    text: &mut Vec<u8>,
+    subject: &Subject,
+    point: &Point,
+    is_owner: bool,
+) -> Result<(), Memory> {
+    let alloc = subject.places.alloc();
+    let numbers = subject.offered(point)?;
+    if numbers.is_empty() {
+        text.extend_from_slice(b"  It offers nothing: it is stuck.\n")?;
+        return Ok(());
+    }
+    let mut words = Vec::from_slice(alloc, b"It offers ")?;
+    push_set(&mut words, subject.places, &subject.events_of(&numbers)?)?;
+    if is_owner && numbers.len() < subject.interface() {
+        words.extend_from_slice(b", and refuses the rest")?;
+    }
+    words.push(b'.')?;
+    push_paragraph(alloc, text, &words, 2)
+}
+
+/// Adds the smallest telling refusal.
+fn push_smallest(text: &mut Vec<u8>, owner: &Subject, other: &Subject) -> Result<(), Memory> {
+    let Last::Refuses(events) = &owner.behaviour.last else {
+        return Ok(());
+    };
+    if events.items().is_empty() {
+        return Ok(());
+    }
+    let alloc = owner.places.alloc();
+    let mut words = Vec::from_slice(alloc, b"Smallest telling refusal: ")?;
+    push_set(&mut words, owner.places, events.items())?;
+    words.extend_from_slice(b". ")?;
+    words.extend_from_slice(owner.file)?;
+    words.extend_from_slice(b" can refuse it there, ")?;
+    words.extend_from_slice(other.file)?;
+    words.extend_from_slice(b" can't.")?;
+    text.push(b'\n')?;
+    push_paragraph(alloc, text, &words, 0)
+}
