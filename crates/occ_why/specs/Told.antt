@@ -1,11 +1,14 @@
--- How what is told of a behaviour is written: a word, what stands behind it, and the lines of the behaviour.
-use Rattle.std.specs.Prelude.{ℕ, ◌≡◌, ◌==◌, ◌⊎◌, ◌++◌, ◌∷◌, List, [], Option, Some, codes, if◌then◌else◌}
+-- How what is told of a behaviour is written: a word, what stands behind it, and the lines of the behaviour; and which lines are chosen.
+use Rattle.std.specs.Prelude.{ℕ, ◌≡◌, ◌==◌, ◌⊎◌, ◌≤◌, ◌++◌, ◌∷◌, List, [], length, Option, codes, if◌then◌else◌}
 use Rattle.std.specs.List.{flat_map}
 use Rattle.occ_behaviour.specs.Texts.{text_of_behaviour}
 use Rattle.occ_behaviour.specs.declared.behaviour.Behaviour.{Behaviour}
-use Rattle.occ_tool_run.specs.occ_call.Files.{IsLoaded, most_bytes}
+use Rattle.occ_tool_run.specs.Judged.{IsAcceptedFrom}
+use Rattle.occ_tool_run.specs.occ_behaviour_read.Behaviours.{IsBehaviourText}
+use Rattle.occ_tool_run.specs.occ_behaviour_read.Claims.{bare_lines}
 use Rattle.occ_tool_run.specs.occ_call.declared.loading.Loaded.{Loaded}
-use Rattle.occ_witness.specs.Answers.{Answers as Witnessed}
+use Rattle.occ_tool_run.specs.occ_run_schedule.Witnesses.{HasIt}
+use Rattle.occ_tool_run.specs.occ_syntax.declared.scope.Program.{Program}
 
 -- a byte of lines that stand in two columns
 abbrev pub set_in : ℕ → List ℕ
@@ -20,17 +23,30 @@ pub record IsTold (word lines text : List ℕ) : Type 0 where
 abbrev pub AreLinesOf : List (List ℕ) → Behaviour → List ℕ → Type 0
 AreLinesOf names b lines = text_of_behaviour names b ≡ lines ++ codes "\n"
 
--- By `witness`, the one program has the behaviour of these lines, and a schedule shows it; the other hasn't.
-pub record AreTelling (owner other : Option (List ℕ)) (lines : List ℕ) : Type 0 where
-  pub schedule : List ℕ
-  pub no : List ℕ
-  pub has : Witnessed owner (Some lines) 0 schedule
-  pub lacks : Witnessed other (Some lines) 1 no
+-- The file holds an accepted program, and the lines are a behaviour of its interface.
+pub record IsClaimOf (loaded : Loaded) (lines : List ℕ) (p : Program) (b : Behaviour) : Type 0 where
+  pub names : List (List ℕ)
+  pub accepted : IsAcceptedFrom loaded [] names p
+  pub short : length lines ≤ 65536
+  pub written : IsBehaviourText names p.params b (bare_lines lines)
 
--- The chosen lines are the given ones, or telling.
+-- the program in the file has the behaviour of the lines
+pub record HasClaim (loaded : Loaded) (lines : List ℕ) : Type 0 where
+  pub program : Program
+  pub behaviour : Behaviour
+  pub claim : IsClaimOf loaded lines program behaviour
+  pub has : HasIt program behaviour
+
+-- the program in the file hasn't the behaviour of the lines
+pub record LacksClaim (loaded : Loaded) (lines : List ℕ) : Type 0 where
+  pub program : Program
+  pub behaviour : Behaviour
+  pub claim : IsClaimOf loaded lines program behaviour
+  pub lacks : HasIt program behaviour → ⊥
+
+-- The chosen lines are the given ones, or a behaviour that the one program has and the other hasn't.
 abbrev pub Choose : Loaded → Loaded → List ℕ → List ℕ → Type 0
-Choose owner other lines chosen = (chosen ≡ lines) ⊎ ((one two : Option (List ℕ)) → IsLoaded most_bytes one owner → IsLoaded most_bytes two other
-    → AreTelling one two chosen)
+Choose owner other lines chosen = (chosen ≡ lines) ⊎ (HasClaim owner chosen × LacksClaim other chosen)
 
 -- The text begins with DIFFER, and ends with lines that were chosen so.
 pub record TellAlone (owner other : Loaded) (lines text : List ℕ) : Type 0 where

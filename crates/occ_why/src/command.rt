@@ -1,22 +1,22 @@
 //! The answers to the command.
 
 ghost use Rattle.std.specs.Prelude.{◌≡◌, ◌≢◌, ◌⊎◌, ℕ, List, Option, IfOk};
+ghost use Rattle.occ_tool_run.specs.Answers.{Seeks, Settles};
+ghost use Rattle.occ_tool_run.specs.Texts.{IsPrintable, status_of, text_of};
+ghost use Rattle.occ_tool_run.specs.declared.answer.Answer.{Answer as Said};
+ghost use Rattle.occ_tool_run.specs.declared.judge.Question.TheVariants.{WhetherSame};
 ghost use Rattle.occ_tool_run.specs.occ_call.Files.{IsLoaded, IsShort, most_bytes};
 ghost use Rattle.occ_tool_run.specs.occ_call.Ran.{IsOwnStatus};
-ghost use Rattle.occ_tool_run.specs.Judged.{HasInterface};
-ghost use Rattle.occ_tool_run.specs.Stored.{seen};
-ghost use Rattle.occ_tool_run.specs.Texts.{IsPrintable, status_of, text_of};
-ghost use Rattle.occ_why.specs.Answers.{Answers, AnswersApart, IsCheckedOf, IsExplained};
+ghost use Rattle.occ_why.specs.Answers.{AnswersApart, AnswersStuck, IsChecked};
 
 use crate::explaining::{apart, stuck};
 use crate::given::Given;
 use crate::shown::lines_of;
 use occ_check::check;
-use occ_refine::deadlocked;
-use occ_tool_run::accept::{Refusal, accept_first};
 use occ_tool_run::answer::{Answer, status, text};
 use occ_tool_run::judge::{Question, judge};
-use occ_tool_run::{Accepted, Memory, Names, Reply, Side, Verdict};
+use occ_tool_run::stuck::seek;
+use occ_tool_run::{Memory, Reply, Side, Verdict};
 use std::alloc::Global;
 
 /// The reply to two files of programs: why they differ, and what tells them apart.
@@ -30,9 +30,11 @@ use std::alloc::Global;
 pub fn why_apart(alloc: Global, first: Given, second: Given) -> Result<Reply, Memory>
     requires first { IsShort most_bytes first.entry.text.now }
     requires second { IsShort most_bytes second.entry.text.now }
-    ensures answers { IfOk result (λ reply. (one two : Option (List ℕ)) → IsLoaded most_bytes one first.entry.text.now
-        → IsLoaded most_bytes two second.entry.text.now
-        → AnswersApart (first.entry.name.now, second.entry.name.now) one two reply.status reply.text.items) }
+    ensures answers { IfOk result (λ reply. (answer : Said)
+        × ((one two : Option (List ℕ)) → IsLoaded most_bytes one first.entry.text.now → IsLoaded most_bytes two second.entry.text.now
+            → Settles WhetherSame one two answer)
+        × AnswersApart (first.entry.name.now, second.entry.name.now) first.entry.text.now second.entry.text.now reply.status
+            reply.text.items answer) }
     ensures status { IfOk result (λ reply. IsOwnStatus reply.status) }
     ensures usage { IfOk result (λ reply. reply.status ≢ 2) }
 {
@@ -62,36 +64,23 @@ pub fn why_apart(alloc: Global, first: Given, second: Given) -> Result<Reply, Me
 /// | 3 | the file is refused | what `check` says of it |
 pub fn why(alloc: Global, program: Given) -> Result<Reply, Memory>
     requires { IsShort most_bytes program.entry.text.now }
-    ensures answers { IfOk result (λ reply. (file : Option (List ℕ)) → IsLoaded most_bytes file program.entry.text.now
-        → Answers program.entry.name.now file reply.status reply.text.items) }
+    ensures answers { IfOk result (λ reply. (answer : Said)
+        × ((file : Option (List ℕ)) → IsLoaded most_bytes file program.entry.text.now → Seeks file answer)
+        × AnswersStuck program.entry.name.now program.entry.text.now reply.status reply.text.items answer) }
     ensures status { IfOk result (λ reply. IsOwnStatus reply.status) }
     ensures usage { IfOk result (λ reply. reply.status ≢ 2) }
 {
-    let mut names = Names::new(alloc);
-    match accept_first(alloc, &mut names, program.text) {
-        Ok(accepted) => sought(alloc, names, &accepted, program),
-        Err(Refusal::Memory) => Err(Memory),
-        Err(_) => refused_alone(alloc, program),
+    let answer = seek(alloc, program.text)?;
+    if status(&answer) == 3 {
+        return refused_alone(alloc, program);
     }
-}
-
-/// The reply about an accepted program.
-fn sought(alloc: Global, names: Names, accepted: &Accepted, program: Given) -> Result<Reply, Memory>
-    requires short { IsShort most_bytes program.entry.text.now }
-    requires interface { HasInterface names accepted.now.program }
-    ensures explained { IfOk result (λ reply. IsExplained names (seen accepted.now.program) reply.status reply.text.items) }
-    ensures status { IfOk result (λ reply. (reply.status ≡ 0) ⊎ (reply.status ≡ 1)) }
-{
-    match deadlocked(alloc, accepted)? {
-        Some(behaviour) => {
+    match answer {
+        Answer::Sought(names, Some(behaviour)) => {
             let lines = lines_of(alloc, &names, &behaviour)?;
             let text = stuck(alloc, program, lines)?;
             Ok(Reply { status: 1, text })
         }
-        None => Ok(Reply {
-            status: 0,
-            text: Vec::from_slice(alloc, b"FREE\n")?,
-        }),
+        answer => said(alloc, answer),
     }
 }
 
@@ -110,7 +99,7 @@ fn said(alloc: Global, answer: Answer) -> Result<Reply, Memory>
 /// The reply to a file that is refused: what is wrong with it.
 fn refused_alone(alloc: Global, program: Given) -> Result<Reply, Memory>
     requires { IsShort most_bytes program.entry.text.now }
-    ensures checked { IfOk result (λ reply. IsCheckedOf program.entry.name.now program.entry.text.now reply.text.items) }
+    ensures checked { IfOk result (λ reply. IsChecked program.entry.name.now program.entry.text.now reply.text.items) }
     ensures status { IfOk result (λ reply. reply.status ≡ 3) }
 {
     let reply = check(alloc, program.name, program.text)?;
@@ -124,8 +113,8 @@ fn refused_alone(alloc: Global, program: Given) -> Result<Reply, Memory>
 fn refused(alloc: Global, first: Given, second: Given) -> Result<Reply, Memory>
     requires first { IsShort most_bytes first.entry.text.now }
     requires second { IsShort most_bytes second.entry.text.now }
-    ensures checked { IfOk result (λ reply. IsCheckedOf first.entry.name.now first.entry.text.now reply.text.items
-        ⊎ IsCheckedOf second.entry.name.now second.entry.text.now reply.text.items) }
+    ensures checked { IfOk result (λ reply. IsChecked first.entry.name.now first.entry.text.now reply.text.items
+        ⊎ IsChecked second.entry.name.now second.entry.text.now reply.text.items) }
     ensures status { IfOk result (λ reply. reply.status ≡ 3) }
 {
     let reply = check(alloc, first.name, first.text)?;

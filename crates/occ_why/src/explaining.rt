@@ -1,16 +1,14 @@
 //! Why a program has a behaviour, told.
 
-ghost use Rattle.std.specs.Prelude.{◌≡◌, ◌⊎◌, ℕ, List, Option, Some, codes, IfOk, IfSome};
-ghost use Rattle.occ_tool_run.specs.occ_call.Files.{IsLoaded, IsShort, most_bytes};
-ghost use Rattle.occ_witness.specs.Answers.{Answers as Witnessed};
-ghost use Rattle.occ_why.specs.Told.{IsTold, Choose, TellAlone};
+ghost use Rattle.std.specs.Prelude.{codes, IfOk};
+ghost use Rattle.occ_tool_run.specs.occ_call.Files.{IsShort, most_bytes};
+ghost use Rattle.occ_why.specs.Told.{Choose, IsTold, TellAlone};
 
 use crate::given::Given;
 use crate::reading::{Reading, read};
 use crate::shown::whole;
-use occ_tool_run::{Loaded, MOST_BYTES, Memory, Reply};
+use occ_tool_run::{Memory, Witness};
 use occ_why_text::{Case, look, page, refusing, smallest_refusal};
-use occ_witness::witness;
 use std::alloc::Global;
 
 /// The text about two programs that differ, of which the first alone has the behaviour of these lines.
@@ -48,20 +46,6 @@ fn behind(page: &[u8]) -> &[u8] {
     }
 }
 
-/// What `witness` says of a program and the lines of a behaviour; None where they are too long.
-fn witnessed(alloc: Global, program: &Loaded, lines: &[u8]) -> Result<Option<Reply>, Memory>
-    requires { IsShort most_bytes program.now }
-    ensures { IfOk result (λ found. IfSome found (λ reply. (one : Option (List ℕ)) → IsLoaded most_bytes one program.now
-        → Witnessed one (Some lines.now) reply.status reply.text.items)) }
-{
-    if lines.len() as u64 > MOST_BYTES {
-        return Ok(None);
-    }
-    let text = Loaded::Bytes(Vec::from_slice(alloc, lines)?);
-    let reply = witness(alloc, program, &text)?;
-    Ok(Some(reply))
-}
-
 /// The lines of the behaviour with the smallest telling refusal, where it is found and tells the programs apart; else these lines.
 fn telling(alloc: Global, owner: Given, other: Given, lines: Vec<u8>) -> Result<Vec<u8>, Memory>
     requires owner { IsShort most_bytes owner.entry.text.now }
@@ -71,13 +55,13 @@ fn telling(alloc: Global, owner: Given, other: Given, lines: Vec<u8>) -> Result<
     let Some(found) = smaller(alloc, owner, other, &lines)? else {
         return Ok(lines);
     };
-    let Some(shown) = witnessed(alloc, owner.text, &found)? else {
+    let Some(own) = read(alloc, owner.text, &found)? else {
         return Ok(lines);
     };
-    let Some(lacks) = witnessed(alloc, other.text, &found)? else {
+    let Some(others) = read(alloc, other.text, &found)? else {
         return Ok(lines);
     };
-    if shown.status == 0 && lacks.status == 1 {
+    if own.has_it(alloc)? && !others.has_it(alloc)? {
         Ok(found)
     } else {
         Ok(lines)
@@ -127,7 +111,7 @@ fn page_apart(
     let Some(others) = read(alloc, other.text, lines)? else {
         return Ok(Vec::new(alloc));
     };
-    let Some(schedule) = witnessed(alloc, owner.text, lines)? else {
+    let Witness::Schedule(schedule) = own.witness(alloc)? else {
         return Ok(Vec::new(alloc));
     };
     let two = others.subject(other.name);
@@ -135,7 +119,7 @@ fn page_apart(
     let case = Case {
         owner: own.subject(owner.name),
         other: Some((two, other_look)),
-        schedule: schedule.text.as_slice(),
+        schedule: schedule.as_slice(),
         is_turned,
     };
     paged(alloc, &case, &own)
@@ -148,13 +132,13 @@ fn page_stuck(alloc: Global, program: Given, lines: &[u8]) -> Result<Vec<u8>, Me
     let Some(own) = read(alloc, program.text, lines)? else {
         return Ok(Vec::new(alloc));
     };
-    let Some(schedule) = witnessed(alloc, program.text, lines)? else {
+    let Witness::Schedule(schedule) = own.witness(alloc)? else {
         return Ok(Vec::new(alloc));
     };
     let case = Case {
         owner: own.subject(program.name),
         other: None,
-        schedule: schedule.text.as_slice(),
+        schedule: schedule.as_slice(),
         is_turned: false,
     };
     paged(alloc, &case, &own)

@@ -6,7 +6,7 @@ use crate::route::{push_route, route, steps_in};
 use crate::subject::Subject;
 use crate::verdict::{push_deadlock, push_difference};
 use crate::waiting::{push_waits, ring_of, waits_of};
-use occ_behaviour::Last;
+use occ_run::Last;
 use occ_place::{Point, Told, push_stands, stands};
 use occ_run::{held, is_over};
 use occ_syntax::{Kind, Memory, Name, push_number};

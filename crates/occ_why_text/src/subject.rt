@@ -1,5 +1,5 @@
-use occ_behaviour::{Behaviour, place_in};
 use occ_place::{Offer, Places, Point};
+use occ_run::Behaviour;
 use occ_syntax::{Dir, Event, Kind, Memory, Name};
 
 /// A program of which is told: the name of its file, its places, its parameters, and a behaviour.
@@ -17,15 +17,16 @@ impl<'p> Subject<'p> {
         self.places.layout.parts.len() > 1
     }
 
-    /// Whether a channel is the outside's.
-    pub(crate) fn is_outside(&self, chan: Name) -> bool {
-        place_in(self.params, chan) < self.params.len()
-    }
-
     /// The number of an event among all of the interface, in the order of what is written.
     fn number_of(&self, event: Event) -> u32 {
-        let place = place_in(self.params, event.chan).min(0xffff);
-        (place as u32) * 256 + u32::from(event.value)
+        let mut place: u32 = 0;
+        for (name, _) in self.params {
+            if *name == event.chan {
+                break;
+            }
+            place = place.saturating_add(256);
+        }
+        place.saturating_add(u32::from(event.value))
     }
 
     /// The event of a number.

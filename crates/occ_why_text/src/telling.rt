@@ -1,7 +1,7 @@
 use crate::look::Look;
 use crate::phrases::push_event;
 use crate::subject::Subject;
-use occ_behaviour::Last;
+use occ_run::Last;
 use occ_syntax::{Event, Events, Memory};
 use std::alloc::Global;
 
