@@ -2,6 +2,7 @@ use crate::places::Places;
 use crate::walking::NOWHERE;
 use occ_run::{Control, Effect, Next, Offer, Point, effect_on, held, inside, value_inside};
 use occ_syntax::{Guard, Memory, Name, Proc, Wait, Width};
+use std::rc::Rc;
 
 /// What is done in a step by one process.
 #[derive(Clone, Copy, Debug, PartialEq, Eq)]
@@ -42,7 +43,7 @@ pub struct Told {
 
 impl Told {
     /// Whether another step is the same with the next value.
-    pub fn goes_on(&self, value: u8, next: &Told) -> bool {
+    pub fn goes_on(&self, next: &Told) -> bool {
         let ranges = match self.first.deed {
             Deed::Begin(_) | Deed::Input(_, _) => true,
             Deed::Assign | Deed::Choose | Deed::Output(_) => false,
@@ -51,7 +52,7 @@ impl Told {
             && self.first == next.first
             && self.second.is_none()
             && next.second.is_none()
-            && value.checked_add(1) == Some(next.value)
+            && self.value.checked_add(1) == Some(next.value)
     }
 }
 
@@ -150,14 +151,7 @@ impl<'p, 'o> Descent<'p, 'o> {
             }
             Control::Output { chan, .. } => self.act(here, NOWHERE, Deed::Output(*chan)),
             Control::After(body, _) => self.control(body, effect, here),
-            Control::Both(parts) => {
-                for (index, part) in parts.iter().enumerate() {
-                    if let Some(effect) = effect_on(effect, index) {
-                        self.control(part, effect, here)?;
-                    }
-                }
-                Ok(())
-            }
+            Control::Both(parts) => self.parts(parts, effect, here),
             Control::Local {
                 name,
                 value,
@@ -173,6 +167,26 @@ impl<'p, 'o> Descent<'p, 'o> {
                 self.control(body, effect, mark_in(self.places, *first, more, here))
             }
         }
+    }
+
+    /// Goes down those of controls at once that change.
+    #[cycle(descend)]
+    fn parts(
+        &mut self,
+        parts: &[Rc<Control<'p>>],
+        effect: &Effect<'p>,
+        here: usize,
+    ) -> Result<(), Memory> {
+        let mut index: usize = 0;
+        let mut rest = parts;
+        while let [part, later @ ..] = rest {
+            if let Some(effect) = effect_on(effect, index) {
+                self.control(part, effect, here)?;
+            }
+            index = index.saturating_add(1);
+            rest = later;
+        }
+        Ok(())
     }
 
     fn act(&mut self, site: usize, branch: usize, deed: Deed) -> Result<(), Memory> {

@@ -4,9 +4,13 @@
 mod cells;
 mod doing;
 mod layout;
+mod listing;
 mod marking;
 mod places;
+mod row;
+mod rows;
 mod source;
+mod spans;
 mod standing;
 mod table;
 mod telling;
@@ -19,10 +23,14 @@ pub use cells::{
     event_cell, line_cell, part_name, push_values, statement_cell, values_cell, who_cell,
 };
 pub use doing::{Act, Deed, Told, tell};
+pub use listing::{Listing, list_steps, told_at};
 pub use marking::End;
 pub use occ_run::{Accepted, Effect, Move, Offer, Point};
-pub use places::Places;
+pub use places::{Marked, Places};
+pub use row::Row;
+pub use rows::push_rows;
 pub use source::Source;
+pub use spans::{Span, spans_of};
 pub use standing::{Stand, Way, stands};
 pub use table::{Columns, Line, push_table};
 pub use telling::{channel, push_part, push_stands, way_cell};

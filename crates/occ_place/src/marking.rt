@@ -79,6 +79,7 @@ impl<'l> Marker<'l> {
         copy.within(self.alloc, declarations.items())
     }
 
+    #[tactic(auto, unfolding(crate::specs::tree))]
     #[cycle(mark)]
     fn undeclared(&mut self, part: &Proc, number: usize) -> Result<Proc, Memory> {
         match part {

@@ -14,59 +14,80 @@ use occ_syntax::{Memory, Name, Names, Program, State};
 use occ_usage::keeps;
 use std::alloc::Global;
 
+/// A marked copy of a program that keeps the rules, and who uses which end of a channel.
+#[derive(Drop)]
+pub struct Marked {
+    pub program: Program,
+    pub ends: Vec<End>,
+    pub ghost kept: { KeepsRules program },
+}
+
+/// The marked copy of a program. None where it keeps the rules no more, which can't be.
+fn marked_copy(
+    alloc: Global,
+    layout: &Layout,
+    base: usize,
+    program: &Program,
+) -> Result<Option<Marked>, Memory>
+    ensures { IfOk result (λ found. IfSome found (λ marked. marked.program.params ≡ program.now.params)) }
+{
+    let mut marker = Marker {
+        alloc,
+        layout,
+        base,
+        next: 0,
+        ends: Vec::new(alloc),
+    };
+    let program = marker.program(program)?;
+    let Marker { ends, .. } = marker;
+    if !keeps(alloc, &program)? {
+        return Ok(None);
+    }
+    Ok(Some(Marked { program, ends }))
+}
+
 /// A program with the places of its text. Its steps are those of a marked copy, in which channels that nothing uses tell where each
 /// part stands; they make no step.
 #[derive(Drop)]
 pub struct Places {
     pub(crate) alloc: Global,
-    pub(crate) marked: Program,
+    pub marked: Marked,
     pub(crate) base: usize,
     pub layout: Layout,
     pub source: Source,
-    pub ends: Vec<End>,
     texts: Vec<Vec<u8>>,
-    pub ghost kept: { KeepsRules marked },
 }
 
 impl Places {
     /// The places of an accepted program, by its text. None where the text isn't that program's.
     pub fn of(alloc: Global, text: &[u8], program: &Program) -> Result<Option<Places>, Memory>
         requires { length text.now < 4294967295 }
-        ensures { IfOk result (λ found. IfSome found (λ places. places.marked.params ≡ program.now.params)) }
+        ensures { IfOk result (λ found. IfSome found (λ places. places.marked.program.params ≡ program.now.params)) }
     {
         let mut names = Names::new(alloc);
         let Some(layout) = layout_of(alloc, &mut names, text)? else {
             return Ok(None);
         };
         let texts = texts_of(alloc, names)?;
-        let mut marker = Marker {
-            alloc,
-            layout: &layout,
-            base: texts.len(),
-            next: 0,
-            ends: Vec::new(alloc),
-        };
-        let marked = marker.program(program)?;
-        let Marker { ends, base, .. } = marker;
-        if !keeps(alloc, &marked)? {
+        let base = texts.len();
+        let Some(marked) = marked_copy(alloc, &layout, base, program)? else {
             return Ok(None);
-        }
+        };
         Ok(Some(Places {
             alloc,
             marked,
             base,
             layout,
             source: Source::new(alloc, text)?,
-            ends,
             texts,
         }))
     }
 
     /// Where the program stands before its first step, in a state of its parameters. Its steps have the numbers of the program's.
     pub fn point(&self, state: &State) -> Result<Point<'_>, Memory>
-        requires { is_state self.now.marked.params state.now ≡ true }
+        requires { is_state self.now.marked.program.params state.now ≡ true }
     {
-        point_of(self.alloc, &self.marked, state)
+        point_of(self.alloc, &self.marked.program, state)
     }
 
     /// The text of a name of the program.
@@ -79,7 +100,7 @@ impl Places {
 
     /// Whether the outside has the other end of a channel.
     pub fn is_outside(&self, chan: Name) -> bool {
-        for (name, _) in self.marked.params.items() {
+        for (name, _) in self.marked.program.params.items() {
             if *name == chan {
                 return true;
             }

@@ -79,11 +79,12 @@ fn trimmed_end(line: &[u8]) -> &[u8] {
 }
 
 fn front_of_comment(line: &[u8]) -> &[u8] {
-    let mut len = 0;
-    while len < line.len() && !line[len..].starts_with(b"--") {
-        len += 1;
+    for (len, _) in line.iter().enumerate() {
+        if line[len..].starts_with(b"--") {
+            return &line[..len];
+        }
     }
-    &line[..len]
+    line
 }
 
 /// Whether a word stands in a line, not as a piece of a longer one.
@@ -91,7 +92,7 @@ fn has_word(line: &[u8], word: &[u8]) -> bool {
     let mut rest = line;
     let mut inside = false;
     while let [first, later @ ..] = rest {
-        if !inside && rest.starts_with(word) && !goes_on(&rest[word.len()..]) {
+        if !inside && begins_with(rest, word) {
             return true;
         }
         inside = is_of_word(*first);
@@ -100,10 +101,23 @@ fn has_word(line: &[u8], word: &[u8]) -> bool {
     false
 }
 
-fn goes_on(rest: &[u8]) -> bool {
+/// Whether a text begins with a word that doesn't go on.
+fn begins_with(text: &[u8], word: &[u8]) -> bool {
+    let mut rest = text;
+    let mut left = word;
+    while let [byte, more @ ..] = left {
+        let [first, later @ ..] = rest else {
+            return false;
+        };
+        if first != byte {
+            return false;
+        }
+        rest = later;
+        left = more;
+    }
     match rest {
-        [first, ..] => is_of_word(*first),
-        [] => false,
+        [first, ..] => !is_of_word(*first),
+        [] => true,
     }
 }
 

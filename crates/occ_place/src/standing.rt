@@ -102,8 +102,10 @@ impl<'p> Survey<'p> {
     #[cycle(survey)]
     fn parts(&mut self, parts: &[Rc<Control<'p>>], here: usize) -> Result<(), Memory> {
         let own = self.held.len();
-        for part in parts {
+        let mut rest = parts;
+        while let [part, later @ ..] = rest {
             self.control(part, here, own)?;
+            rest = later;
         }
         Ok(())
     }

@@ -1,3 +1,4 @@
+use crate::rows::push_spaces;
 use occ_syntax::Memory;
 use std::alloc::Global;
 
@@ -26,33 +27,43 @@ pub fn push_table(
     lines: &[Line],
     columns: Columns,
 ) -> Result<(), Memory> {
-    let mut widths = widths_of(alloc, lines)?;
-    narrow(&mut widths, columns.cut);
+    let widths = widths_of(alloc, lines, columns)?;
     for line in lines {
         push_line(text, line, &widths, columns)?;
+        text.push(b'\n')?;
     }
     Ok(())
 }
 
-fn widths_of(alloc: Global, lines: &[Line]) -> Result<Vec<usize>, Memory> {
+/// The widths of the columns, by the heads and the lines.
+pub(crate) fn widths_of(
+    alloc: Global,
+    lines: &[Line],
+    columns: Columns,
+) -> Result<Vec<usize>, Memory> {
     let mut widths = Vec::new(alloc);
-    let Some(heads) = lines.first() else {
-        return Ok(widths);
-    };
-    for _ in &heads.cells {
-        widths.push(0usize)?;
+    if let Some(heads) = lines.first() {
+        for _ in &heads.cells {
+            widths.push(0)?;
+        }
     }
     for line in lines {
-        for (place, cell) in line.cells.iter().enumerate() {
-            let spans = place + 1 == line.cells.len() && line.cells.len() < widths.len();
+        widen(&mut widths, line);
+    }
+    narrow(&mut widths, columns.cut);
+    Ok(widths)
+}
+
+fn widen(widths: &mut Vec<usize>, line: &Line) {
+    let many = widths.len();
+    for (place, cell) in line.cells.iter().enumerate() {
+        let spans = place + 1 == line.cells.len() && line.cells.len() < many;
+        if let Some(width) = widths.get_mut(place) {
             if !spans {
-                if let Some(width) = widths.get_mut(place) {
-                    *width = (*width).max(cell.len());
-                }
+                *width = (*width).max(cell.len());
             }
         }
     }
-    Ok(widths)
 }
 
 /// Takes from the width of the column that is cut what lines have too much.
@@ -66,7 +77,8 @@ fn narrow(widths: &mut Vec<usize>, cut: usize) {
     }
 }
 
-fn push_line(
+/// Adds the cells of a line.
+pub(crate) fn push_line(
     text: &mut Vec<u8>,
     line: &Line,
     widths: &[usize],
@@ -90,7 +102,6 @@ fn push_line(
             )?;
         }
     }
-    text.push(b'\n')?;
     Ok(())
 }
 
@@ -114,11 +125,4 @@ fn push_cell(
     }
     text.extend_from_slice(cell)?;
     Ok(space)
-}
-
-fn push_spaces(text: &mut Vec<u8>, count: usize) -> Result<(), Memory> {
-    for _ in 0..count {
-        text.push(b' ')?;
-    }
-    Ok(())
 }

@@ -1,3 +1,5 @@
+ghost use Rattle.std.specs.Prelude.{◌≤◌, length};
+
 use crate::cells::{part_name, push_values};
 use crate::places::Places;
 use crate::standing::{Stand, Way};
@@ -13,9 +15,9 @@ pub fn push_stands(places: &Places, text: &mut Vec<u8>, stands: &[Stand]) -> Res
     lines.push(heads(alloc)?)?;
     let mut rest = stands;
     while let [first, later @ ..] = rest {
-        let count = alike(places, first, later);
+        let (count, behind) = alike(places, first, later);
         push_stand(places, &mut lines, first, count)?;
-        rest = &later[count..];
+        rest = behind;
     }
     let columns = Columns { right: 2, cut: 9 };
     push_table(alloc, text, &lines, columns)
@@ -30,17 +32,21 @@ fn heads(alloc: Global) -> Result<Line, Memory> {
     Ok(Line { cells })
 }
 
-/// How many of the later stands are those of the next copies, and alike.
-fn alike(places: &Places, first: &Stand, later: &[Stand]) -> usize {
+/// How many of the later stands are those of the next copies, and alike; and those behind them.
+fn alike<'s>(places: &Places, first: &Stand, later: &'s [Stand]) -> (usize, &'s [Stand])
+    ensures { length result.1.now ≤ length later.now }
+{
     let mut count: usize = 0;
-    for stand in later {
+    let mut rest = later;
+    while let [stand, behind @ ..] = rest {
         let follows = places.layout.follows(first.part, stand.part, count);
         if !follows || !stands_alike(first, stand) {
-            return count;
+            return (count, rest);
         }
-        count += 1;
+        count = count.saturating_add(1);
+        rest = behind;
     }
-    count
+    (count, rest)
 }
 
 fn stands_alike(one: &Stand, other: &Stand) -> bool {
@@ -58,7 +64,7 @@ fn push_stand(
     let mut rest = stand.ways.as_slice();
     let mut is_first = true;
     while let [first, later @ ..] = rest {
-        let more = in_row(places, *first, later);
+        let (more, behind) = in_row(places, *first, later);
         let mut part = Vec::new(alloc);
         let mut line = Vec::new(alloc);
         let mut values = Vec::new(alloc);
@@ -77,7 +83,7 @@ fn push_stand(
         cells.push(values)?;
         lines.push(Line { cells })?;
         is_first = false;
-        rest = &later[more..];
+        rest = behind;
     }
     Ok(())
 }
@@ -92,8 +98,8 @@ pub fn push_part(
     let name = part_name(places, part);
     if let Some(entry) = places.layout.parts.get(part) {
         if let Some(copy) = entry.copy {
-            if count > 0 {
-                text.extend_from_slice(&name[..entry.stem.min(name.len())])?;
+            if count > 0 && entry.stem <= name.len() {
+                text.extend_from_slice(&name[..entry.stem])?;
                 text.push(b'[')?;
                 push_number(text, u64::from(copy))?;
                 text.extend_from_slice(b"..")?;
@@ -109,41 +115,56 @@ pub fn push_part(
 
 /// The name of an array and the place of its element that a text is.
 fn element(text: &[u8]) -> Option<(&[u8], u32)> {
-    let mut len = 0;
-    while len < text.len() && text[len] != b'[' {
-        len += 1;
-    }
-    if len == text.len() {
-        return None;
-    }
-    let mut number: u32 = 0;
-    for byte in &text[len..] {
-        if byte.is_ascii_digit() {
-            number = number
-                .saturating_mul(10)
-                .saturating_add(u32::from(*byte - b'0'));
+    for (len, byte) in text.iter().enumerate() {
+        if *byte == b'[' {
+            return Some((&text[..len], number_in(&text[len..])));
         }
     }
-    Some((&text[..len], number))
+    None
 }
 
-/// How many of the later ways are the same on the next elements of an array, on the same line.
-fn in_row(places: &Places, first: (Way, u32), later: &[(Way, u32)]) -> usize {
-    let Some(chan) = channel(first.0) else {
-        return 0;
-    };
-    let mut count: usize = 0;
-    for way in later {
-        let Some(next) = channel(way.0) else {
-            return count;
-        };
-        let same = way.1 == first.1 && on(way.0, chan) == first.0;
-        if !same || !follows(places.text(chan), places.text(next), count) {
-            return count;
+/// The number that the digits of a text are.
+fn number_in(text: &[u8]) -> u32 {
+    let mut number: u32 = 0;
+    for byte in text {
+        if byte.is_ascii_digit() {
+            let digit = u32::from(byte.saturating_sub(b'0'));
+            number = number.saturating_mul(10).saturating_add(digit);
         }
-        count += 1;
     }
-    count
+    number
+}
+
+/// How many of the later ways are the same on the next elements of an array, on the same line; and those behind them.
+fn in_row<'w>(
+    places: &Places,
+    first: (Way, u32),
+    later: &'w [(Way, u32)],
+) -> (usize, &'w [(Way, u32)])
+    ensures { length result.1.now ≤ length later.now }
+{
+    let mut count: usize = 0;
+    let mut rest = later;
+    while let [way, behind @ ..] = rest {
+        if !is_next(places, first, *way, count) {
+            return (count, rest);
+        }
+        count = count.saturating_add(1);
+        rest = behind;
+    }
+    (count, rest)
+}
+
+/// Whether a way is the same as another one, on the element of that order behind its own.
+fn is_next(places: &Places, first: (Way, u32), way: (Way, u32), count: usize) -> bool {
+    let Some(chan) = channel(first.0) else {
+        return false;
+    };
+    let Some(next) = channel(way.0) else {
+        return false;
+    };
+    let same = way.1 == first.1 && on(way.0, chan) == first.0;
+    same && follows(places.text(chan), places.text(next), count)
 }
 
 fn follows(first: &[u8], next: &[u8], count: usize) -> bool {
@@ -153,7 +174,11 @@ fn follows(first: &[u8], next: &[u8], count: usize) -> bool {
     let Some((other, later)) = element(next) else {
         return false;
     };
-    array == other && u64::from(later) == u64::from(place).saturating_add(count as u64 + 1)
+    array == other
+        && u64::from(later)
+            == u64::from(place)
+                .saturating_add(count as u64)
+                .saturating_add(1)
 }
 
 /// The channel of a way.

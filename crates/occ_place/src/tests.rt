@@ -1,6 +1,4 @@
-use crate::{
-    Places, event_cell, line_cell, push_stands, stands, statement_cell, tell, values_cell, who_cell,
-};
+use crate::{Move, Places, list_steps, push_stands, stands, told_at};
 use occ_parse::{Bound, parse};
 use occ_syntax::{Memory, Names, State};
 use std::alloc::Global;
@@ -24,21 +22,18 @@ fn show(alloc: Global, text: &[u8], steps: &[usize]) -> Result<Vec<u8>, Memory> 
         point = point.after(&offers[*n])?;
     }
     let mut out = Vec::new(alloc);
+    let told = told_at(&places, &point)?;
+    let mut moves = Vec::new(alloc);
     for offer in &point.offers()? {
-        let Some(told) = tell(&places, &point, offer)? else {
-            return Err(Memory);
-        };
-        out.extend_from_slice(&event_cell(&places, &told, told.value)?)?;
-        out.push(b'|')?;
-        out.extend_from_slice(&who_cell(&places, &told)?)?;
-        out.push(b'|')?;
-        out.extend_from_slice(&line_cell(&places, &told)?)?;
-        out.push(b'|')?;
-        out.extend_from_slice(&statement_cell(&places, &told)?)?;
-        out.push(b'|')?;
-        out.extend_from_slice(&values_cell(&places, &told, told.value)?)?;
-        out.push(b'\n')?;
+        match offer.event {
+            Some(event) => moves.push(Move::Seen(event))?,
+            None => moves.push(Move::Unseen)?,
+        }
     }
+    let listing = list_steps(alloc, &names, &moves, Some(&places), &told)?;
+    out.extend_from_slice(&listing.heads)?;
+    out.push(b'\n')?;
+    out.extend_from_slice(&listing.rows)?;
     push_stands(&places, &mut out, &stands(&places, &point)?)?;
     Ok(out)
 }

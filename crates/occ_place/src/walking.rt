@@ -272,7 +272,7 @@ fn slots(alloc: Global, layout: &mut Layout, nodes: &[Node], here: Here) -> Resu
                 layout.site(line, inside, is_variable(form))?;
             }
         } else {
-            process(alloc, layout, node, inside)?;
+            process(alloc, layout, (line, form, below), inside)?;
             open = false;
         }
     }
@@ -280,32 +280,37 @@ fn slots(alloc: Global, layout: &mut Layout, nodes: &[Node], here: Here) -> Resu
 }
 
 #[cycle(places)]
-fn process(alloc: Global, layout: &mut Layout, node: &Node, here: Here) -> Result<(), Memory> {
-    let (line, form, below) = node.seen();
-    match form {
-        Form::Group { group, .. } => {
-            let acts = matches!(group, Group::If | Group::Alt);
-            let number = layout.site(line, here, acts)?;
-            let inside = match group {
-                Group::Par => Here {
-                    par: number,
-                    header: line,
-                    copy: None,
-                    ..here
-                },
-                _ => here,
-            };
-            if acts {
-                option_copies(alloc, layout, (form, below), inside, number)
-            } else {
-                slot_copies(alloc, layout, (form, below), inside)
-            }
-        }
-        _ => {
-            let acts = !matches!(form, Form::Skip);
-            layout.site(line, here, acts)?;
-            Ok(())
-        }
+fn process(
+    alloc: Global,
+    layout: &mut Layout,
+    node: (u32, &Form, &[Node]),
+    here: Here,
+) -> Result<(), Memory> {
+    let (line, form, below) = node;
+    let Form::Group { group, .. } = form else {
+        layout.site(line, here, !matches!(form, Form::Skip))?;
+        return Ok(());
+    };
+    let acts = matches!(group, Group::If | Group::Alt);
+    let number = layout.site(line, here, acts)?;
+    let inside = inside_of(*group, here, number, line);
+    if acts {
+        option_copies(alloc, layout, (form, below), inside, number)
+    } else {
+        slot_copies(alloc, layout, (form, below), inside)
+    }
+}
+
+/// Where the lines below a construct stand.
+fn inside_of(group: Group, here: Here, number: usize, line: u32) -> Here {
+    match group {
+        Group::Par => Here {
+            par: number,
+            header: line,
+            copy: None,
+            ..here
+        },
+        _ => here,
     }
 }
 
