@@ -32,9 +32,9 @@ pub fn why_apart(alloc: Global, first: Given, second: Given) -> Result<Reply, Me
     requires second { IsShort most_bytes second.entry.text.now }
     ensures answers { IfOk result (λ reply. (answer : Said)
         × ((one two : Option (List ℕ)) → IsLoaded most_bytes one first.entry.text.now → IsLoaded most_bytes two second.entry.text.now
-            → Settles WhetherSame one two answer)
+        → Settles WhetherSame one two answer)
         × AnswersApart (first.entry.name.now, second.entry.name.now) first.entry.text.now second.entry.text.now reply.status
-            reply.text.items answer) }
+        reply.text.items answer) }
     ensures status { IfOk result (λ reply. IsOwnStatus reply.status) }
     ensures usage { IfOk result (λ reply. reply.status ≢ 2) }
 {

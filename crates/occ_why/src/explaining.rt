@@ -23,8 +23,12 @@ pub(crate) fn apart(
     requires other { IsShort most_bytes other.entry.text.now }
     ensures { IfOk result (λ text. TellAlone owner.entry.text.now other.entry.text.now lines.entry.items text.items) }
 {
+    let first = Vec::from_slice(alloc, &lines)?;
     let lines = telling(alloc, owner, other, lines)?;
-    let page = page_apart(alloc, owner, other, &lines, is_turned)?;
+    let mut page = page_apart(alloc, owner, other, (&lines, &first), is_turned)?;
+    if page.is_empty() {
+        page = page_apart(alloc, owner, other, (&lines, &lines), is_turned)?;
+    }
     whole(alloc, b"DIFFER", behind(&page), &lines)
 }
 
@@ -94,24 +98,28 @@ fn smaller(
     }
 }
 
-/// The page about two programs; an empty one where it can't be made.
+/// The page about two programs and the behaviour of the first lines, by the schedule that shows the behaviour of the second lines; an empty
+/// one where it can't be made, or that schedule doesn't show the first behaviour.
 fn page_apart(
     alloc: Global,
     owner: Given,
     other: Given,
-    lines: &[u8],
+    lines: (&[u8], &[u8]),
     is_turned: bool,
 ) -> Result<Vec<u8>, Memory>
     requires owner { IsShort most_bytes owner.entry.text.now }
     requires other { IsShort most_bytes other.entry.text.now }
 {
-    let Some(own) = read(alloc, owner.text, lines)? else {
+    let Some(own) = read(alloc, owner.text, lines.0)? else {
         return Ok(Vec::new(alloc));
     };
-    let Some(others) = read(alloc, other.text, lines)? else {
+    let Some(others) = read(alloc, other.text, lines.0)? else {
         return Ok(Vec::new(alloc));
     };
-    let Witness::Schedule(schedule) = own.witness(alloc)? else {
+    let Some(shown) = read(alloc, owner.text, lines.1)? else {
+        return Ok(Vec::new(alloc));
+    };
+    let Witness::Schedule(schedule) = shown.witness(alloc)? else {
         return Ok(Vec::new(alloc));
     };
     let two = others.subject(other.name);

@@ -25,7 +25,7 @@ pub(crate) struct Reading {
     accepted: Accepted,
     behaviour: Behaviour,
     places: Places,
-    ghost state: { is_state places.marked.params behaviour.state ≡ true },
+    ghost state: { is_state places.marked.program.params behaviour.state ≡ true },
     ghost wide: { ∥ HaveWidths accepted.program.params ∥₁ },
     ghost states: { ∥ IsOf accepted.program.params behaviour ∥₁ },
     ghost events: { ∥ IsWithin accepted.program.params behaviour.last ∥₁ },

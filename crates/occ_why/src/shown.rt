@@ -19,7 +19,9 @@ pub(crate) fn lines_of(
     ensures { IfOk result (λ lines. AreLinesOf names.now behaviour.now lines.items) }
 {
     let mut text = behaviour_text(alloc, names, behaviour)?;
-    let _end = text.pop();
+    let Some(_end) = text.pop() else {
+        unreachable!();
+    };
     Ok(text)
 }
 

@@ -6,9 +6,9 @@ use crate::route::{push_route, route, steps_in};
 use crate::subject::Subject;
 use crate::verdict::{push_deadlock, push_difference};
 use crate::waiting::{push_waits, ring_of, waits_of};
-use occ_run::Last;
+use occ_member::{has_ended, refuses};
 use occ_place::{Point, Told, push_stands, stands};
-use occ_run::{held, is_over};
+use occ_run::{Last, held, is_over};
 use occ_syntax::{Kind, Memory, Name, push_number};
 
 /// What is told of: the program that has a behaviour, the schedule that leads it there, and the other one, looked through along the events
@@ -22,7 +22,7 @@ pub struct Case<'p> {
     pub is_turned: bool,
 }
 
-/// The text about a case; the program begins at that point. None where the schedule doesn't lead on.
+/// The text about a case; the program begins at that point. None where the schedule doesn't lead to the behaviour.
 pub fn page<'p>(case: &Case<'p>, start: Point<'p>) -> Result<Option<Vec<u8>>, Memory> {
     let owner = &case.owner;
     let places = owner.places;
@@ -35,6 +35,9 @@ pub fn page<'p>(case: &Case<'p>, start: Point<'p>) -> Result<Option<Vec<u8>>, Me
         Some(end) => end,
         None => start,
     };
+    if !shows(owner, &end)? {
+        return Ok(None);
+    }
     let mut text = Vec::new(alloc);
     let stood = stands(places, &end)?;
     let waits = waits_of(places, &stood)?;
@@ -68,6 +71,14 @@ pub fn page<'p>(case: &Case<'p>, start: Point<'p>) -> Result<Option<Vec<u8>>, Me
         push_smallest(&mut text, owner, other)?;
     }
     Ok(Some(text))
+}
+
+/// Whether a program stands as the last line of its behaviour says.
+fn shows(owner: &Subject, end: &Point) -> Result<bool, Memory> {
+    match &owner.behaviour.last {
+        Last::Refuses(events) => refuses(end, events.items()),
+        Last::Ends(state) => Ok(has_ended(end, state.items())),
+    }
 }
 
 /// Adds how a program comes to its behaviour.

@@ -2,6 +2,9 @@ use crate::subject::Subject;
 use occ_place::{Columns, Line, NOWHERE, Part, Places, push_part, push_table};
 use occ_syntax::{Memory, push_number};
 
+/// How many characters of a comment are shown at most.
+const MOST_SHOWN: usize = 58;
+
 /// Adds the parts of a program, where it has any: their names, lines, copies and comments.
 pub(crate) fn push_parts(text: &mut Vec<u8>, subject: &Subject) -> Result<(), Memory> {
     if !subject.has_parts() {
@@ -84,11 +87,14 @@ fn line_of(places: &Places, group: (usize, usize), copies: bool) -> Result<Line,
         push_lines(&mut lines, part.first, part.last)?;
         push_index(&mut index, places, part, group.1)?;
         let above = places.source.comment_above(part.first);
-        comment.extend_from_slice(if above.is_empty() {
-            places.source.comment_above(part.header)
-        } else {
-            above
-        })?;
+        push_comment(
+            &mut comment,
+            if above.is_empty() {
+                places.source.comment_above(part.header)
+            } else {
+                above
+            },
+        )?;
     }
     let mut cells = Vec::new(alloc);
     cells.push(name)?;
@@ -98,6 +104,16 @@ fn line_of(places: &Places, group: (usize, usize), copies: bool) -> Result<Line,
     }
     cells.push(comment)?;
     Ok(Line { cells })
+}
+
+fn push_comment(text: &mut Vec<u8>, comment: &[u8]) -> Result<(), Memory> {
+    if comment.len() > MOST_SHOWN {
+        text.extend_from_slice(&comment[..MOST_SHOWN - 3])?;
+        text.extend_from_slice(b"...")?;
+    } else {
+        text.extend_from_slice(comment)?;
+    }
+    Ok(())
 }
 
 fn push_lines(text: &mut Vec<u8>, first: u32, last: u32) -> Result<(), Memory> {

@@ -3,8 +3,8 @@ use crate::page::Case;
 use crate::phrases::{push_event, push_events, push_paragraph, push_state, push_when};
 use crate::subject::Subject;
 use crate::waiting::{Wait, has_ended, push_circle};
-use occ_run::Last;
 use occ_place::{Places, Stand, part_name};
+use occ_run::Last;
 use occ_syntax::{Event, Memory};
 
 /// Adds the sentence about two programs that differ.

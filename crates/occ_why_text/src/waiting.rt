@@ -68,7 +68,7 @@ fn wait_on(
 ) -> Result<Wait, Memory> {
     let mut other: Option<usize> = None;
     let mut lines: Vec<u32> = Vec::new(places.alloc());
-    for user in &places.ends {
+    for user in &places.marked.ends {
         if user.chan == end.0 && user.dir == end.1 {
             if let Some(found) = stands_at(places, stands, user.part) {
                 if other != Some(found) && is_better(stands, other, found) {
