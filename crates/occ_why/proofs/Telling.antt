@@ -1,5 +1,5 @@
 -- How what is told of a behaviour is put together.
-use Rattle.std.proofs.Common.{ℕ, List, [], ◌∷◌, ◌++◌, ◌≡◌, ◌≤◌, ◌∙◌, Ok, codes, ap, length, refl, subst, sym, append_assoc}
+use Rattle.std.proofs.Common.{ℕ, List, [], ◌∷◌, ◌++◌, ◌≡◌, ◌≤◌, ◌∙◌, Ok, Option, codes, ap, length, refl, subst, sym, append_assoc}
 use Rattle.std.proofs.lemmas.List.{same_from_push}
 use Rattle.std.specs.List.{flat_map}
 use Rattle.occ_behaviour.specs.Texts.{event_text, last_text, set_text, state_text, text_of_behaviour}
@@ -11,6 +11,8 @@ use Rattle.occ_syntax.specs.occ_base.declared.names.Name.{Name}
 use Rattle.occ_syntax.specs.declared.scope.Kind.{Kind}
 use Rattle.occ_syntax.specs.declared.scope.Program.{Program}
 use Rattle.occ_tool_run.proofs.AsWritten.{BehavioursLaw}
+use Rattle.occ_tool_run.proofs.Judging.{accepted_file}
+use Rattle.occ_tool_run.specs.occ_call.Files.{IsLoaded, most_bytes}
 use Rattle.occ_tool_run.proofs.from_run_schedule.Inside.{claim_within}
 use Rattle.occ_tool_run.specs.Judged.{HasInterface, IsAcceptedFrom}
 use Rattle.occ_tool_run.specs.occ_behaviour_read.Claims.{claim_read}
@@ -53,10 +55,16 @@ told_in_turn word behind lines a b c d e p q r s t =
 -- ---- a program's file and the lines of a behaviour
 
 pub claim_of : BehavioursLaw → (loaded : Loaded) (lines : List ℕ) (names : List (List ℕ)) (params : List (Name × Kind)) (p : Program) (b : Behaviour) → params ≡ p.params
-    → length lines ≤ 65536 → IsDistinct names → HasInterface names p → IsAcceptedFrom loaded [] names p → claim_read names params lines ≡ Ok b → IsClaimOf loaded lines p b
-claim_of law loaded lines names params p b e short d i accepted read =
+    → length lines ≤ 65536 → IsDistinct names → HasInterface names p → IsAcceptedFrom loaded [] names p → claim_read names params lines ≡ Ok b
+    → (file : Option (List ℕ)) → IsLoaded most_bytes file loaded → IsClaimOf file lines p b
+claim_of law loaded lines names params p b e short d i accepted read = λ file h.
     let P : List (Name × Kind) → Type 0 = λ ps. claim_read names ps lines ≡ Ok b in
-    record { names = names; accepted = accepted; short = short; written = (law names p.params lines b d i.interface i.params).0 (subst P e read) }
+    record {
+      names = names;
+      accepted = accepted_file loaded file [] names p accepted h;
+      short = short;
+      written = (law names p.params lines b d i.interface i.params).0 (subst P e read);
+    }
 
 -- its events are of the interface
 pub claim_inside : (lines : List ℕ) (names : List (List ℕ)) (shown params : List (Name × Kind)) (b : Behaviour) → shown ≡ params → claim_read names shown lines ≡ Ok b

@@ -1,13 +1,10 @@
 //! The answers to the command.
 
 ghost use Rattle.std.specs.Prelude.{◌≡◌, ◌≢◌, ◌⊎◌, ℕ, List, Option, IfOk};
-ghost use Rattle.occ_tool_run.specs.Answers.{Seeks, Settles};
 ghost use Rattle.occ_tool_run.specs.Texts.{IsPrintable, status_of, text_of};
-ghost use Rattle.occ_tool_run.specs.declared.answer.Answer.{Answer as Said};
-ghost use Rattle.occ_tool_run.specs.declared.judge.Question.TheVariants.{WhetherSame};
 ghost use Rattle.occ_tool_run.specs.occ_call.Files.{IsLoaded, IsShort, most_bytes};
 ghost use Rattle.occ_tool_run.specs.occ_call.Ran.{IsOwnStatus};
-ghost use Rattle.occ_why.specs.Answers.{AnswersApart, AnswersStuck, IsChecked};
+ghost use Rattle.occ_why.specs.Answers.{Answers, AnswersApart, IsCheckedOf};
 
 use crate::explaining::{apart, stuck};
 use crate::given::Given;
@@ -30,11 +27,9 @@ use std::alloc::Global;
 pub fn why_apart(alloc: Global, first: Given, second: Given) -> Result<Reply, Memory>
     requires first { IsShort most_bytes first.entry.text.now }
     requires second { IsShort most_bytes second.entry.text.now }
-    ensures answers { IfOk result (λ reply. (answer : Said)
-        × ((one two : Option (List ℕ)) → IsLoaded most_bytes one first.entry.text.now → IsLoaded most_bytes two second.entry.text.now
-        → Settles WhetherSame one two answer)
-        × AnswersApart (first.entry.name.now, second.entry.name.now) first.entry.text.now second.entry.text.now reply.status
-        reply.text.items answer) }
+    ensures answers { IfOk result (λ reply. (one two : Option (List ℕ)) → IsLoaded most_bytes one first.entry.text.now
+        → IsLoaded most_bytes two second.entry.text.now
+        → AnswersApart (first.entry.name.now, second.entry.name.now) one two reply.status reply.text.items) }
     ensures status { IfOk result (λ reply. IsOwnStatus reply.status) }
     ensures usage { IfOk result (λ reply. reply.status ≢ 2) }
 {
@@ -64,9 +59,8 @@ pub fn why_apart(alloc: Global, first: Given, second: Given) -> Result<Reply, Me
 /// | 3 | the file is refused | what `check` says of it |
 pub fn why(alloc: Global, program: Given) -> Result<Reply, Memory>
     requires { IsShort most_bytes program.entry.text.now }
-    ensures answers { IfOk result (λ reply. (answer : Said)
-        × ((file : Option (List ℕ)) → IsLoaded most_bytes file program.entry.text.now → Seeks file answer)
-        × AnswersStuck program.entry.name.now program.entry.text.now reply.status reply.text.items answer) }
+    ensures answers { IfOk result (λ reply. (file : Option (List ℕ)) → IsLoaded most_bytes file program.entry.text.now
+        → Answers program.entry.name.now file reply.status reply.text.items) }
     ensures status { IfOk result (λ reply. IsOwnStatus reply.status) }
     ensures usage { IfOk result (λ reply. reply.status ≢ 2) }
 {
@@ -99,7 +93,7 @@ fn said(alloc: Global, answer: Answer) -> Result<Reply, Memory>
 /// The reply to a file that is refused: what is wrong with it.
 fn refused_alone(alloc: Global, program: Given) -> Result<Reply, Memory>
     requires { IsShort most_bytes program.entry.text.now }
-    ensures checked { IfOk result (λ reply. IsChecked program.entry.name.now program.entry.text.now reply.text.items) }
+    ensures checked { IfOk result (λ reply. IsCheckedOf program.entry.name.now program.entry.text.now reply.text.items) }
     ensures status { IfOk result (λ reply. reply.status ≡ 3) }
 {
     let reply = check(alloc, program.name, program.text)?;
@@ -113,8 +107,8 @@ fn refused_alone(alloc: Global, program: Given) -> Result<Reply, Memory>
 fn refused(alloc: Global, first: Given, second: Given) -> Result<Reply, Memory>
     requires first { IsShort most_bytes first.entry.text.now }
     requires second { IsShort most_bytes second.entry.text.now }
-    ensures checked { IfOk result (λ reply. IsChecked first.entry.name.now first.entry.text.now reply.text.items
-        ⊎ IsChecked second.entry.name.now second.entry.text.now reply.text.items) }
+    ensures checked { IfOk result (λ reply. IsCheckedOf first.entry.name.now first.entry.text.now reply.text.items
+        ⊎ IsCheckedOf second.entry.name.now second.entry.text.now reply.text.items) }
     ensures status { IfOk result (λ reply. reply.status ≡ 3) }
 {
     let reply = check(alloc, first.name, first.text)?;

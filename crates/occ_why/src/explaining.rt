@@ -59,6 +59,9 @@ fn telling(alloc: Global, owner: Given, other: Given, lines: Vec<u8>) -> Result<
     let Some(found) = smaller(alloc, owner, other, &lines)? else {
         return Ok(lines);
     };
+    if found.as_slice() == lines.as_slice() {
+        return Ok(lines);
+    }
     let Some(own) = read(alloc, owner.text, &found)? else {
         return Ok(lines);
     };

@@ -1,13 +1,14 @@
 //! A program's file, and the lines of a behaviour.
 
-ghost use Rattle.std.specs.Prelude.{◌≡◌, ◌≤◌, ◌↔◌, [], length, true, IfOk, IfSome, IsTrue};
+ghost use Rattle.std.specs.Prelude.{◌≡◌, ◌≤◌, ◌↔◌, ℕ, List, [], length, Option, true, IfOk, IfSome, IsTrue};
 ghost use Rattle.occ_syntax.specs.occ_base.Names.{IsDistinct};
 ghost use Rattle.occ_tool_run.specs.occ_behaviour_read.Claims.{IsOf};
 ghost use Rattle.occ_tool_run.specs.occ_nform_table.Lines.{HaveWidths};
 ghost use Rattle.occ_tool_run.specs.occ_run_schedule.Witnesses.{IsWithin};
 ghost use Rattle.occ_behaviour.specs.States.{is_state};
 ghost use Rattle.occ_tool_run.specs.Judged.{HasInterface, IsAcceptedFrom};
-ghost use Rattle.occ_tool_run.specs.occ_call.Files.{IsShort, most_bytes};
+ghost use Rattle.occ_tool_run.specs.occ_call.Files.{IsLoaded, IsShort, most_bytes};
+ghost use Rattle.occ_why.specs.Told.{IsClaimOf};
 
 use occ_behaviour::Behaviour;
 use occ_place::{Places, Point};
@@ -70,7 +71,8 @@ impl Reading {
 /// An accepted program's file and the lines of a behaviour of its interface, read together; None where they aren't that.
 pub(crate) fn read(alloc: Global, program: &Loaded, lines: &[u8]) -> Result<Option<Reading>, Memory>
     requires { IsShort most_bytes program.now }
-    ensures { IfOk result (λ found. IfSome found (λ reading. IsClaimOf program.now lines.now reading.accepted.program reading.behaviour)) }
+    ensures { IfOk result (λ found. IfSome found (λ reading. (file : Option (List ℕ)) → IsLoaded most_bytes file program.now
+        → IsClaimOf file lines.now reading.accepted.program reading.behaviour)) }
 {
     if lines.len() as u64 > MOST_BYTES {
         return Ok(None);
@@ -95,7 +97,8 @@ fn read_with(
     requires distinct { IsDistinct names.now }
     requires interface { HasInterface names.now accepted.program }
     requires accepted { IsAcceptedFrom program.now [] names.now accepted.program }
-    ensures { IfOk result (λ found. IfSome found (λ reading. IsClaimOf program.now lines.now reading.accepted.program reading.behaviour)) }
+    ensures { IfOk result (λ found. IfSome found (λ reading. (file : Option (List ℕ)) → IsLoaded most_bytes file program.now
+        → IsClaimOf file lines.now reading.accepted.program reading.behaviour)) }
 {
     behaviours_are_read_as_written();
     let Loaded::Bytes(text) = program else {
