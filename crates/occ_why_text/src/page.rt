@@ -39,38 +39,40 @@ pub fn page<'p>(case: &Case<'p>, start: Point<'p>) -> Result<Option<Vec<u8>>, Me
         return Ok(None);
     }
     let mut text = Vec::new(alloc);
-    let stood = stands(places, &end)?;
-    let waits = waits_of(places, &stood)?;
-    match &case.other {
-        Some(_) => push_difference(&mut text, case)?,
-        None => {
-            let ring = ring_of(places, &stood, &waits)?;
-            push_deadlock(&mut text, owner, &stood, &waits, &ring)?;
-        }
-    }
-    push_parts(&mut text, owner)?;
-    push_how(&mut text, owner, &told)?;
-    if is_over(end.control()) {
-        push_ended(&mut text, owner, &end)?;
-    } else {
-        let which = if owner.has_parts() {
-            b"its parts stand".as_slice()
-        } else {
-            b"it stands"
-        };
-        text.extend_from_slice(b"\nThen ")?;
-        text.extend_from_slice(which)?;
-        text.extend_from_slice(b" so:\n\n")?;
-        push_stands(places, &mut text, &stood)?;
-        text.push(b'\n')?;
-        push_waits(&mut text, places, &stood, &waits)?;
-        push_offers(&mut text, owner, &end, true)?;
-    }
+    push_owner(&mut text, case, &told, &end)?;
     if let Some((other, look)) = &case.other {
         push_other(&mut text, other, look)?;
         push_smallest(&mut text, owner, other)?;
     }
     Ok(Some(text))
+}
+
+/// Adds what is told of the program that has the behaviour: by which steps it comes to that end, and how it stands there.
+fn push_owner(text: &mut Vec<u8>, case: &Case, told: &[Told], end: &Point) -> Result<(), Memory> {
+    let owner = &case.owner;
+    let places = owner.places;
+    let stood = stands(places, end)?;
+    let waits = waits_of(places, &stood)?;
+    if case.other.is_some() {
+        push_difference(text, case)?;
+    } else {
+        let ring = ring_of(places, &stood, &waits)?;
+        push_deadlock(text, owner, &stood, &waits, &ring)?;
+    }
+    push_parts(text, owner)?;
+    push_how(text, owner, told)?;
+    if is_over(end.control()) {
+        return push_ended(text, owner, end);
+    }
+    text.extend_from_slice(if owner.has_parts() {
+        b"\nThen its parts stand so:\n\n".as_slice()
+    } else {
+        b"\nThen it stands so:\n\n"
+    })?;
+    push_stands(places, text, &stood)?;
+    text.push(b'\n')?;
+    push_waits(text, places, &stood, &waits)?;
+    push_offers(text, owner, end, true)
 }
 
 /// Whether a program stands as the last line of its behaviour says.

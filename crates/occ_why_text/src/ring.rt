@@ -2,7 +2,7 @@ use occ_place::NOWHERE;
 use occ_syntax::Memory;
 use std::alloc::Global;
 
-/// The shortest ring of edges between so many places, the first of these; none where there is none. Edges from one place follow one another.
+/// The shortest ring of edges between so many places, the first of these; an empty one where there is none.
 pub(crate) fn shortest_ring(
     alloc: Global,
     count: usize,
