@@ -1,5 +1,5 @@
 -- What two files are answered with, by the traces of their programs.
-use Rattle.std.proofs.Common.{◌≡◌, ◌≢◌, ◌≤◌, ◌⊎◌, ℕ, List, [], Option, Result, Ok, Err, IfOk, sym, ap, ◌∙◌, subst, inl, inr, arith}
+use Rattle.std.proofs.Common.{◌≡◌, ◌≢◌, ◌≤◌, ℕ, List, [], Option, Result, Ok, Err, IfOk, sym, ◌∙◌, inl, arith}
 use Rattle.occ_syntax.specs.occ_base.declared.memory.Memory.{Memory}
 use Rattle.occ_syntax.specs.declared.scope.Program.{Program as Stored}
 use Rattle.occ_traces.specs.occ_compare.declared.refined.Refined.{Refined}
