@@ -1,0 +1,2 @@
+pub mod Said
+unfoldable pub use Rattle.occ_syntax.specs.View.{tree}
