@@ -12,9 +12,10 @@ use Rattle.occ_order.specs.Order.{forward_order, order_words}
 use Rattle.occ_order.specs.Telling.{barred_text, lack_text, wish_text}
 use Rattle.occ_paths.specs.occ_meaning.Context.{part_at}
 use Rattle.occ_paths.specs.occ_print.Spelled.{part_text}
-use Rattle.occ_syntax.specs.declared.scope.Program.{Program}
+use Rattle.occ_syntax.specs.declared.scope.Kind.{Kind}
+use Rattle.occ_order.specs.occ_script_lines.Texts.{path_of}
+use Rattle.occ_syntax.specs.occ_base.declared.names.Name.{Name}
 use Rattle.occ_syntax.specs.Tree.{Tree}
-use Rattle.occ_syntax.specs.View.{tree}
 
 -- the one order to use the law forward at the path, with no part given
 abbrev pub alone : LawId → List ℕ → List Order
@@ -34,27 +35,32 @@ IsToldOf n word k engine.NotPar text = ⊥
 IsToldOf n word k engine.Memory text = ⊥
 
 -- What is said of one law: the order is followed by a move, and this is the part that it puts in; or the order stops for this lack.
-pub data IsSaid (names : List (List ℕ)) (p : Program) (word path : List ℕ) (k : ℕ) (law : LawId) (text : List ℕ) : Type 0 where
-  made : (move : Move) (q : Tree) → Follows p.params (tree p.body) (alone law path) (move ∷ []) q → text ≡ made_text names law.0 word move.part
-      → IsSaid names p word path k law text
-  stopped : (number : ℕ) (lack : Lack) → Stops p.params (tree p.body) (alone law path) number lack → text ≡ lack_text law.0 word k lack
-      → IsSaid names p word path k law text
+pub data IsSaid (names : List (List ℕ)) (S : List (Name × Kind)) (p : Tree) (word path : List ℕ) (k : ℕ) (law : LawId) (text : List ℕ) : Type 0 where
+  made : (move : Move) (q : Tree) → Follows S p (alone law path) (move ∷ []) q → text ≡ made_text names law.0 word move.part
+      → IsSaid names S p word path k law text
+  stopped : (number : ℕ) (lack : Lack) → Stops S p (alone law path) number lack → text ≡ lack_text law.0 word k lack
+      → IsSaid names S p word path k law text
 
 -- of the laws up to that of a number, in order
-pub data AreSaid (names : List (List ℕ)) (p : Program) (word path : List ℕ) (k : ℕ) : ℕ → List ℕ → Type 0 where
-  no_law_said : AreSaid names p word path k 0 []
-  and_law_said : (n : ℕ) (front text : List ℕ) → AreSaid names p word path k n front → IsSaid names p word path k (record { 0 = n + 1 }) text
-      → AreSaid names p word path k (n + 1) (front ++ text)
+pub data AreSaid (names : List (List ℕ)) (S : List (Name × Kind)) (p : Tree) (word path : List ℕ) (k : ℕ) : ℕ → List ℕ → Type 0 where
+  no_law_said : (n : ℕ) (text : List ℕ) → n ≡ 0 → text ≡ [] → AreSaid names S p word path k n text
+  and_law_said : (n m : ℕ) (text front more : List ℕ) → n ≡ m + 1 → AreSaid names S p word path k m front
+      → IsSaid names S p word path k (record { 0 = n }) more → text ≡ front ++ more → AreSaid names S p word path k n text
 
--- of all laws, where a part stands at the path: the first line of orders, and then what is said of each
-pub record AreAllSaid (names : List (List ℕ)) (p : Program) (word path : List ℕ) (text : List ℕ) : Type 0 where
+-- of all laws, where the word is the path of a part: the first line of orders, and then what is said of each
+pub record AreAllSaid (names : List (List ℕ)) (S : List (Name × Kind)) (p : Tree) (word : List ℕ) (text : List ℕ) : Type 0 where
+  pub path : List ℕ
+  pub path_is : path_of word ≡ Some path
   pub part : Tree
-  pub there : part_at path (tree p.body) ≡ Some part
+  pub there : part_at path p ≡ Some part
   pub laws : List ℕ
-  pub said : AreSaid names p word path (kind part) 63 laws
+  pub said : AreSaid names S p word path (kind part) 63 laws
   pub text_is : text ≡ codes "occam-orders 2\n" ++ laws
 
--- or no part stands there
-abbrev pub IsListed : List (List ℕ) → Program → List ℕ → List ℕ → Option (Vec ℕ Global) → Type 0
-IsListed names p word path None = part_at path (tree p.body) ≡ None
-IsListed names p word path (Some text) = AreAllSaid names p word path text.items
+-- the word is no path, or one at which no part stands
+abbrev pub IsNoPath : List ℕ → Tree → Type 0
+IsNoPath word p = (path : List ℕ) → path_of word ≡ Some path → part_at path p ≡ None
+
+abbrev pub IsListed : List (List ℕ) → List (Name × Kind) → Tree → List ℕ → Option (Vec ℕ Global) → Type 0
+IsListed names S p word None = IsNoPath word p
+IsListed names S p word (Some text) = AreAllSaid names S p word text.items

@@ -79,7 +79,8 @@ pub(crate) fn said(
     requires low { 1 ≤ law.0 }
     requires high { law.0 ≤ 63 }
     requires known { NamesAreBelow (length names.now) accepted.now.program.params (tree accepted.now.program.body) }
-    ensures { IfOk result (λ text. IsSaid names.now accepted.now.program place.word.now place.path.now place.kind law text.items) }
+    ensures { IfOk result (λ text. IsSaid names.now accepted.now.program.params (tree accepted.now.program.body)
+        place.word.now place.path.now place.kind law text.items) }
 {
     direct_results_declare_no_new_names();
     kept_parts_have_known_names();

@@ -8,6 +8,6 @@ mod telling;
 
 pub use form::kind;
 pub use law::scopes_are_kept;
-pub use occ_script::{LawId, Path, at};
+pub use occ_script::{LawId, Path, at, script_lines_path};
 pub use order::{forward, push_order};
 pub use telling::{Lacking, told};
