@@ -3,8 +3,8 @@ _occam() {
     local word=${COMP_WORDS[COMP_CWORD]} ends='' choices='' end
     COMPREPLY=()
     case ${COMP_CWORD}:${COMP_WORDS[1]} in
-    1:*) choices="check same refine deadlock normalise normal belongs run witness replay transform expand derive prove draw aut promela stress help --version" ;;
-    2:help) choices="check same refine deadlock normalise normal belongs run witness replay transform expand derive prove draw aut promela stress" ;;
+    1:*) choices="check same refine deadlock normalise normal belongs run steps witness replay transform expand derive prove draw aut promela stress help --version" ;;
+    2:help) choices="check same refine deadlock normalise normal belongs run steps witness replay transform expand derive prove draw aut promela stress" ;;
     2:check) ends="occ" ;;
     2:same) ends="occ" ;;
     3:same) ends="occ" ;;
@@ -17,6 +17,8 @@ _occam() {
     3:belongs) ends="behaviour" ;;
     2:run) ends="occ" ;;
     3:run) ends="schedule" ;;
+    2:steps) ends="occ" ;;
+    3:steps) ends="schedule" ;;
     2:witness) ends="occ" ;;
     3:witness) ends="behaviour" ;;
     2:replay) ends="script" ;;

@@ -1,5 +1,5 @@
-//! The words of a command line: `check A`, `draw T`, `aut A`, `promela A`, `prove A B`, `witness A T` and `explain T REFUSAL`. The
-//! words behind a command name files, but for the refusal.
+//! The words of a command line: `check A`, `draw T`, `prove A B`, `witness A T`, `aut A`, `promela A`, `steps A`, `steps A T` and
+//! `explain T REFUSAL`. The words behind a command name files, but for a refusal.
 
 ghost use Rattle.std.specs.Prelude.{◌≡◌, map, string_bytes};
 ghost use Rattle.occ_workshop_run.specs.Words.{job, job_of, of_one, of_two, with_one, with_two};
@@ -25,6 +25,10 @@ pub enum Command<'a> {
     Aut { program: &'a str },
     /// To write the program in a file as a model for Spin.
     Promela { program: &'a str },
+    /// To list the steps that the program in a file can take first.
+    Steps { program: &'a str },
+    /// To list those behind the schedule in another file.
+    StepsAfter { program: &'a str, text: &'a str },
 }
 
 /// What the words of a command line ask for, the program's own name first.
@@ -62,6 +66,8 @@ fn one_named<'a>(command: &str, first: &'a str) -> Command<'a>
         Command::Aut { program: first }
     } else if command == "promela" {
         Command::Promela { program: first }
+    } else if command == "steps" {
+        Command::Steps { program: first }
     } else {
         Command::Usage
     }
@@ -92,6 +98,11 @@ fn two_named<'a>(command: &str, first: &'a str, second: &'a str) -> Command<'a>
         Command::Explain {
             text: first,
             refusal: second,
+        }
+    } else if command == "steps" {
+        Command::StepsAfter {
+            program: first,
+            text: second,
         }
     } else {
         Command::Usage

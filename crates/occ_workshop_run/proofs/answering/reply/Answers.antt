@@ -14,3 +14,11 @@ returns-in-Aut-clause-answers c =
 pub returns-in-Promela-clause-answers : goal.returns-in-Promela-clause-answers
 returns-in-Promela-clause-answers c =
     subst (λ command. IfOk c.promela.result (IsReplyTo command c.args.contents.now)) (sym c.in-Promela.is) (IfOk-weaker c.promela.result _ _ (λ reply done files loaded. done _ loaded) c.promela.ensures.answers)
+
+pub returns-in-Steps-clause-answers : goal.returns-in-Steps-clause-answers
+returns-in-Steps-clause-answers c =
+    subst (λ command. IfOk c.steps_at_start.result (IsReplyTo command c.args.contents.now)) (sym c.in-Steps.is) (IfOk-weaker c.steps_at_start.result _ _ (λ reply done files loaded. done _ loaded) c.steps_at_start.ensures.answers)
+
+pub returns-in-StepsAfter-clause-answers : goal.returns-in-StepsAfter-clause-answers
+returns-in-StepsAfter-clause-answers c =
+    subst (λ command. IfOk c.steps.result (IsReplyTo command c.args.contents.now)) (sym c.in-StepsAfter.is) (IfOk-weaker c.steps.result _ _ (λ reply done files loaded. done _ _ loaded.0 loaded.1) c.steps.ensures.answers)
