@@ -10,10 +10,11 @@ use Rattle.occ_draw.specs.Answers.{Answers as AnswersDraw}
 use Rattle.occ_lts.specs.Answers.{AnswersAut, AnswersPromela}
 use Rattle.occ_prove.specs.Answers.{Answers as AnswersProve}
 use Rattle.occ_steps.specs.Answers.{AnswersAtStart, Answers as AnswersSteps}
+use Rattle.occ_why.specs.Answers.{Answers as AnswersWhy, AnswersApart}
 use Rattle.occ_witness.specs.Answers.{Answers as AnswersWitness}
 use Rattle.occ_workshop_run.specs.declared.words.Command.{Command}
-use Rattle.occ_workshop_run.specs.declared.words.Command.TheVariants.{Usage, Check, Draw, Explain, Prove, Witness, Aut, Promela, Steps, StepsAfter}
-use Rattle.occ_workshop_run.specs.Words.{Job, check, draw, explain, prove, witness, aut, promela, steps, steps_after, job, job_of, usage_text}
+use Rattle.occ_workshop_run.specs.declared.words.Command.TheVariants.{Usage, Check, Draw, Explain, Prove, Witness, Aut, Promela, Steps, StepsAfter, Why, WhyApart}
+use Rattle.occ_workshop_run.specs.Words.{Job, check, draw, explain, prove, witness, aut, promela, steps, steps_after, why, why_apart, job, job_of, usage_text}
 
 -- What is asked for has an answer with this status and this text: that of the command's own library.
 abbrev pub AnswersJob : Files → Option Job → ℕ → List ℕ → Type 0
@@ -27,6 +28,8 @@ AnswersJob files (Some (aut program)) status text = AnswersAut (files program) s
 AnswersJob files (Some (promela program)) status text = AnswersPromela (files program) status text
 AnswersJob files (Some (steps program)) status text = AnswersAtStart (files program) status text
 AnswersJob files (Some (steps_after program text)) status text = AnswersSteps (files program) (files text) status text
+AnswersJob files (Some (why program)) status text = AnswersWhy program (files program) status text
+AnswersJob files (Some (why_apart first second)) status text = AnswersApart (first, second) (files first) (files second) status text
 
 -- The words and the files have an answer with this status and this text.
 abbrev pub Answers : Files → List (List ℕ) → ℕ → List ℕ → Type 0
@@ -44,6 +47,8 @@ wanted_of (Aut program) = One (record { name = program; most = most_bytes })
 wanted_of (Promela program) = One (record { name = program; most = most_bytes })
 wanted_of (Steps program) = One (record { name = program; most = most_bytes })
 wanted_of (StepsAfter program text) = Two (record { name = program; most = most_bytes }) (record { name = text; most = most_bytes })
+wanted_of (Why program) = One (record { name = program; most = most_bytes })
+wanted_of (WhyApart first second) = Two (record { name = first; most = most_bytes }) (record { name = second; most = most_bytes })
 
 -- the reply to a command whose files were read
 abbrev pub IsReplyTo : Command → Contents → Reply → Type 0
@@ -63,3 +68,5 @@ IsDetermined (Some (aut program)) = ⊥
 IsDetermined (Some (promela program)) = ⊥
 IsDetermined (Some (steps program)) = ⊥
 IsDetermined (Some (steps_after program text)) = ⊥
+IsDetermined (Some (why program)) = ⊥
+IsDetermined (Some (why_apart first second)) = ⊥

@@ -4,7 +4,7 @@ use Rattle.std.specs.Option.{option_map_or}
 use Rattle.std.specs.Str.{bytes_eq}
 use Rattle.occ_witness.specs.occ_tool_words.Words.{is_plain}
 use Rattle.occ_workshop_run.specs.declared.words.Command.{Command}
-use Rattle.occ_workshop_run.specs.declared.words.Command.TheVariants.{Usage, Check, Draw, Explain, Prove, Witness, Aut, Promela, Steps, StepsAfter}
+use Rattle.occ_workshop_run.specs.declared.words.Command.TheVariants.{Usage, Check, Draw, Explain, Prove, Witness, Aut, Promela, Steps, StepsAfter, Why, WhyApart}
 
 -- a command with the names of its files as they stand
 pub data Job : Type 0 where
@@ -17,6 +17,8 @@ pub data Job : Type 0 where
   promela : List ℕ → Job
   steps : List ℕ → Job
   steps_after : List ℕ → List ℕ → Job
+  why : List ℕ → Job
+  why_apart : List ℕ → List ℕ → Job
 
 abbrev pub job : Command → Option Job
 job Usage = None
@@ -29,6 +31,8 @@ job (Aut program) = Some (aut program.now)
 job (Promela program) = Some (promela program.now)
 job (Steps program) = Some (steps program.now)
 job (StepsAfter program text) = Some (steps_after program.now text.now)
+job (Why program) = Some (why program.now)
+job (WhyApart first second) = Some (why_apart first.now second.now)
 
 -- a command that one word follows
 abbrev pub of_one : List ℕ → List ℕ → Option Job
@@ -37,7 +41,8 @@ of_one command first =
     else (if bytes_eq command (codes "check") then Some (check first)
     else (if bytes_eq command (codes "aut") then Some (aut first)
     else (if bytes_eq command (codes "promela") then Some (promela first)
-    else (if bytes_eq command (codes "steps") then Some (steps first) else None))))
+    else (if bytes_eq command (codes "steps") then Some (steps first)
+    else (if bytes_eq command (codes "why") then Some (why first) else None)))))
 
 -- a command that two words follow
 abbrev pub of_two : List ℕ → List ℕ → List ℕ → Option Job
@@ -45,7 +50,8 @@ of_two command first second =
     if bytes_eq command (codes "prove") then Some (prove first second)
     else (if bytes_eq command (codes "witness") then Some (witness first second)
     else (if bytes_eq command (codes "explain") then Some (explain first second)
-    else (if bytes_eq command (codes "steps") then Some (steps_after first second) else None)))
+    else (if bytes_eq command (codes "steps") then Some (steps_after first second)
+    else (if bytes_eq command (codes "why") then Some (why_apart first second) else None))))
 
 -- the words that follow are neither empty nor begin with a hyphen
 abbrev pub with_one : List ℕ → List ℕ → Option Job
@@ -75,6 +81,8 @@ files_of (aut program) = program ∷ []
 files_of (promela program) = program ∷ []
 files_of (steps program) = program ∷ []
 files_of (steps_after program text) = program ∷ text ∷ []
+files_of (why program) = program ∷ []
+files_of (why_apart first second) = first ∷ second ∷ []
 
 abbrev pub file_words : List (List ℕ) → List (List ℕ)
 file_words words = option_map_or files_of (job_of words) []
@@ -91,7 +99,9 @@ AskForTwoPrograms (Some (aut program)) = ⊥
 AskForTwoPrograms (Some (promela program)) = ⊥
 AskForTwoPrograms (Some (steps program)) = ⊥
 AskForTwoPrograms (Some (steps_after program text)) = ⊥
+AskForTwoPrograms (Some (why program)) = ⊥
+AskForTwoPrograms (Some (why_apart first second)) = Unit {0}
 
 -- the line of usage
 abbrev pub usage_text : List ℕ
-usage_text = codes "USAGE check A, steps A, steps A T, draw T, aut A, promela A, prove A B, witness A T, explain T REFUSAL\n"
+usage_text = codes "USAGE check A, steps A, steps A T, why A, why A B, draw T, aut A, promela A, prove A B, witness A T, explain T REFUSAL\n"

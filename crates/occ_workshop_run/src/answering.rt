@@ -12,6 +12,7 @@ use occ_draw::{Memory, draw};
 use occ_lts::{aut, promela};
 use occ_prove::prove;
 use occ_steps::{steps, steps_at_start};
+use occ_why::{Given, why, why_apart};
 use occ_witness::{Contents, MOST_BYTES, MOST_TABLE_BYTES, Named, Reply, Wanted, witness};
 use std::alloc::Global;
 
@@ -24,11 +25,12 @@ pub(crate) fn wanted<'a>(command: &Command<'a>) -> Wanted<'a>
         Command::Check { program }
         | Command::Aut { program }
         | Command::Promela { program }
-        | Command::Steps { program } => { Wanted::One(Named::new(program, MOST_BYTES)) }
+        | Command::Steps { program }
+        | Command::Why { program } => { Wanted::One(Named::new(program, MOST_BYTES)) }
         Command::Draw { text } | Command::Explain { text, .. } => {
             Wanted::One(Named::new(text, MOST_TABLE_BYTES))
         }
-        Command::Prove { first, second } => {
+        Command::Prove { first, second } | Command::WhyApart { first, second } => {
             Wanted::Two(
                 Named::new(first, MOST_BYTES),
                 Named::new(second, MOST_BYTES),
@@ -64,6 +66,27 @@ pub(crate) fn reply(alloc: Global, command: &Command, contents: &Contents) -> Re
         Command::Promela { .. } => promela(alloc, first),
         Command::Steps { .. } => steps_at_start(alloc, first),
         Command::StepsAfter { .. } => steps(alloc, first, second),
+        Command::Why { program } => why(
+            alloc,
+            Given {
+                name: program,
+                text: first,
+            },
+        ),
+        Command::WhyApart {
+            first: one,
+            second: two,
+        } => why_apart(
+            alloc,
+            Given {
+                name: one,
+                text: first,
+            },
+            Given {
+                name: two,
+                text: second,
+            },
+        ),
     }
 }
 
@@ -76,7 +99,7 @@ fn usage(alloc: Global) -> Result<Reply, Memory>
         status: 2,
         text: Vec::from_slice(
             alloc,
-            b"USAGE check A, steps A, steps A T, draw T, aut A, promela A, prove A B, witness A T, explain T REFUSAL\n",
+            b"USAGE check A, steps A, steps A T, why A, why A B, draw T, aut A, promela A, prove A B, witness A T, explain T REFUSAL\n",
         )?,
     })
 }

@@ -1,5 +1,5 @@
-//! The words of a command line: `check A`, `draw T`, `prove A B`, `witness A T`, `aut A`, `promela A`, `steps A`, `steps A T` and
-//! `explain T REFUSAL`. The words behind a command name files, but for a refusal.
+//! The words of a command line: `check A`, `draw T`, `prove A B`, `witness A T`, `aut A`, `promela A`, `steps A`, `steps A T`, `why
+//! A`, `why A B` and `explain T REFUSAL`. The words behind a command name files, but for a refusal.
 
 ghost use Rattle.std.specs.Prelude.{◌≡◌, map, string_bytes};
 ghost use Rattle.occ_workshop_run.specs.Words.{job, job_of, of_one, of_two, with_one, with_two};
@@ -29,6 +29,10 @@ pub enum Command<'a> {
     Steps { program: &'a str },
     /// To list those behind the schedule in another file.
     StepsAfter { program: &'a str, text: &'a str },
+    /// To say why the program in a file can be stuck.
+    Why { program: &'a str },
+    /// To say why the programs in two files differ.
+    WhyApart { first: &'a str, second: &'a str },
 }
 
 /// What the words of a command line ask for, the program's own name first.
@@ -68,6 +72,8 @@ fn one_named<'a>(command: &str, first: &'a str) -> Command<'a>
         Command::Promela { program: first }
     } else if command == "steps" {
         Command::Steps { program: first }
+    } else if command == "why" {
+        Command::Why { program: first }
     } else {
         Command::Usage
     }
@@ -104,6 +110,8 @@ fn two_named<'a>(command: &str, first: &'a str, second: &'a str) -> Command<'a>
             program: first,
             text: second,
         }
+    } else if command == "why" {
+        Command::WhyApart { first, second }
     } else {
         Command::Usage
     }

@@ -22,3 +22,11 @@ returns-in-Steps-clause-answers c =
 pub returns-in-StepsAfter-clause-answers : goal.returns-in-StepsAfter-clause-answers
 returns-in-StepsAfter-clause-answers c =
     subst (λ command. IfOk c.steps.result (IsReplyTo command c.args.contents.now)) (sym c.in-StepsAfter.is) (IfOk-weaker c.steps.result _ _ (λ reply done files loaded. done _ _ loaded.0 loaded.1) c.steps.ensures.answers)
+
+pub returns-in-Why-clause-answers : goal.returns-in-Why-clause-answers
+returns-in-Why-clause-answers c =
+    subst (λ command. IfOk c.why.result (IsReplyTo command c.args.contents.now)) (sym c.in-Why.is) (IfOk-weaker c.why.result _ _ (λ reply done files loaded. done _ loaded) c.why.ensures.answers)
+
+pub returns-in-WhyApart-clause-answers : goal.returns-in-WhyApart-clause-answers
+returns-in-WhyApart-clause-answers c =
+    subst (λ command. IfOk c.why_apart.result (IsReplyTo command c.args.contents.now)) (sym c.in-WhyApart.is) (IfOk-weaker c.why_apart.result _ _ (λ reply done files loaded. done _ _ loaded.0 loaded.1) c.why_apart.ensures.answers)
