@@ -4,7 +4,7 @@ use Rattle.std.specs.Option.{option_map_or}
 use Rattle.std.specs.Str.{bytes_eq}
 use Rattle.occ_witness.specs.occ_tool_words.Words.{is_plain}
 use Rattle.occ_workshop_run.specs.declared.words.Command.{Command}
-use Rattle.occ_workshop_run.specs.declared.words.Command.TheVariants.{Usage, Check, Draw, Explain, Prove, Witness, Aut, Promela, Steps, StepsAfter, Why, WhyApart}
+use Rattle.occ_workshop_run.specs.declared.words.Command.TheVariants.{Usage, Check, Draw, Explain, Prove, Witness, Aut, Promela, Steps, StepsAfter, Why, WhyApart, Traces}
 
 -- a command with the names of its files as they stand
 pub data Job : Type 0 where
@@ -19,6 +19,7 @@ pub data Job : Type 0 where
   steps_after : List ℕ → List ℕ → Job
   why : List ℕ → Job
   why_apart : List ℕ → List ℕ → Job
+  traces : List ℕ → List ℕ → Job
 
 abbrev pub job : Command → Option Job
 job Usage = None
@@ -33,6 +34,7 @@ job (Steps program) = Some (steps program.now)
 job (StepsAfter program text) = Some (steps_after program.now text.now)
 job (Why program) = Some (why program.now)
 job (WhyApart first second) = Some (why_apart first.now second.now)
+job (Traces first second) = Some (traces first.now second.now)
 
 -- a command that one word follows
 abbrev pub of_one : List ℕ → List ℕ → Option Job
@@ -51,7 +53,8 @@ of_two command first second =
     else (if bytes_eq command (codes "witness") then Some (witness first second)
     else (if bytes_eq command (codes "explain") then Some (explain first second)
     else (if bytes_eq command (codes "steps") then Some (steps_after first second)
-    else (if bytes_eq command (codes "why") then Some (why_apart first second) else None))))
+    else (if bytes_eq command (codes "why") then Some (why_apart first second)
+    else (if bytes_eq command (codes "traces") then Some (traces first second) else None)))))
 
 -- the words that follow are neither empty nor begin with a hyphen
 abbrev pub with_one : List ℕ → List ℕ → Option Job
@@ -83,6 +86,7 @@ files_of (steps program) = program ∷ []
 files_of (steps_after program text) = program ∷ text ∷ []
 files_of (why program) = program ∷ []
 files_of (why_apart first second) = first ∷ second ∷ []
+files_of (traces first second) = first ∷ second ∷ []
 
 abbrev pub file_words : List (List ℕ) → List (List ℕ)
 file_words words = option_map_or files_of (job_of words) []
@@ -101,7 +105,8 @@ AskForTwoPrograms (Some (steps program)) = ⊥
 AskForTwoPrograms (Some (steps_after program text)) = ⊥
 AskForTwoPrograms (Some (why program)) = ⊥
 AskForTwoPrograms (Some (why_apart first second)) = Unit {0}
+AskForTwoPrograms (Some (traces first second)) = Unit {0}
 
 -- the line of usage
 abbrev pub usage_text : List ℕ
-usage_text = codes "USAGE check A, steps A, steps A T, why A, why A B, draw T, aut A, promela A, prove A B, witness A T, explain T REFUSAL\n"
+usage_text = codes "USAGE check A, steps A, steps A T, why A, why A B, draw T, aut A, promela A, prove A B, traces A B, witness A T, explain T REFUSAL\n"

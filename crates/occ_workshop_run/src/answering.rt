@@ -9,7 +9,7 @@ ghost use Rattle.occ_workshop_run.specs.Words.{AskForTwoPrograms, job, usage_tex
 use crate::words::Command;
 use occ_check::{check, explain};
 use occ_draw::{Memory, draw};
-use occ_lts::{aut, promela};
+use occ_lts::{aut, promela, traces};
 use occ_prove::prove;
 use occ_steps::{steps, steps_at_start};
 use occ_why::{Given, why, why_apart};
@@ -30,7 +30,9 @@ pub(crate) fn wanted<'a>(command: &Command<'a>) -> Wanted<'a>
         Command::Draw { text } | Command::Explain { text, .. } => {
             Wanted::One(Named::new(text, MOST_TABLE_BYTES))
         }
-        Command::Prove { first, second } | Command::WhyApart { first, second } => {
+        Command::Prove { first, second }
+        | Command::WhyApart { first, second }
+        | Command::Traces { first, second } => {
             Wanted::Two(
                 Named::new(first, MOST_BYTES),
                 Named::new(second, MOST_BYTES),
@@ -87,6 +89,7 @@ pub(crate) fn reply(alloc: Global, command: &Command, contents: &Contents) -> Re
                 text: second,
             },
         ),
+        Command::Traces { .. } => traces(alloc, first, second),
     }
 }
 
@@ -99,7 +102,7 @@ fn usage(alloc: Global) -> Result<Reply, Memory>
         status: 2,
         text: Vec::from_slice(
             alloc,
-            b"USAGE check A, steps A, steps A T, why A, why A B, draw T, aut A, promela A, prove A B, witness A T, explain T REFUSAL\n",
+            b"USAGE check A, steps A, steps A T, why A, why A B, draw T, aut A, promela A, prove A B, traces A B, witness A T, explain T REFUSAL\n",
         )?,
     })
 }

@@ -17,8 +17,8 @@ use std::alloc::Global;
 ///
 /// | status | comes exactly where | written |
 /// |---|---|---|
-/// | 0 | `check`, `aut`, `promela`: the program is accepted; `draw`: the text is a normal one, or a script whose steps can be told; `prove`: steps lead from the one program to the other, or both mean the same and the names behind PROC differ; `witness`: the program has the behaviour, and the schedule isn't too long; `steps`: the program is accepted, and the steps of the schedule, if there is one, can be taken; `why`: there is nothing to explain | its warnings; the transition system; the model; the picture or the list; the script, or `SAME`; the schedule; the table of steps; the line that says so |
-/// | 1 | `prove`: the programs differ; `witness`: the program hasn't the behaviour; `why`: the program can be stuck, or the programs differ | the answer of `same`; `NO`; what leads there |
+/// | 0 | `check`, `aut`, `promela`: the program is accepted; `draw`: the text is a normal one, or a script whose steps can be told; `prove`: steps lead from the one program to the other, or both mean the same and the names behind PROC differ; `witness`: the program has the behaviour, and the schedule isn't too long; `steps`: the program is accepted, and the steps of the schedule, if there is one, can be taken; `why`: there is nothing to explain; `traces`: each trace of the second program is one of the first | its warnings; the transition system; the model; the picture or the list; the script, or `SAME`; the schedule; the table of steps; the line that says so; the line that says so |
+/// | 1 | `prove`: the programs differ; `witness`: the program hasn't the behaviour; `why`: the program can be stuck, or the programs differ; `traces`: one isn't | the answer of `same`; `NO`; what leads there; that trace |
 /// | 2 | the words don't fit | the line of usage |
 /// | 3 | a text or a step is refused; `prove`: both programs mean the same, and their normal program is too long; `witness`: the schedule is too long; `steps`: a step of the schedule isn't there | the refusal, explained by `check` |
 /// | 4 | a read failed in this call | nothing |

@@ -1,5 +1,5 @@
 //! The words of a command line: `check A`, `draw T`, `prove A B`, `witness A T`, `aut A`, `promela A`, `steps A`, `steps A T`, `why
-//! A`, `why A B` and `explain T REFUSAL`. The words behind a command name files, but for a refusal.
+//! A`, `why A B`, `traces A B` and `explain T REFUSAL`. The words behind a command name files, but for a refusal.
 
 ghost use Rattle.std.specs.Prelude.{◌≡◌, map, string_bytes};
 ghost use Rattle.occ_workshop_run.specs.Words.{job, job_of, of_one, of_two, with_one, with_two};
@@ -33,6 +33,8 @@ pub enum Command<'a> {
     Why { program: &'a str },
     /// To say why the programs in two files differ.
     WhyApart { first: &'a str, second: &'a str },
+    /// To ask whether each trace of the second program is one of the first.
+    Traces { first: &'a str, second: &'a str },
 }
 
 /// What the words of a command line ask for, the program's own name first.
@@ -112,6 +114,8 @@ fn two_named<'a>(command: &str, first: &'a str, second: &'a str) -> Command<'a>
         }
     } else if command == "why" {
         Command::WhyApart { first, second }
+    } else if command == "traces" {
+        Command::Traces { first, second }
     } else {
         Command::Usage
     }

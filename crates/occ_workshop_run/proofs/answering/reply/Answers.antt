@@ -30,3 +30,7 @@ returns-in-Why-clause-answers c =
 pub returns-in-WhyApart-clause-answers : goal.returns-in-WhyApart-clause-answers
 returns-in-WhyApart-clause-answers c =
     subst (λ command. IfOk c.why_apart.result (IsReplyTo command c.args.contents.now)) (sym c.in-WhyApart.is) (IfOk-weaker c.why_apart.result _ _ (λ reply done files loaded. done _ _ loaded.0 loaded.1) c.why_apart.ensures.answers)
+
+pub returns-in-Traces-clause-answers : goal.returns-in-Traces-clause-answers
+returns-in-Traces-clause-answers c =
+    subst (λ command. IfOk c.traces.result (IsReplyTo command c.args.contents.now)) (sym c.in-Traces.is) (IfOk-weaker c.traces.result _ _ (λ reply done files loaded. done _ _ loaded.0 loaded.1) c.traces.ensures.answers)
