@@ -3,8 +3,8 @@ _occam() {
     local word=${COMP_WORDS[COMP_CWORD]} ends='' choices='' end
     COMPREPLY=()
     case ${COMP_CWORD}:${COMP_WORDS[1]} in
-    1:*) choices="check same refine traces deadlock why normalise normal belongs run steps witness replay transform expand derive prove draw aut promela stress help --version" ;;
-    2:help) choices="check same refine traces deadlock why normalise normal belongs run steps witness replay transform expand derive prove draw aut promela stress" ;;
+    1:*) choices="check same refine traces deadlock deterministic why normalise normal belongs run steps witness replay transform expand derive prove draw aut promela stress help --version" ;;
+    2:help) choices="check same refine traces deadlock deterministic why normalise normal belongs run steps witness replay transform expand derive prove draw aut promela stress" ;;
     2:check) ends="occ" ;;
     2:same) ends="occ" ;;
     3:same) ends="occ" ;;
@@ -13,6 +13,7 @@ _occam() {
     2:traces) ends="occ" ;;
     3:traces) ends="occ" ;;
     2:deadlock) ends="occ" ;;
+    2:deterministic) ends="occ" ;;
     2:why) ends="occ" ;;
     3:why) ends="occ" ;;
     2:normalise) ends="occ" ;;

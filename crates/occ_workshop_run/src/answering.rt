@@ -9,7 +9,7 @@ ghost use Rattle.occ_workshop_run.specs.Words.{AskForTwoPrograms, job, usage_tex
 use crate::words::Command;
 use occ_check::{check, explain};
 use occ_draw::{Memory, draw};
-use occ_lts::{aut, promela, traces};
+use occ_lts::{aut, deterministic, promela, traces};
 use occ_prove::prove;
 use occ_steps::{steps, steps_at_start};
 use occ_why::{Given, why, why_apart};
@@ -26,7 +26,8 @@ pub(crate) fn wanted<'a>(command: &Command<'a>) -> Wanted<'a>
         | Command::Aut { program }
         | Command::Promela { program }
         | Command::Steps { program }
-        | Command::Why { program } => { Wanted::One(Named::new(program, MOST_BYTES)) }
+        | Command::Why { program }
+        | Command::Deterministic { program } => { Wanted::One(Named::new(program, MOST_BYTES)) }
         Command::Draw { text } | Command::Explain { text, .. } => {
             Wanted::One(Named::new(text, MOST_TABLE_BYTES))
         }
@@ -90,6 +91,7 @@ pub(crate) fn reply(alloc: Global, command: &Command, contents: &Contents) -> Re
             },
         ),
         Command::Traces { .. } => traces(alloc, first, second),
+        Command::Deterministic { .. } => deterministic(alloc, first),
     }
 }
 
@@ -102,7 +104,7 @@ fn usage(alloc: Global) -> Result<Reply, Memory>
         status: 2,
         text: Vec::from_slice(
             alloc,
-            b"USAGE check A, steps A, steps A T, why A, why A B, draw T, aut A, promela A, prove A B, traces A B, witness A T, explain T REFUSAL\n",
+            b"USAGE check A, steps A, steps A T, why A, why A B, draw T, aut A, promela A, deterministic A, prove A B, traces A B, witness A T, explain T REFUSAL\n",
         )?,
     })
 }

@@ -34,3 +34,7 @@ returns-in-WhyApart-clause-answers c =
 pub returns-in-Traces-clause-answers : goal.returns-in-Traces-clause-answers
 returns-in-Traces-clause-answers c =
     subst (λ command. IfOk c.traces.result (IsReplyTo command c.args.contents.now)) (sym c.in-Traces.is) (IfOk-weaker c.traces.result _ _ (λ reply done files loaded. done _ _ loaded.0 loaded.1) c.traces.ensures.answers)
+
+pub returns-in-Deterministic-clause-answers : goal.returns-in-Deterministic-clause-answers
+returns-in-Deterministic-clause-answers c =
+    subst (λ command. IfOk c.deterministic.result (IsReplyTo command c.args.contents.now)) (sym c.in-Deterministic.is) (IfOk-weaker c.deterministic.result _ _ (λ reply done files loaded. done _ loaded) c.deterministic.ensures.answers)
