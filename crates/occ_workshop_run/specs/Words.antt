@@ -4,7 +4,7 @@ use Rattle.std.specs.Option.{option_map_or}
 use Rattle.std.specs.Str.{bytes_eq}
 use Rattle.occ_witness.specs.occ_tool_words.Words.{is_plain}
 use Rattle.occ_workshop_run.specs.declared.words.Command.{Command}
-use Rattle.occ_workshop_run.specs.declared.words.Command.TheVariants.{Usage, Check, Draw, Explain, Prove, Witness, Aut, Promela, Steps, StepsAfter, Why, WhyApart, Traces, Deterministic}
+use Rattle.occ_workshop_run.specs.declared.words.Command.TheVariants.{Usage, Check, Draw, Explain, Prove, Witness, Aut, Promela, Steps, StepsAfter, Why, WhyApart, Traces, Deterministic, Paths}
 
 -- a command with the names of its files as they stand
 pub data Job : Type 0 where
@@ -21,6 +21,7 @@ pub data Job : Type 0 where
   why_apart : List ℕ → List ℕ → Job
   traces : List ℕ → List ℕ → Job
   deterministic : List ℕ → Job
+  paths : List ℕ → Job
 
 abbrev pub job : Command → Option Job
 job Usage = None
@@ -37,6 +38,7 @@ job (Why program) = Some (why program.now)
 job (WhyApart first second) = Some (why_apart first.now second.now)
 job (Traces first second) = Some (traces first.now second.now)
 job (Deterministic program) = Some (deterministic program.now)
+job (Paths program) = Some (paths program.now)
 
 -- a command that one word follows
 abbrev pub of_one : List ℕ → List ℕ → Option Job
@@ -47,7 +49,8 @@ of_one command first =
     else (if bytes_eq command (codes "promela") then Some (promela first)
     else (if bytes_eq command (codes "steps") then Some (steps first)
     else (if bytes_eq command (codes "why") then Some (why first)
-    else (if bytes_eq command (codes "deterministic") then Some (deterministic first) else None))))))
+    else (if bytes_eq command (codes "deterministic") then Some (deterministic first)
+    else (if bytes_eq command (codes "paths") then Some (paths first) else None)))))))
 
 -- a command that two words follow
 abbrev pub of_two : List ℕ → List ℕ → List ℕ → Option Job
@@ -91,6 +94,7 @@ files_of (why program) = program ∷ []
 files_of (why_apart first second) = first ∷ second ∷ []
 files_of (traces first second) = first ∷ second ∷ []
 files_of (deterministic program) = program ∷ []
+files_of (paths program) = program ∷ []
 
 abbrev pub file_words : List (List ℕ) → List (List ℕ)
 file_words words = option_map_or files_of (job_of words) []
@@ -111,7 +115,8 @@ AskForTwoPrograms (Some (why program)) = ⊥
 AskForTwoPrograms (Some (why_apart first second)) = Unit {0}
 AskForTwoPrograms (Some (traces first second)) = Unit {0}
 AskForTwoPrograms (Some (deterministic program)) = ⊥
+AskForTwoPrograms (Some (paths program)) = ⊥
 
 -- the line of usage
 abbrev pub usage_text : List ℕ
-usage_text = codes "USAGE check A, steps A, steps A T, why A, why A B, draw T, aut A, promela A, deterministic A, prove A B, traces A B, witness A T, explain T REFUSAL\n"
+usage_text = codes "USAGE check A, steps A, steps A T, why A, why A B, draw T, aut A, promela A, paths A, deterministic A, prove A B, traces A B, witness A T, explain T REFUSAL\n"

@@ -1,6 +1,6 @@
 //! The words of a command line: `check A`, `draw T`, `prove A B`, `witness A T`, `aut A`, `promela A`, `steps A`, `steps A T`, `why
-//! A`, `why A B`, `traces A B`, `deterministic A` and `explain T REFUSAL`. The words behind a command name files, but for a
-//! refusal.
+//! A`, `why A B`, `traces A B`, `deterministic A`, `paths A` and `explain T REFUSAL`. The words behind a command name files, but
+//! for a refusal.
 
 ghost use Rattle.std.specs.Prelude.{◌≡◌, map, string_bytes};
 ghost use Rattle.occ_workshop_run.specs.Words.{job, job_of, of_one, of_two, with_one, with_two};
@@ -38,6 +38,8 @@ pub enum Command<'a> {
     Traces { first: &'a str, second: &'a str },
     /// To ask whether the program in a file is deterministic.
     Deterministic { program: &'a str },
+    /// To print the program in a file with the paths of its parts.
+    Paths { program: &'a str },
 }
 
 /// What the words of a command line ask for, the program's own name first.
@@ -81,6 +83,8 @@ fn one_named<'a>(command: &str, first: &'a str) -> Command<'a>
         Command::Why { program: first }
     } else if command == "deterministic" {
         Command::Deterministic { program: first }
+    } else if command == "paths" {
+        Command::Paths { program: first }
     } else {
         Command::Usage
     }

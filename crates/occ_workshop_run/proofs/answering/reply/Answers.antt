@@ -38,3 +38,7 @@ returns-in-Traces-clause-answers c =
 pub returns-in-Deterministic-clause-answers : goal.returns-in-Deterministic-clause-answers
 returns-in-Deterministic-clause-answers c =
     subst (λ command. IfOk c.deterministic.result (IsReplyTo command c.args.contents.now)) (sym c.in-Deterministic.is) (IfOk-weaker c.deterministic.result _ _ (λ reply done files loaded. done _ loaded) c.deterministic.ensures.answers)
+
+pub returns-in-Paths-clause-answers : goal.returns-in-Paths-clause-answers
+returns-in-Paths-clause-answers c =
+    subst (λ command. IfOk c.paths.result (IsReplyTo command c.args.contents.now)) (sym c.in-Paths.is) (IfOk-weaker c.paths.result _ _ (λ reply done files loaded. done _ loaded) c.paths.ensures.answers)
