@@ -3,8 +3,8 @@ _occam() {
     local word=${COMP_WORDS[COMP_CWORD]} ends='' choices='' end
     COMPREPLY=()
     case ${COMP_CWORD}:${COMP_WORDS[1]} in
-    1:*) choices="check same refine traces deadlock deterministic why normalise normal belongs run steps witness replay paths transform expand derive prove draw aut promela stress help --version" ;;
-    2:help) choices="check same refine traces deadlock deterministic why normalise normal belongs run steps witness replay paths transform expand derive prove draw aut promela stress" ;;
+    1:*) choices="check same refine traces deadlock deterministic why normalise normal belongs run steps witness replay laws paths transform expand derive prove draw aut promela stress help --version" ;;
+    2:help) choices="check same refine traces deadlock deterministic why normalise normal belongs run steps witness replay laws paths transform expand derive prove draw aut promela stress" ;;
     2:check) ends="occ" ;;
     2:same) ends="occ" ;;
     3:same) ends="occ" ;;
@@ -27,6 +27,8 @@ _occam() {
     2:witness) ends="occ" ;;
     3:witness) ends="behaviour" ;;
     2:replay) ends="script" ;;
+    2:laws) ends="occ" ;;
+    3:laws) choices=/ ;;
     2:paths) ends="occ" ;;
     2:transform) ends="occ" ;;
     3:transform) ends="orders" ;;

@@ -4,7 +4,7 @@ use Rattle.std.specs.Option.{option_map_or}
 use Rattle.std.specs.Str.{bytes_eq}
 use Rattle.occ_witness.specs.occ_tool_words.Words.{is_plain}
 use Rattle.occ_workshop_run.specs.declared.words.Command.{Command}
-use Rattle.occ_workshop_run.specs.declared.words.Command.TheVariants.{Usage, Check, Draw, Explain, Prove, Witness, Aut, Promela, Steps, StepsAfter, Why, WhyApart, Traces, Deterministic, Paths}
+use Rattle.occ_workshop_run.specs.declared.words.Command.TheVariants.{Usage, Check, Draw, Explain, Prove, Witness, Aut, Promela, Steps, StepsAfter, Why, WhyApart, Traces, Deterministic, Paths, Laws}
 
 -- a command with the names of its files as they stand
 pub data Job : Type 0 where
@@ -22,6 +22,7 @@ pub data Job : Type 0 where
   traces : List ℕ → List ℕ → Job
   deterministic : List ℕ → Job
   paths : List ℕ → Job
+  laws : List ℕ → List ℕ → Job
 
 abbrev pub job : Command → Option Job
 job Usage = None
@@ -39,6 +40,7 @@ job (WhyApart first second) = Some (why_apart first.now second.now)
 job (Traces first second) = Some (traces first.now second.now)
 job (Deterministic program) = Some (deterministic program.now)
 job (Paths program) = Some (paths program.now)
+job (Laws program path) = Some (laws program.now path.now)
 
 -- a command that one word follows
 abbrev pub of_one : List ℕ → List ℕ → Option Job
@@ -60,7 +62,8 @@ of_two command first second =
     else (if bytes_eq command (codes "explain") then Some (explain first second)
     else (if bytes_eq command (codes "steps") then Some (steps_after first second)
     else (if bytes_eq command (codes "why") then Some (why_apart first second)
-    else (if bytes_eq command (codes "traces") then Some (traces first second) else None)))))
+    else (if bytes_eq command (codes "traces") then Some (traces first second)
+    else (if bytes_eq command (codes "laws") then Some (laws first second) else None))))))
 
 -- the words that follow are neither empty nor begin with a hyphen
 abbrev pub with_one : List ℕ → List ℕ → Option Job
@@ -95,6 +98,7 @@ files_of (why_apart first second) = first ∷ second ∷ []
 files_of (traces first second) = first ∷ second ∷ []
 files_of (deterministic program) = program ∷ []
 files_of (paths program) = program ∷ []
+files_of (laws program path) = program ∷ []
 
 abbrev pub file_words : List (List ℕ) → List (List ℕ)
 file_words words = option_map_or files_of (job_of words) []
@@ -116,7 +120,8 @@ AskForTwoPrograms (Some (why_apart first second)) = Unit {0}
 AskForTwoPrograms (Some (traces first second)) = Unit {0}
 AskForTwoPrograms (Some (deterministic program)) = ⊥
 AskForTwoPrograms (Some (paths program)) = ⊥
+AskForTwoPrograms (Some (laws program path)) = ⊥
 
 -- the line of usage
 abbrev pub usage_text : List ℕ
-usage_text = codes "USAGE check A, steps A, steps A T, why A, why A B, draw T, aut A, promela A, paths A, deterministic A, prove A B, traces A B, witness A T, explain T REFUSAL\n"
+usage_text = codes "USAGE check A, steps A, steps A T, why A, why A B, draw T, aut A, promela A, paths A, deterministic A, prove A B, traces A B, witness A T, laws A PATH, explain T REFUSAL\n"

@@ -10,7 +10,7 @@ use crate::words::Command;
 use occ_check::{check, explain};
 use occ_draw::{Memory, draw};
 use occ_lts::{aut, deterministic, promela, traces};
-use occ_places::paths;
+use occ_places::{laws, paths};
 use occ_prove::prove;
 use occ_steps::{steps, steps_at_start};
 use occ_why::{Given, why, why_apart};
@@ -29,7 +29,8 @@ pub(crate) fn wanted<'a>(command: &Command<'a>) -> Wanted<'a>
         | Command::Steps { program }
         | Command::Why { program }
         | Command::Deterministic { program }
-        | Command::Paths { program } => { Wanted::One(Named::new(program, MOST_BYTES)) }
+        | Command::Paths { program }
+        | Command::Laws { program, .. } => { Wanted::One(Named::new(program, MOST_BYTES)) }
         Command::Draw { text } | Command::Explain { text, .. } => {
             Wanted::One(Named::new(text, MOST_TABLE_BYTES))
         }
@@ -95,6 +96,7 @@ pub(crate) fn reply(alloc: Global, command: &Command, contents: &Contents) -> Re
         Command::Traces { .. } => traces(alloc, first, second),
         Command::Deterministic { .. } => deterministic(alloc, first),
         Command::Paths { .. } => paths(alloc, first),
+        Command::Laws { path, .. } => laws(alloc, first, path),
     }
 }
 
@@ -107,7 +109,7 @@ fn usage(alloc: Global) -> Result<Reply, Memory>
         status: 2,
         text: Vec::from_slice(
             alloc,
-            b"USAGE check A, steps A, steps A T, why A, why A B, draw T, aut A, promela A, paths A, deterministic A, prove A B, traces A B, witness A T, explain T REFUSAL\n",
+            b"USAGE check A, steps A, steps A T, why A, why A B, draw T, aut A, promela A, paths A, deterministic A, prove A B, traces A B, witness A T, laws A PATH, explain T REFUSAL\n",
         )?,
     })
 }

@@ -1,6 +1,6 @@
 //! The words of a command line: `check A`, `draw T`, `prove A B`, `witness A T`, `aut A`, `promela A`, `steps A`, `steps A T`, `why
-//! A`, `why A B`, `traces A B`, `deterministic A`, `paths A` and `explain T REFUSAL`. The words behind a command name files, but
-//! for a refusal.
+//! A`, `why A B`, `traces A B`, `deterministic A`, `paths A`, `laws A PATH` and `explain T REFUSAL`. The words behind a command
+//! name files, but for a refusal and a path.
 
 ghost use Rattle.std.specs.Prelude.{◌≡◌, map, string_bytes};
 ghost use Rattle.occ_workshop_run.specs.Words.{job, job_of, of_one, of_two, with_one, with_two};
@@ -40,6 +40,8 @@ pub enum Command<'a> {
     Deterministic { program: &'a str },
     /// To print the program in a file with the paths of its parts.
     Paths { program: &'a str },
+    /// To say what each law makes at a path of the program in a file.
+    Laws { program: &'a str, path: &'a str },
 }
 
 /// What the words of a command line ask for, the program's own name first.
@@ -125,6 +127,11 @@ fn two_named<'a>(command: &str, first: &'a str, second: &'a str) -> Command<'a>
         Command::WhyApart { first, second }
     } else if command == "traces" {
         Command::Traces { first, second }
+    } else if command == "laws" {
+        Command::Laws {
+            program: first,
+            path: second,
+        }
     } else {
         Command::Usage
     }

@@ -42,3 +42,7 @@ returns-in-Deterministic-clause-answers c =
 pub returns-in-Paths-clause-answers : goal.returns-in-Paths-clause-answers
 returns-in-Paths-clause-answers c =
     subst (λ command. IfOk c.paths.result (IsReplyTo command c.args.contents.now)) (sym c.in-Paths.is) (IfOk-weaker c.paths.result _ _ (λ reply done files loaded. done _ loaded) c.paths.ensures.answers)
+
+pub returns-in-Laws-clause-answers : goal.returns-in-Laws-clause-answers
+returns-in-Laws-clause-answers c =
+    subst (λ command. IfOk c.laws.result (IsReplyTo command c.args.contents.now)) (sym c.in-Laws.is) (IfOk-weaker c.laws.result _ _ (λ reply done files loaded. done _ loaded) c.laws.ensures.answers)
