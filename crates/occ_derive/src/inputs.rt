@@ -1,91 +1,93 @@
 //! Cases: an IF over the values of variables, and what each choice knows.
 
-use crate::build::{Branches, Cases, add, alt_by, both_of, choices_in, is_at};
+use crate::build::{at_value, both_of, zeros};
 use occ_derive_open::{cases, prefix};
-use occ_derive_unify::{Frame, Lost, Piece, Trail, alt_of, assign_of, constant, if_of, seq_of_two};
+use occ_derive_unify::{Form, Frame, Item, Lost, Part, Row, SKIP, TRUE, Trail, greatest};
 use occ_script_back::Law;
-use occ_syntax::{Memory, Name, Proc, Width};
-use std::alloc::Global;
-
-/// `SEQ(IF, P)` as an IF with P behind each of its processes.
-fn shared(trail: &mut Trail, choices: Cases, rest: Proc) -> Result<Cases, Lost> {
-    let alloc = trail.alloc();
-    let mut all = Cases::new(alloc);
-    for (condition, first) in choices {
-        let part = seq_of_two(alloc, first, rest.copy(alloc)?)?;
-        add(&mut all, (condition, part))?;
-    }
-    let part = if_of(alloc, all)?;
-    trail.forward(Law::SeqIf, &part)?;
-    choices_in(alloc, part)
-}
+use occ_syntax::{Name, Op, Width};
 
 /// `SEQ(a, P)` made an IF over these cases of the assignment, each before P.
-pub(crate) fn by_cases(trail: &mut Trail, part: Proc, table: Cases) -> Result<Cases, Lost> {
-    let alloc = trail.alloc();
-    let (first, rest) = both_of(alloc, part)?;
+pub(crate) fn by_cases(trail: &mut Trail, part: Part, table: Row) -> Result<Row, Lost> {
+    let (first, rest) = both_of(trail, part)?;
     trail.enter(0)?;
-    let first = cases(trail, table.as_slice(), first)?;
+    let choices = cases(trail, table, first)?;
     trail.leave();
-    shared(trail, choices_in(alloc, first)?, rest)
+    let begin = trail.begin();
+    for place in 0..choices.count() {
+        let item = trail.item(choices, place)?;
+        let part = trail.two(Form::Seq, item.part, rest)?;
+        trail.put(item.with(part))?;
+    }
+    let made = trail.end(begin)?;
+    trail.forward(Law::SeqIf, Form::If.of(made))?;
+    Ok(made)
 }
 
-/// For each value of a variable, in increasing order, the condition that it has it and the assignment that gives it.
-pub(crate) fn by_values(alloc: Global, name: Name, width: Width) -> Result<Cases, Memory> {
-    let mut table = Vec::new(alloc);
-    for value in 0..=last_of(width) {
-        let pair = [(name, constant(width, value))];
-        let part = assign_of(alloc, &pair)?;
-        table.push((is_at(alloc, name, width, value)?, part))?;
+/// A table with a case for each value of a further variable in each of its cases, in increasing order: the condition that it has the value
+/// too, and the assignment that gives the value too.
+fn widened(trail: &mut Trail, table: Row, var: (Name, Width)) -> Result<Row, Lost> {
+    let begin = trail.begin();
+    for place in 0..table.count() {
+        let item = trail.item(table, place)?;
+        let before = trail.pairs(item.part)?;
+        for number in 0..=greatest(var.1) {
+            let (condition, pair) = at_value(trail, var, number)?;
+            let value = if item.value == TRUE {
+                condition
+            } else {
+                trail.operation(Op::And, item.value, condition)?
+            };
+            let pairs = trail.spliced(before, before.count(), 0, pair)?;
+            trail.put(Item::of(Form::Assign.of(pairs)).worth(value))?;
+        }
     }
-    Ok(table)
+    trail.end(begin)
 }
 
-/// The greatest value of a width.
-pub(crate) fn last_of(width: Width) -> u8 {
-    let mut last: u8 = 1;
-    for _ in 1..width.bits() {
-        last = last.saturating_mul(2).saturating_add(1);
+/// For each state of variables, in increasing order from the left, its condition, and the assignment of its values and of FALSE or 0 to
+/// other variables.
+pub(crate) fn by_states(
+    trail: &mut Trail,
+    vars: &[(Name, Width)],
+    others: &[(Name, Width)],
+) -> Result<Row, Lost> {
+    let mut table = trail.row(&[Item::of(SKIP)])?;
+    for var in vars {
+        table = widened(trail, table, *var)?;
     }
-    last
+    let begin = trail.begin();
+    for place in 0..table.count() {
+        let item = trail.item(table, place)?;
+        let first = trail.pairs(item.part)?;
+        let second = zeros(trail, others)?;
+        let pairs = trail.chain(first, second)?;
+        let part = trail.assignment(pairs);
+        trail.put(item.with(part))?;
+    }
+    trail.end(begin)
 }
 
 /// An assignment brought to each configuration of a superposition.
-pub(crate) fn told(trail: &mut Trail, frame: &Frame, part: Proc) -> Result<Proc, Lost> {
-    let alloc = trail.alloc();
-    let (first, rest) = both_of(alloc, part)?;
-    match Piece::of(alloc, rest)? {
-        Piece::Alt(branches) => {
-            let branches = spread(trail, &first, branches)?;
-            told_each(trail, frame, branches)
-        }
-        piece => {
-            let rest = piece.into_proc(alloc)?;
-            prefix(trail, frame, seq_of_two(alloc, first, rest)?)
-        }
+pub(crate) fn told(trail: &mut Trail, frame: &Frame, part: Part) -> Result<Part, Lost> {
+    let (first, rest) = both_of(trail, part)?;
+    if rest.form != Form::Alt {
+        return prefix(trail, frame, part);
     }
-}
-
-fn spread(trail: &mut Trail, first: &Proc, branches: Branches) -> Result<Branches, Lost> {
-    let alloc = trail.alloc();
-    let mut all = Branches::new(alloc);
-    for (guard, process) in branches {
-        let part = seq_of_two(alloc, first.copy(alloc)?, process)?;
-        add(&mut all, (guard, part))?;
+    let begin = trail.begin();
+    for place in 0..rest.row.count() {
+        let item = trail.item(rest.row, place)?;
+        let part = trail.two(Form::Seq, first, item.part)?;
+        trail.put(item.with(part))?;
     }
-    alt_by(trail, Law::AssignAlt, all)
-}
-
-fn told_each(trail: &mut Trail, frame: &Frame, branches: Branches) -> Result<Proc, Lost> {
-    let alloc = trail.alloc();
-    let mut all = Branches::new(alloc);
-    let mut place: u32 = 0;
-    for (guard, process) in branches {
+    let whole = Form::Alt.of(trail.end(begin)?);
+    trail.forward(Law::AssignAlt, whole)?;
+    let begin = trail.begin();
+    for place in 0..whole.row.count() {
+        let item = trail.item(whole.row, place)?;
         trail.enter(place)?;
-        let process = prefix(trail, frame, process)?;
+        let part = prefix(trail, frame, item.part)?;
         trail.leave();
-        add(&mut all, (guard, process))?;
-        place = place.saturating_add(1);
+        trail.put(item.with(part))?;
     }
-    Ok(alt_of(alloc, all)?)
+    Ok(Form::Alt.of(trail.end(begin)?))
 }

@@ -10,7 +10,6 @@ mod inputs;
 mod last;
 mod node;
 mod settle;
-mod states;
 mod whole;
 
 pub use checking::{derive, derive_to};

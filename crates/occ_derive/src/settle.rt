@@ -1,226 +1,117 @@
 //! Configurations worked until they wait for events.
 
-use crate::build::{Branches, add, alt_by, branches_in, is_of_events};
+use crate::build::is_of_events;
 use occ_derive_open::{advance, open};
-use occ_derive_unify::{Frame, Lost, Piece, Trail, alt_of, unseen};
+use occ_derive_unify::{Form, Frame, Item, Lost, Part, Row, Trail, Wait};
 use occ_script_back::Law;
-use occ_syntax::{Guard, Memory, Proc, Wait, same_expr, same_proc};
-use std::alloc::Global;
-use std::mem::replace;
 
 /// The most branches that one ALT has on the way.
 const MOST: u32 = 1_000_000;
 
 /// Whether a process is an end: the last assignment, or SKIP where no variable is known.
-fn is_end(part: &Proc) -> bool {
-    matches!(part, Proc::Assign { .. } | Proc::Skip)
+fn is_end(part: Part) -> bool {
+    matches!(part.form, Form::Assign | Form::Skip)
 }
 
-fn same_wait(left: &Wait, right: &Wait) -> bool {
-    match (left, right) {
-        (Wait::Skip, Wait::Skip) => true,
-        (Wait::Get { chan, var }, Wait::Get { chan: c, var: v }) => chan == c && var == v,
-        (Wait::Put { chan, value }, Wait::Put { chan: c, value: v }) => {
-            chan == c && same_expr(value, v)
-        }
-        _ => false,
-    }
-}
-
-fn same_branch(left: &(Guard, Proc), right: &(Guard, Proc)) -> bool {
-    let (guard, process) = left;
-    let (other, others) = right;
-    same_wait(&guard.wait, &other.wait)
-        && same_expr(&guard.condition, &other.condition)
-        && same_proc(process, others)
-}
-
-fn is_among(branch: &(Guard, Proc), branches: &[(Guard, Proc)]) -> bool {
-    for other in branches {
-        if same_branch(other, branch) {
-            return true;
+/// Whether a branch is the same as one before it.
+fn is_twice(trail: &Trail, branches: Row, place: usize) -> Result<bool, Lost> {
+    let branch = trail.item(branches, place)?;
+    for before in 0..place {
+        let other = trail.item(branches, before)?;
+        if trail.is_same_guard(other, branch)? && trail.is_same(other.part, branch.part)? {
+            return Ok(true);
         }
     }
-    false
-}
-
-/// The first branch that is the same as one before it.
-fn first_twice(branches: &[(Guard, Proc)]) -> Option<usize> {
-    for place in 0..branches.len() {
-        if is_among(&branches[place], &branches[..place]) {
-            return Some(place);
-        }
-    }
-    None
-}
-
-/// Whether a branch is settled: it waits for an event, or goes on at once as an acceptance or an end.
-fn is_settled(branch: &(Guard, Proc)) -> bool {
-    let (guard, process) = branch;
-    !matches!(guard.wait, Wait::Skip) || matches!(process, Proc::Alt(_)) || is_end(process)
-}
-
-/// The first branch that isn't settled.
-fn first_open(branches: &[(Guard, Proc)]) -> Option<usize> {
-    for place in 0..branches.len() {
-        if !is_settled(&branches[place]) {
-            return Some(place);
-        }
-    }
-    None
+    Ok(false)
 }
 
 /// Takes out each branch that is the same as one before it.
-fn once(trail: &mut Trail, branches: Branches) -> Result<Branches, Lost> {
-    let mut branches = branches;
-    for _ in 0..MOST {
-        let Some(place) = first_twice(branches.as_slice()) else {
-            return Ok(branches);
-        };
-        if place < branches.len() {
-            let _ = branches.remove(place);
-        }
-        branches = alt_by(trail, Law::AltTwice, branches)?;
-    }
-    Err(Lost::NoStep)
-}
-
-/// Adds branches at the end.
-fn append(all: &mut Branches, more: Branches) -> Result<(), Memory> {
-    for branch in more {
-        all.push(branch)?;
-    }
-    Ok(())
-}
-
-/// The branches with those of an ALT in the place of one.
-fn taken_in(
-    alloc: Global,
-    branches: Branches,
-    at: usize,
-    inner: Branches,
-) -> Result<Branches, Memory> {
-    let mut all = Vec::new(alloc);
-    let mut inner = inner;
-    for (place, branch) in branches.into_iter().enumerate() {
-        if place != at {
-            all.push(branch)?;
+fn once(trail: &mut Trail, branches: Row) -> Result<Row, Lost> {
+    let mut left = branches;
+    let mut place: usize = 0;
+    for _ in 0..branches.count() {
+        if is_twice(trail, left, place)? {
+            left = trail.without(left, place)?;
+            trail.forward(Law::AltTwice, Form::Alt.of(left))?;
         } else {
-            append(&mut all, replace(&mut inner, Vec::new(alloc)))?;
+            place = place.saturating_add(1);
         }
     }
-    Ok(all)
+    Ok(left)
+}
+
+/// The first branch that isn't settled: it goes on at once, and neither as an acceptance nor as an end.
+fn first_open(trail: &Trail, branches: Row) -> Result<Option<usize>, Lost> {
+    for place in 0..branches.count() {
+        let item = trail.item(branches, place)?;
+        if item.wait == Wait::Skip && item.part.form != Form::Alt && !is_end(item.part) {
+            return Ok(Some(place));
+        }
+    }
+    Ok(None)
 }
 
 /// Puts what the configuration of a branch became into its place: its own branches, where one of them goes on at once.
-fn put_back(
-    trail: &mut Trail,
-    branches: Branches,
-    place: usize,
-    part: Proc,
-) -> Result<Branches, Lost> {
-    let alloc = trail.alloc();
-    let mut branches = branches;
-    match Piece::of(alloc, part)? {
-        Piece::Alt(inner) => {
-            if is_of_events(inner.as_slice()) {
-                put(&mut branches, place, alt_of(alloc, inner)?);
-                return Ok(branches);
-            }
-            let all = taken_in(alloc, branches, place, inner)?;
-            alt_by(trail, Law::AltFlat, all)
-        }
-        piece => {
-            put(&mut branches, place, piece.into_proc(alloc)?);
-            Ok(branches)
-        }
+fn put_back(trail: &mut Trail, branches: Row, place: usize, part: Part) -> Result<Row, Lost> {
+    if part.form != Form::Alt || is_of_events(trail, part.row)? {
+        let item = trail.item(branches, place)?;
+        return trail.replaced(branches, place, item.with(part));
     }
-}
-
-/// Puts a process behind the guard of a branch, and gives the one that stood there.
-fn put(branches: &mut Branches, place: usize, part: Proc) -> Proc {
-    if place < branches.len() {
-        replace(&mut branches[place].1, part)
-    } else {
-        part
-    }
+    let begin = trail.begin();
+    trail.put_all(branches.front(place))?;
+    trail.put_all(part.row)?;
+    trail.put_all(branches.past(place.saturating_add(1)))?;
+    let made = trail.end(begin)?;
+    trail.forward(Law::AltFlat, Form::Alt.of(made))?;
+    Ok(made)
 }
 
 /// The branches of an ALT, each of which waits or goes on at once with a configuration or what is settled, made those of a settled
 /// ALT.
 #[cycle(settle)]
-fn settle_all(
-    trail: &mut Trail,
-    frame: &Frame,
-    branches: Branches,
-    fuel: u32,
-) -> Result<Branches, Lost> {
+fn settle_all(trail: &mut Trail, frame: &Frame, branches: Row, fuel: u32) -> Result<Row, Lost> {
     let Some(fuel) = fuel.checked_sub(1) else {
         return Err(Lost::NoStep);
     };
-    let mut branches = once(trail, branches)?;
+    let mut made = once(trail, branches)?;
     for _ in 0..MOST {
-        let Some(place) = first_open(branches.as_slice()) else {
-            return Ok(branches);
+        let Some(place) = first_open(trail, made)? else {
+            return Ok(made);
         };
-        let Ok(number) = u32::try_from(place) else {
-            return Err(Lost::NoStep);
-        };
-        let part = put(&mut branches, place, Proc::Skip);
-        trail.enter(number)?;
+        let part = trail.part(made, place)?;
+        trail.enter(place)?;
         let part = settle_one(trail, frame, part, fuel)?;
         trail.leave();
-        let next = put_back(trail, branches, place, part)?;
-        branches = once(trail, next)?;
+        made = put_back(trail, made, place, part)?;
+        made = once(trail, made)?;
     }
     Err(Lost::NoStep)
 }
 
 /// A configuration made a settled ALT, or an end.
 #[cycle(settle)]
-fn settle_one(trail: &mut Trail, frame: &Frame, part: Proc, fuel: u32) -> Result<Proc, Lost> {
+fn settle_one(trail: &mut Trail, frame: &Frame, part: Part, fuel: u32) -> Result<Part, Lost> {
     let Some(fuel) = fuel.checked_sub(1) else {
         return Err(Lost::NoStep);
     };
-    let alloc = trail.alloc();
     let part = advance(trail, frame, part)?;
-    if is_end(&part) {
+    if is_end(part) {
         return Ok(part);
     }
     let part = open(trail, frame, part)?;
-    let branches = settle_all(trail, frame, branches_in(alloc, part)?, fuel)?;
-    Ok(alt_of(alloc, branches)?)
-}
-
-/// A process as the one branch of an ALT.
-fn as_branch(trail: &mut Trail, part: Proc) -> Result<Branches, Lost> {
-    let alloc = trail.alloc();
-    let mut branches = Vec::new(alloc);
-    add(&mut branches, (unseen(), part))?;
-    let part = alt_of(alloc, branches)?;
-    trail.backward(Law::AltSkip, &part)?;
-    branches_in(alloc, part)
+    Ok(Form::Alt.of(settle_all(trail, frame, part.row, fuel)?))
 }
 
 /// A superposition made the branches of a settled ALT.
-pub(crate) fn settle(
-    trail: &mut Trail,
-    frame: &Frame,
-    part: Proc,
-    fuel: u32,
-) -> Result<Branches, Lost> {
-    match Piece::of(trail.alloc(), part)? {
-        Piece::Alt(branches) => settle_all(trail, frame, branches, fuel),
-        piece => {
-            let part = piece.into_proc(trail.alloc())?;
-            let part = settle_one(trail, frame, part, fuel)?;
-            match Piece::of(trail.alloc(), part)? {
-                Piece::Alt(branches) => Ok(branches),
-                piece => {
-                    let part = piece.into_proc(trail.alloc())?;
-                    as_branch(trail, part)
-                }
-            }
-        }
+pub(crate) fn settle(trail: &mut Trail, frame: &Frame, part: Part, fuel: u32) -> Result<Row, Lost> {
+    if part.form == Form::Alt {
+        return settle_all(trail, frame, part.row, fuel);
     }
+    let part = settle_one(trail, frame, part, fuel)?;
+    if part.form == Form::Alt {
+        return Ok(part.row);
+    }
+    let branches = trail.row(&[Item::of(part)])?;
+    trail.backward(Law::AltSkip, Form::Alt.of(branches))?;
+    Ok(branches)
 }

@@ -2,16 +2,13 @@
 
 ghost use Rattle.occ_script_back.specs.occ_lex.Growth.{GrowsByNames};
 
-use crate::build::{Cases, add, both_of, choices_in, identities, joined, zeros};
+use crate::build::{both_of, zeros};
 use crate::ending::behind_identities;
 use crate::frame::{View, above, greatest, targets, variables};
-use crate::inputs::by_cases;
-use crate::node::{cleared_if, node};
-use crate::states::by_states;
+use crate::inputs::{by_cases, by_states};
+use crate::node::{cleared_by, node};
 use occ_derive_open::apart;
-use occ_derive_unify::{
-    Dones, Frame, Lost, Piece, Trail, assign_of, if_of, restore, seq_of, seq_of_two, var_of,
-};
+use occ_derive_unify::{Dones, Form, Frame, Lost, Part, Row, Trail, restore};
 use occ_script_back::{Law, greatest_name};
 use occ_syntax::{Kind, Memory, Name, Names, Proc, Program, Width};
 use std::alloc::Global;
@@ -19,138 +16,100 @@ use std::alloc::Global;
 /// How deep the strategy goes at most.
 const FUEL: u32 = 1_000_000;
 
-/// What a declaration governs.
-fn body_of(alloc: Global, part: Proc) -> Result<Proc, Lost> {
-    match Piece::of(alloc, part)? {
-        Piece::Var(_, _, body) => Ok(body),
-        _ => Err(Lost::NoStep),
-    }
-}
-
-/// `SEQ(xs := es, P)` as the SEQ in declarations of further variables, each of which is 0 or FALSE in the assignment. The trail
+/// `SEQ(xs := xs, P)` as the SEQ in declarations of further variables, each of which is 0 or FALSE in the assignment. The trail
 /// stands at the SEQ in the end.
 fn declared(
     trail: &mut Trail,
     vars: &[(Name, Width)],
     others: &[(Name, Width)],
-    part: Proc,
-) -> Result<Proc, Lost> {
-    let alloc = trail.alloc();
-    let mut part = part;
-    let mut pairs = identities(alloc, vars)?;
-    for (name, width) in others {
-        let (_, rest) = both_of(alloc, part)?;
-        pairs = joined(pairs, zeros(alloc, &[(*name, *width)])?)?;
-        let first = assign_of(alloc, pairs.as_slice())?;
-        let first = var_of(alloc, *name, *width, first)?;
+    part: Part,
+) -> Result<Part, Lost> {
+    let (_, rest) = both_of(trail, part)?;
+    let mut pairs = trail.identities(vars)?;
+    let mut made = part;
+    for other in others {
+        let zero = zeros(trail, &[*other])?;
+        pairs = trail.chain(pairs, zero)?;
+        let form = Form::Var(other.0, other.1);
+        let first = trail.one(form, Form::Assign.of(pairs))?;
         trail.enter(0)?;
-        trail.backward(Law::VarAssign, &first)?;
+        trail.backward(Law::VarAssign, first)?;
         trail.leave();
-        let inner = seq_of_two(alloc, body_of(alloc, first)?, rest)?;
-        let outer = var_of(alloc, *name, *width, inner)?;
-        trail.backward(Law::VarLast, &outer)?;
-        part = body_of(alloc, outer)?;
+        made = trail.two(Form::Seq, Form::Assign.of(pairs), rest)?;
+        let outer = trail.one(form, made)?;
+        trail.backward(Law::VarLast, outer)?;
         trail.enter(0)?;
     }
-    Ok(part)
+    Ok(made)
 }
 
 /// `VAR x: IF` as an IF with the declaration in each choice.
-fn brought_in(trail: &mut Trail, variable: (Name, Width), choices: Cases) -> Result<Cases, Lost> {
-    let alloc = trail.alloc();
-    let (name, width) = variable;
-    let mut all = Cases::new(alloc);
-    for (condition, process) in choices {
-        add(&mut all, (condition, var_of(alloc, name, width, process)?))?;
+fn brought_in(trail: &mut Trail, form: Form, choices: Row) -> Result<Row, Lost> {
+    let begin = trail.begin();
+    for place in 0..choices.count() {
+        let item = trail.item(choices, place)?;
+        let part = trail.one(form, item.part)?;
+        trail.put(item.with(part))?;
     }
-    let part = if_of(alloc, all)?;
-    trail.forward(Law::VarIf, &part)?;
-    choices_in(alloc, part)
+    let made = trail.end(begin)?;
+    trail.forward(Law::VarIf, Form::If.of(made))?;
+    Ok(made)
 }
 
 /// The process of each choice made a node.
-fn nodes(trail: &mut Trail, view: &View, choices: Cases) -> Result<Cases, Lost> {
-    let mut all = Cases::new(trail.alloc());
-    let mut place: u32 = 0;
-    for (condition, part) in choices {
+fn nodes(trail: &mut Trail, view: &View, choices: Row) -> Result<Row, Lost> {
+    let begin = trail.begin();
+    for place in 0..choices.count() {
+        let item = trail.item(choices, place)?;
         trail.enter(place)?;
-        let part = node(trail, view, part, FUEL)?;
+        let part = node(trail, view, item.part, FUEL)?;
         trail.leave();
-        add(&mut all, (condition, part))?;
-        place = place.saturating_add(1);
+        trail.put(item.with(part))?;
     }
-    Ok(all)
+    trail.end(begin)
 }
 
 /// `VAR t: SEQ(P, ts := 0)` without the assignment to t, where t is the last of these variables: `SEQ(VAR t: P, us := 0)` for the
 /// variables us before it, and `VAR t: P` where there are none.
-fn cleared(
+fn without_last(
     trail: &mut Trail,
-    variable: (Name, Width),
+    form: Form,
     before: &[(Name, Width)],
-    front: Proc,
-) -> Result<Proc, Lost> {
-    let alloc = trail.alloc();
-    let (name, width) = variable;
-    let rest = assign_of(alloc, zeros(alloc, before)?.as_slice())?;
-    let inner = seq_of_two(alloc, front, rest)?;
-    let part = var_of(alloc, name, width, inner)?;
-    trail.forward(Law::VarEnd, &part)?;
-    let (front, rest) = both_of(alloc, body_of(alloc, part)?)?;
+    front: Part,
+) -> Result<Part, Lost> {
+    let zeros = zeros(trail, before)?;
+    let rest = trail.assignment(zeros);
+    let inner = trail.two(Form::Seq, front, rest)?;
+    let whole = trail.one(form, inner)?;
+    trail.forward(Law::VarEnd, whole)?;
+    let made = trail.one(form, front)?;
     if before.is_empty() {
-        return Ok(var_of(alloc, name, width, lone(trail, front)?)?);
+        let alone = trail.one(Form::Seq, front)?;
+        trail.enter(0)?;
+        trail.forward(Law::SeqSkip, alone)?;
+        trail.forward(Law::SeqOne, front)?;
+        trail.leave();
+        return Ok(made);
     }
-    let front = var_of(alloc, name, width, front)?;
-    let part = seq_of_two(alloc, front, rest)?;
-    trail.forward(Law::VarLast, &part)?;
-    Ok(part)
-}
-
-/// `P` made of `SEQ(P, SKIP)` under a declaration.
-fn lone(trail: &mut Trail, front: Proc) -> Result<Proc, Lost> {
-    let alloc = trail.alloc();
-    let mut parts = Vec::new(alloc);
-    add(&mut parts, front)?;
-    let part = seq_of(alloc, parts)?;
-    trail.enter(0)?;
-    trail.forward(Law::SeqSkip, &part)?;
-    let Piece::Seq(mut parts) = Piece::of(alloc, part)? else {
-        return Err(Lost::NoStep);
-    };
-    let Some(front) = parts.pop() else {
-        return Err(Lost::NoStep);
-    };
-    trail.forward(Law::SeqOne, &front)?;
-    trail.leave();
-    Ok(front)
+    let whole = trail.two(Form::Seq, made, rest)?;
+    trail.forward(Law::VarLast, whole)?;
+    Ok(whole)
 }
 
 /// Takes the variables for inputs out of what every process ends with: the SEQ in their declarations becomes the IF in their
 /// declarations. The trail stands at the whole in the end.
-fn all_cleared(trail: &mut Trail, targets: &[(Name, Width)], part: Proc) -> Result<Proc, Lost> {
-    let alloc = trail.alloc();
-    let mut part = part;
+fn all_cleared(trail: &mut Trail, targets: &[(Name, Width)], part: Part) -> Result<Part, Lost> {
+    let mut whole = part;
     for place in (0..targets.len()).rev() {
-        let Some(last) = targets.get(place) else {
+        let Some((name, width)) = targets.get(place) else {
             return Err(Lost::NoStep);
         };
         trail.leave();
-        let (front, _) = both_of(alloc, part)?;
-        part = cleared(trail, *last, &targets[..place], front)?;
+        let (front, _) = both_of(trail, whole)?;
+        let form = Form::Var(*name, *width);
+        whole = without_last(trail, form, &targets[..place], front)?;
     }
-    Ok(part)
-}
-
-/// Gives each choice's node its offers.
-fn restored(trail: &mut Trail, view: &View, choices: Cases) -> Result<(), Lost> {
-    let mut place: u32 = 0;
-    for (_, part) in choices {
-        trail.enter(place)?;
-        let _ = restore(trail, &view.params, part)?;
-        trail.leave();
-        place = place.saturating_add(1);
-    }
-    Ok(())
+    Ok(whole)
 }
 
 /// The body of the program, in which no name is declared that is used otherwise, made that of its normal program. Where there are
@@ -159,37 +118,43 @@ fn derived(
     trail: &mut Trail,
     view: &View,
     stand_in: (Name, Width),
-    body: Proc,
+    body: Part,
 ) -> Result<(), Lost> {
-    let alloc = trail.alloc();
     let params = view.frame.params.as_slice();
     let targets = view.frame.targets.as_slice();
     let part = behind_identities(trail, params, body)?;
     let choices = if params.is_empty() && targets.is_empty() {
-        let others = [stand_in];
-        let part = declared(trail, params, &others, part)?;
-        let choices = by_cases(trail, part, by_states(alloc, params, &others)?)?;
+        let part = declared(trail, params, &[stand_in], part)?;
+        let table = by_states(trail, params, &[stand_in])?;
+        let choices = by_cases(trail, part, table)?;
         trail.leave();
-        brought_in(trail, stand_in, choices)?
+        brought_in(trail, Form::Var(stand_in.0, stand_in.1), choices)?
     } else {
         let part = declared(trail, params, targets, part)?;
-        by_cases(trail, part, by_states(alloc, params, targets)?)?
+        let table = by_states(trail, params, targets)?;
+        by_cases(trail, part, table)?
     };
-    let choices = nodes(trail, view, choices)?;
-    let part = cleared_if(trail, &view.frame, choices)?;
+    let choices = Form::If.of(nodes(trail, view, choices)?);
+    let part = cleared_by(trail, view, Law::SeqIf, choices)?;
     let part = all_cleared(trail, targets, part)?;
     offered(trail, view, part)
 }
 
 /// Gives all offers to the IF in declarations, each of whose choices is a node.
-fn offered(trail: &mut Trail, view: &View, part: Proc) -> Result<(), Lost> {
-    let alloc = trail.alloc();
+fn offered(trail: &mut Trail, view: &View, part: Part) -> Result<(), Lost> {
     let mut part = part;
     for _ in view.frame.targets.as_slice() {
-        part = body_of(alloc, part)?;
+        part = trail.body(part)?;
         trail.enter(0)?;
     }
-    restored(trail, view, choices_in(alloc, part)?)
+    let choices = trail.held(part, Form::If)?;
+    for place in 0..choices.count() {
+        let part = trail.part(choices, place)?;
+        trail.enter(place)?;
+        let _ = restore(trail, &view.params, part)?;
+        trail.leave();
+    }
+    Ok(())
 }
 
 fn names_in(
@@ -199,10 +164,10 @@ fn names_in(
 ) -> Result<Vec<Name>, Memory> {
     let mut all = Vec::new(alloc);
     for (name, _) in params {
-        add(&mut all, *name)?;
+        all.push(*name)?;
     }
     for (name, _) in targets {
-        add(&mut all, *name)?;
+        all.push(*name)?;
     }
     Ok(all)
 }
@@ -250,7 +215,7 @@ pub(crate) fn proposals(
 {
     let params = program.params.items();
     let targets = targets(alloc, normal)?;
-    let mut trail = Trail::new(alloc);
+    let mut trail = Trail::new(alloc)?;
     let taken = names_in(alloc, params, targets.as_slice())?;
     let body = program.body.copy(alloc)?;
     let Named {
@@ -267,6 +232,7 @@ pub(crate) fn proposals(
         frame,
         params: program.params.copy(alloc)?,
     };
+    let body = trail.load(&body)?;
     derived(&mut trail, &view, (stand_in, Width::Bool), body)?;
     Ok(trail.into_steps())
 }

@@ -1,167 +1,122 @@
 //! A head form that isn't an ALT leaves a PAR of two.
 
-use crate::around::Turn;
-use crate::build::{alone, cut, par_of_two, parted};
-use occ_derive_trail::{Law, Lost, Piece, Trail, if_of, par_of, seq_of, seq_of_two, var_of};
-use occ_syntax::{Expr, Memory, Proc};
-use std::alloc::Global;
+use crate::exposing::Turn;
+use occ_derive_trail::{Form, Item, Law, Lost, Part, Row, STOP, Token, Trail};
 
 /// The first part of a PAR leaves it.
-pub(crate) fn first_leaves(trail: &mut Trail, head: Piece, other: Proc) -> Result<Turn, Lost> {
-    match head {
-        Piece::Skip => skip_leaves(trail, other),
-        Piece::Stop => {
-            let whole = par_of_two(trail.alloc(), other, Proc::Stop)?;
-            trail.forward(Law::ParOrder, &whole)?;
-            let (other, _) = parted(trail.alloc(), whole)?;
+pub(crate) fn first_leaves(trail: &mut Trail, head: Part, other: Part) -> Result<Turn, Lost> {
+    match head.form {
+        Form::Skip => skip_leaves(trail, other),
+        Form::Stop => {
+            let whole = trail.two(Form::Par, other, STOP)?;
+            trail.forward(Law::ParOrder, whole)?;
             stop_leaves(trail, other)
         }
-        head => Ok(Turn::Head(begins(trail, head, other)?)),
+        _ => Ok(Turn::Head(begins(trail, head, other)?)),
     }
 }
 
 /// The second part of a PAR leaves it. The parts keep their order.
-pub(crate) fn second_leaves(trail: &mut Trail, other: Proc, head: Piece) -> Result<Turn, Lost> {
-    let alloc = trail.alloc();
-    match head {
-        Piece::Skip => skip_leaves(trail, other),
-        Piece::Stop => stop_leaves(trail, other),
-        head => {
-            let head = head.into_proc(alloc)?;
-            let whole = swapped(trail, par_of_two(alloc, other, head)?)?;
-            let (head, other) = parted(alloc, whole)?;
-            let whole = begins(trail, Piece::of(alloc, head)?, other)?;
+pub(crate) fn second_leaves(trail: &mut Trail, other: Part, head: Part) -> Result<Turn, Lost> {
+    match head.form {
+        Form::Skip => skip_leaves(trail, other),
+        Form::Stop => stop_leaves(trail, other),
+        _ => {
+            let whole = trail.two(Form::Par, head, other)?;
+            trail.forward(Law::ParOrder, whole)?;
+            let whole = begins(trail, head, other)?;
             Ok(Turn::Head(back(trail, whole)?))
         }
     }
 }
 
-// The parts of a PAR of two in the other order.
-fn swapped(trail: &mut Trail, whole: Proc) -> Result<Proc, Lost> {
-    let alloc = trail.alloc();
-    let (first, second) = parted(alloc, whole)?;
-    let whole = par_of_two(alloc, second, first)?;
-    trail.forward(Law::ParOrder, &whole)?;
-    Ok(whole)
-}
-
 // SKIP leaves the other part alone.
-fn skip_leaves(trail: &mut Trail, other: Proc) -> Result<Turn, Lost> {
-    let alloc = trail.alloc();
-    let whole = par_of(alloc, alone(alloc, other)?)?;
-    trail.forward(Law::ParSkip, &whole)?;
-    let Piece::Par(mut parts) = Piece::of(alloc, whole)? else {
-        return Err(Lost::NoStep);
-    };
-    let Some(other) = parts.pop() else {
-        return Err(Lost::NoStep);
-    };
-    trail.forward(Law::ParOne, &other)?;
+fn skip_leaves(trail: &mut Trail, other: Part) -> Result<Turn, Lost> {
+    let whole = trail.one(Form::Par, other)?;
+    trail.forward(Law::ParSkip, whole)?;
+    trail.forward(Law::ParOne, other)?;
     Ok(Turn::Work(other))
 }
 
 // The other part before STOP.
-fn stop_leaves(trail: &mut Trail, other: Proc) -> Result<Turn, Lost> {
-    let whole = seq_of_two(trail.alloc(), other, Proc::Stop)?;
-    trail.forward(Law::ParStop, &whole)?;
+fn stop_leaves(trail: &mut Trail, other: Part) -> Result<Turn, Lost> {
+    let whole = trail.two(Form::Seq, other, STOP)?;
+    trail.forward(Law::ParStop, whole)?;
     Ok(Turn::Work(whole))
 }
 
 // The whole begins as its first part does.
-fn begins(trail: &mut Trail, head: Piece, other: Proc) -> Result<Proc, Lost> {
-    let alloc = trail.alloc();
-    match head {
-        Piece::Seq(parts) => assigns(trail, parts, other),
-        Piece::If(choices) => chooses(trail, choices, other),
-        Piece::Var(name, width, body) => {
-            let whole = var_of(alloc, name, width, par_of_two(alloc, body, other)?)?;
-            trail.backward(Law::VarPar, &whole)?;
+fn begins(trail: &mut Trail, head: Part, other: Part) -> Result<Part, Lost> {
+    match head.form {
+        Form::Seq => {
+            let first = trail.part(head.row, 0)?;
+            let beside = trail.two(Form::Par, Form::Seq.of(head.row.past(1)), other)?;
+            let whole = trail.two(Form::Seq, first, beside)?;
+            trail.forward(Law::ParAssign, whole)?;
+            Ok(whole)
+        }
+        Form::If => {
+            let choices = with_else(trail, head.row)?;
+            let whole = Form::If.of(each_beside(trail, choices, other)?);
+            trail.forward(Law::ParIf, whole)?;
+            Ok(whole)
+        }
+        Form::Var(_, _) => {
+            let whole = head.form.of(each_beside(trail, head.row, other)?);
+            trail.backward(Law::VarPar, whole)?;
             Ok(whole)
         }
         _ => Err(Lost::NoStep),
     }
 }
 
-fn assigns(trail: &mut Trail, parts: Vec<Proc>, other: Proc) -> Result<Proc, Lost> {
-    let alloc = trail.alloc();
-    let Some((first, rest)) = cut(alloc, parts)? else {
-        return Err(Lost::NoStep);
-    };
-    let beside = par_of_two(alloc, seq_of(alloc, rest)?, other)?;
-    let whole = seq_of_two(alloc, first, beside)?;
-    trail.forward(Law::ParAssign, &whole)?;
-    Ok(whole)
-}
-
-fn chooses(trail: &mut Trail, choices: Vec<(Expr, Proc)>, other: Proc) -> Result<Proc, Lost> {
-    let alloc = trail.alloc();
-    let choices = with_else(trail, choices)?;
-    let whole = choices_beside(alloc, choices, &other)?;
-    trail.forward(Law::ParIf, &whole)?;
-    Ok(whole)
-}
-
-fn choices_beside(alloc: Global, choices: Vec<(Expr, Proc)>, other: &Proc) -> Result<Proc, Memory> {
-    let mut made = Vec::new(alloc);
-    for (condition, part) in choices {
-        made.push((condition, par_of_two(alloc, part, other.copy(alloc)?)?))?;
+fn each_beside(trail: &mut Trail, row: Row, other: Part) -> Result<Row, Lost> {
+    let begin = trail.begin();
+    for place in 0..row.count() {
+        let item = trail.item(row, place)?;
+        let part = trail.two(Form::Par, item.part, other)?;
+        trail.put(item.with(part))?;
     }
-    if_of(alloc, made)
+    trail.end(begin)
 }
 
 // The IF at the first part has a last choice TRUE, which is STOP where there was none.
-fn with_else(trail: &mut Trail, choices: Vec<(Expr, Proc)>) -> Result<Vec<(Expr, Proc)>, Lost> {
-    if let Some((Expr::Bool(true), _)) = choices.last() {
-        return Ok(choices);
+fn with_else(trail: &mut Trail, choices: Row) -> Result<Row, Lost> {
+    if let Some(last) = choices.count().checked_sub(1) {
+        if trail.is_token(trail.item(choices, last)?.value, Token::Bool(true)) {
+            return Ok(choices);
+        }
     }
-    let whole = and_stop(trail.alloc(), choices)?;
+    let last = trail.row(&[Item::of(STOP)])?;
+    let whole = Form::If.of(trail.chain(choices, last)?);
     trail.enter(0)?;
-    trail.backward(Law::IfElseStop, &whole)?;
+    trail.backward(Law::IfElseStop, whole)?;
     trail.leave();
-    match Piece::of(trail.alloc(), whole)? {
-        Piece::If(choices) => Ok(choices),
-        _ => Err(Lost::NoStep),
-    }
-}
-
-fn and_stop(alloc: Global, choices: Vec<(Expr, Proc)>) -> Result<Proc, Memory> {
-    let mut choices = choices;
-    choices.push((Expr::Bool(true), Proc::Stop))?;
-    if_of(alloc, choices)
+    Ok(whole.row)
 }
 
 // Behind what left the PAR its parts in their order again.
-fn back(trail: &mut Trail, whole: Proc) -> Result<Proc, Lost> {
-    let alloc = trail.alloc();
-    match Piece::of(alloc, whole)? {
-        Piece::Seq(parts) => {
-            let (first, second) = parted(alloc, seq_of(alloc, parts)?)?;
-            let second = swapped_at(trail, 1, second)?;
-            Ok(seq_of_two(alloc, first, second)?)
+fn back(trail: &mut Trail, whole: Part) -> Result<Part, Lost> {
+    let begin = trail.begin();
+    for place in 0..whole.row.count() {
+        let item = trail.item(whole.row, place)?;
+        if whole.form == Form::Seq && place == 0 {
+            trail.put(item)?;
+        } else {
+            let part = swapped_at(trail, place, item.part)?;
+            trail.put(item.with(part))?;
         }
-        Piece::If(choices) => choices_back(trail, choices),
-        Piece::Var(name, width, body) => {
-            let body = swapped_at(trail, 0, body)?;
-            Ok(var_of(alloc, name, width, body)?)
-        }
-        _ => Err(Lost::NoStep),
     }
-}
-
-fn choices_back(trail: &mut Trail, choices: Vec<(Expr, Proc)>) -> Result<Proc, Lost> {
-    let mut made = Vec::new(trail.alloc());
-    let mut number: u32 = 0;
-    for (condition, part) in choices {
-        made.push((condition, swapped_at(trail, number, part)?))?;
-        number = number.saturating_add(1);
-    }
-    Ok(if_of(trail.alloc(), made)?)
+    Ok(whole.form.of(trail.end(begin)?))
 }
 
 // The parts of the PAR at a place in the other order.
-fn swapped_at(trail: &mut Trail, number: u32, part: Proc) -> Result<Proc, Lost> {
-    trail.enter(number)?;
-    let part = swapped(trail, part)?;
+fn swapped_at(trail: &mut Trail, place: usize, part: Part) -> Result<Part, Lost> {
+    let first = trail.part(part.row, 0)?;
+    let second = trail.part(part.row, 1)?;
+    let whole = trail.two(Form::Par, second, first)?;
+    trail.enter(place)?;
+    trail.forward(Law::ParOrder, whole)?;
     trail.leave();
-    Ok(part)
+    Ok(whole)
 }

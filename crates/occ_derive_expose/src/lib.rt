@@ -3,9 +3,6 @@
 #![tactic(auto)]
 
 mod after;
-mod around;
-mod beside;
-mod build;
 mod exposing;
 mod fresh;
 mod hidden;
@@ -17,6 +14,6 @@ mod repeated;
 pub use exposing::expose;
 pub use naming::apart;
 pub use occ_derive_trail::{
-    Frame, Law, Lost, Piece, Trail, alt_of, assign_of, constant, if_of, seq_of, seq_of_two, unseen,
-    var_of,
+    Form, Frame, Item, Law, Lost, NONE, Part, Row, SKIP, STOP, TRUE, Token, Trail, Value, Wait,
+    greatest,
 };

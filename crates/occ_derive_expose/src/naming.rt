@@ -2,7 +2,7 @@ ghost use Rattle.occ_derive_trail.specs.occ_lex.Growth.{GrowsByNames};
 
 use crate::fresh::Fresh;
 use crate::repeated::Search;
-use occ_derive_trail::{Law, Lost, Path, RenameFault, Trail, at, rename, replace};
+use occ_derive_trail::{Direction, Law, Lost, Path, RenameFault, Trail, at, rename, replace};
 use occ_syntax::{Kind, Name, Names, Proc, Program, Scope};
 
 /// Gives each name that is declared in a body, and was used before, a name of its own. Used are those that are taken, and those
@@ -59,13 +59,14 @@ fn renamed(
 
 // A declaration took another name at a path.
 fn record(trail: &mut Trail, path: &Path, kind: Kind, whole: &Proc) -> Result<(), Lost> {
+    let law = match kind {
+        Kind::Var(_) => Law::VarRename,
+        Kind::Chan(_, _) => Law::ChanRename,
+    };
     for number in path.items() {
-        trail.enter(*number)?;
+        trail.enter(*number as usize)?;
     }
-    match kind {
-        Kind::Var(_) => trail.forward(Law::VarRename, whole)?,
-        Kind::Chan(_, _) => trail.forward(Law::ChanRename, whole)?,
-    }
+    trail.step(law, Direction::Forward, whole.copy(trail.alloc())?)?;
     for _ in path.items() {
         trail.leave();
     }

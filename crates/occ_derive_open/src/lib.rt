@@ -3,18 +3,13 @@
 #![tactic(auto)]
 
 mod advancing;
-mod constants;
 mod joining;
-mod layers;
 mod opening;
-mod prefixing;
-mod row;
 mod spine;
 mod table;
 mod turning;
 
-pub use advancing::advance;
+pub use advancing::{advance, prefix};
 pub use occ_derive_expose::apart;
 pub use opening::open;
-pub use prefixing::prefix;
 pub use table::cases;

@@ -1,14 +1,15 @@
-use crate::constants::{Pairs, first_unknown, value_in};
-use crate::layers::{Layer, Layers};
-use crate::row::first_of;
-use occ_derive_expose::{Lost, Piece, Trail, assign_of};
-use occ_syntax::{Expr, Guard, Name, Proc, Wait};
+use occ_derive_expose::{Form, Law, Lost, NONE, Part, Row, Trail, Wait};
+use occ_syntax::Name;
 
-/// A configuration taken apart: what is known of the state, and what stands round the assignment that says it.
+/// The most steps that any one loop of the strategy takes.
+pub(crate) const MOST: u32 = 1_000_000;
+
+/// A configuration taken apart: what is known of the state, and what stands round the assignment that says it, from outside in. That is
+/// SEQs, each without its first part, and declared variables. The trail stands at the assignment.
 #[derive(Drop)]
 pub(crate) struct Spine {
-    pub(crate) known: Pairs,
-    pub(crate) layers: Layers,
+    pub(crate) known: Row,
+    pub(crate) layers: Vec<Part>,
 }
 
 /// What the first thing to do in a configuration waits for.
@@ -24,26 +25,21 @@ pub(crate) enum Standing {
 
 impl Spine {
     /// A configuration taken apart; the trail goes to its assignment.
-    pub(crate) fn down(trail: &mut Trail, part: Proc) -> Result<Spine, Lost> {
-        let alloc = trail.alloc();
-        let mut layers = Layers::new(alloc);
+    pub(crate) fn down(trail: &mut Trail, part: Part) -> Result<Spine, Lost> {
+        let layers = Vec::new(trail.alloc());
+        let known = NONE;
+        let mut spine = Spine { known, layers };
         let mut rest = part;
         // Each turn takes a layer off.
         for _ in 0..u64::MAX {
-            match Piece::of(alloc, rest)? {
-                Piece::Assign(known) => return Ok(Spine { known, layers }),
-                Piece::Skip => {
-                    let known = Vec::new(alloc);
-                    return Ok(Spine { known, layers });
+            match rest.form {
+                Form::Assign | Form::Skip => {
+                    spine.known = rest.row;
+                    return Ok(spine);
                 }
-                Piece::Seq(parts) => {
-                    let (first, parts) = first_of(parts)?;
-                    layers.push(trail, Layer::Seq(parts))?;
-                    rest = first;
-                }
-                Piece::Var(name, width, body) => {
-                    layers.push(trail, Layer::Var(name, width))?;
-                    rest = body;
+                Form::Seq | Form::Var(_, _) => {
+                    spine.push(trail, rest.form.of(rest.row.past(1)))?;
+                    rest = trail.part(rest.row, 0)?;
                 }
                 _ => return Err(Lost::NoStep),
             }
@@ -51,95 +47,108 @@ impl Spine {
         Err(Lost::NoStep)
     }
 
-    /// The configuration put together; the trail goes back to it.
-    pub(crate) fn close(self, trail: &mut Trail) -> Result<Proc, Lost> {
-        let Spine { known, layers } = self;
-        let inner = assign_of(trail.alloc(), known.as_slice())?;
-        layers.close(trail, inner)
+    /// Goes on with the first part of a process.
+    pub(crate) fn push(&mut self, trail: &mut Trail, layer: Part) -> Result<(), Lost> {
+        self.layers.push(layer)?;
+        trail.enter(0)
     }
 
-    /// What the first thing to do waits for.
-    pub(crate) fn standing(&self, head: &Proc) -> Standing {
-        match head {
-            Proc::Assign { values, .. } => match self.unknown_of(values.items()) {
-                Some(name) => Standing::Reads(name),
-                None => Standing::Moves,
-            },
-            Proc::If(choices) => match self.unknown_to_decide(choices.items()) {
-                Some(name) => Standing::Reads(name),
-                None => Standing::Moves,
-            },
-            Proc::Alt(alternatives) => match self.unknown_of_guards(alternatives.items()) {
-                Some(name) => Standing::Reads(name),
-                None => Standing::Chooses,
-            },
-            Proc::Skip
-            | Proc::Stop
-            | Proc::Input { .. }
-            | Proc::Output { .. }
-            | Proc::Seq(_)
-            | Proc::Par(_)
-            | Proc::Var { .. }
-            | Proc::Chan { .. } => Standing::Moves,
+    /// Goes back to what stands directly round.
+    pub(crate) fn pop(&mut self, trail: &mut Trail) -> Option<Part> {
+        let layer = self.layers.pop()?;
+        trail.leave();
+        Some(layer)
+    }
+
+    /// All that stands round, round a process.
+    pub(crate) fn close(self, trail: &mut Trail, inner: Part) -> Result<Part, Lost> {
+        let mut part = inner;
+        for layer in self.layers.as_slice().iter().rev() {
+            trail.leave();
+            part = layer.form.of(trail.ahead(part, layer.row)?);
         }
+        Ok(part)
     }
 
-    fn unknown_of(&self, values: &[Expr]) -> Option<Name> {
-        for value in values {
-            if let Some(name) = first_unknown(value, self.known.as_slice()) {
-                return Some(name);
+    /// The assignment and the process behind it become a SEQ of their own, to which the trail goes.
+    pub(crate) fn focus(&mut self, trail: &mut Trail, head: Part, rest: Row) -> Result<(), Lost> {
+        if rest.count() == 0 {
+            return Ok(());
+        }
+        let both = trail.two(Form::Seq, trail.assignment(self.known), head)?;
+        let whole = Form::Seq.of(trail.ahead(both, rest)?);
+        trail.backward(Law::SeqFlat, whole)?;
+        self.push(trail, Form::Seq.of(rest))
+    }
+
+    /// The assignment and the SEQ behind it become one SEQ, at which the trail stays.
+    pub(crate) fn flatten(&self, trail: &mut Trail, parts: Row) -> Result<(), Lost> {
+        let first = trail.assignment(self.known);
+        let whole = Form::Seq.of(trail.ahead(first, parts)?);
+        trail.forward(Law::SeqFlat, whole)
+    }
+
+    /// The declaration behind the assignment comes to stand round both, and the trail goes into it.
+    pub(crate) fn into_scope(&mut self, trail: &mut Trail, head: Part) -> Result<Part, Lost> {
+        let body = trail.body(head)?;
+        let inner = trail.two(Form::Seq, trail.assignment(self.known), body)?;
+        let whole = trail.one(head.form, inner)?;
+        trail.backward(Law::VarFirst, whole)?;
+        self.push(trail, head.form.of(NONE))?;
+        Ok(body)
+    }
+
+    /// What the first thing to do waits for. Conditions of an IF behind the first that is TRUE aren't read.
+    pub(crate) fn standing(&self, trail: &mut Trail, head: Part) -> Result<Standing, Lost> {
+        for place in 0..head.row.count() {
+            let item = trail.item(head.row, place)?;
+            if let Some(name) = trail.unknown(item.value, self.known)? {
+                return Ok(Standing::Reads(name));
+            }
+            if let Wait::Put(_, value) = item.wait {
+                if let Some(name) = trail.unknown(value, self.known)? {
+                    return Ok(Standing::Reads(name));
+                }
+            }
+            if head.form == Form::If && self.holds(trail, head.row, place)? {
+                return Ok(Standing::Moves);
             }
         }
-        None
+        Ok(match head.form {
+            Form::Alt => Standing::Chooses,
+            _ => Standing::Moves,
+        })
     }
 
-    // Conditions behind the first that is TRUE aren't read.
-    fn unknown_to_decide(&self, choices: &[(Expr, Proc)]) -> Option<Name> {
-        for (condition, _) in choices {
-            if let Some(name) = first_unknown(condition, self.known.as_slice()) {
-                return Some(name);
-            }
-            if self.holds(condition) {
-                return None;
-            }
-        }
-        None
-    }
-
-    fn unknown_of_guards(&self, alternatives: &[(Guard, Proc)]) -> Option<Name> {
-        for (guard, _) in alternatives {
-            if let Some(name) = self.unknown_of_guard(guard) {
-                return Some(name);
-            }
-        }
-        None
-    }
-
-    fn unknown_of_guard(&self, guard: &Guard) -> Option<Name> {
-        if let Some(name) = first_unknown(&guard.condition, self.known.as_slice()) {
-            return Some(name);
-        }
-        match &guard.wait {
-            Wait::Put { value, .. } => first_unknown(value, self.known.as_slice()),
-            Wait::Skip | Wait::Get { .. } => None,
-        }
-    }
-
-    /// Whether a condition is TRUE in what is known.
-    pub(crate) fn holds(&self, condition: &Expr) -> bool {
-        match value_in(condition, self.known.as_slice()) {
-            Some((_, value)) => value != 0,
-            None => false,
+    /// Whether the condition of a choice is TRUE in what is known.
+    fn holds(&self, trail: &mut Trail, choices: Row, place: usize) -> Result<bool, Lost> {
+        let condition = trail.item(choices, place)?.value;
+        let condition = trail.substituted(condition, self.known)?;
+        match trail.evaluated(condition)? {
+            Some((_, value)) => Ok(value != 0),
+            None => Ok(false),
         }
     }
 
     /// The place of the first choice whose condition is TRUE; how many they are where there is none.
-    pub(crate) fn chosen(&self, choices: &[(Expr, Proc)]) -> usize {
-        for (place, (condition, _)) in choices.iter().enumerate() {
-            if self.holds(condition) {
-                return place;
+    pub(crate) fn chosen(&self, trail: &mut Trail, choices: Row) -> Result<usize, Lost> {
+        for place in 0..choices.count() {
+            if self.holds(trail, choices, place)? {
+                return Ok(place);
             }
         }
-        choices.len()
+        Ok(choices.count())
+    }
+
+    /// What is known of all variables but one.
+    pub(crate) fn known_without(&self, trail: &mut Trail, name: Name) -> Result<Row, Lost> {
+        let begin = trail.begin();
+        for place in 0..self.known.count() {
+            let item = trail.item(self.known, place)?;
+            if !item.sets(name) {
+                trail.put(item)?;
+            }
+        }
+        trail.end(begin)
     }
 }

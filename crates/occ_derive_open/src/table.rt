@@ -1,129 +1,61 @@
-use crate::row::choices_of_if;
-use occ_derive_expose::{Law, Lost, Trail, if_of};
-use occ_syntax::{Expr, Memory, Op, Proc};
-use std::alloc::Global;
-
-type Rows = Vec<(Expr, Proc)>;
+use occ_derive_expose::{Form, Item, Law, Lost, Part, Row, STOP, TRUE, Trail};
+use occ_syntax::Op;
 
 /// How often a list that fits in memory can be halved, at the most.
 const DEEPEST: u32 = 64;
 
 /// An assignment becomes the IF of a table: of conditions, of which in every state one is TRUE, each with an assignment that does the
-/// same where it is TRUE.
-pub fn cases(trail: &mut Trail, table: &[(Expr, Proc)], part: Proc) -> Result<Proc, Lost> {
-    let alloc = trail.alloc();
+/// same where it is TRUE. The choices are given.
+pub fn cases(trail: &mut Trail, table: Row, part: Part) -> Result<Row, Lost> {
     let choices = cases_or_else(trail, table, part, DEEPEST)?;
-    let choices = cut(trail, choices)?;
-    Ok(if_of(alloc, choices)?)
+    let front = choices.front(choices.count().saturating_sub(1));
+    trail.forward(Law::IfCut, Form::If.of(front))?;
+    Ok(front)
 }
 
 /// The choices of the table and a last one, TRUE, with the assignment itself. By halves.
-fn cases_or_else(
-    trail: &mut Trail,
-    table: &[(Expr, Proc)],
-    part: Proc,
-    depth: u32,
-) -> Result<Rows, Lost> {
+fn cases_or_else(trail: &mut Trail, table: Row, part: Part, depth: u32) -> Result<Row, Lost> {
     let Some(depth) = depth.checked_sub(1) else {
         return Err(Lost::NoStep);
     };
-    match table {
-        [] => Err(Lost::NoStep),
-        [(condition, other)] => one_case(trail, condition, other, part),
-        _ => {
-            let half = table.len() / 2;
-            let choices = cases_or_else(trail, &table[..half], part, depth)?;
-            let (choices, last) = without_last(choices)?;
-            let Ok(place) = u32::try_from(choices.len()) else {
-                return Err(Lost::NoStep);
-            };
-            trail.enter(place)?;
-            let more = cases_or_else(trail, &table[half..], last, depth)?;
-            trail.leave();
-            Ok(merged(trail, choices, more)?)
-        }
+    if table.count() == 1 {
+        return one_case(trail, trail.item(table, 0)?, part);
     }
-}
-
-/// The choices without the last one, and its process.
-fn without_last(choices: Rows) -> Result<(Rows, Proc), Lost> {
-    let mut front = choices;
-    match front.pop() {
-        Some((_, last)) => Ok((front, last)),
-        None => Err(Lost::NoStep),
-    }
+    let half = table.count() / 2;
+    let choices = cases_or_else(trail, table.front(half), part, depth)?;
+    let place = choices.count().saturating_sub(1);
+    let last = trail.part(choices, place)?;
+    trail.enter(place)?;
+    let more = cases_or_else(trail, table.past(half), last, depth)?;
+    trail.leave();
+    merged(trail, choices.front(place), more)
 }
 
 /// An assignment becomes an IF of one row and of itself.
-fn one_case(trail: &mut Trail, condition: &Expr, other: &Proc, part: Proc) -> Result<Rows, Lost> {
-    let alloc = trail.alloc();
-    let copies = if_else(alloc, condition, part.copy(alloc)?, part.copy(alloc)?)?;
-    trail.forward(Law::IfCopy, &copies)?;
-    let whole = if_else(alloc, condition, other.copy(alloc)?, part)?;
-    trail.forward(Law::IfUnder, &whole)?;
-    Ok(choices_of_if(trail, whole)?)
+fn one_case(trail: &mut Trail, case: Item, part: Part) -> Result<Row, Lost> {
+    let copies = trail.row(&[case.with(part), Item::of(part)])?;
+    trail.forward(Law::IfCopy, Form::If.of(copies))?;
+    let choices = trail.row(&[case, Item::of(part)])?;
+    trail.forward(Law::IfUnder, Form::If.of(choices))?;
+    Ok(choices)
 }
 
-fn if_else(alloc: Global, condition: &Expr, first: Proc, last: Proc) -> Result<Proc, Memory> {
-    let mut choices = Vec::new(alloc);
-    choices.push((condition.copy(alloc)?, first))?;
-    choices.push((Expr::Bool(true), last))?;
-    if_of(alloc, choices)
-}
-
-/// The IF in the last choice, TRUE, of an IF gives it its choices.
-fn merged(trail: &mut Trail, choices: Rows, more: Rows) -> Result<Rows, Lost> {
-    let count = choices.len();
-    let all = nested(trail, choices, more)?;
-    let all = cut(trail, all)?;
-    Ok(plain(trail, all, count)?)
-}
-
-/// The choices in front, those of the IF in the last choice, each asking for TRUE as well, and a last one that stops.
-fn nested(trail: &mut Trail, choices: Rows, more: Rows) -> Result<Rows, Lost> {
-    let alloc = trail.alloc();
-    let mut all = choices;
-    for (condition, part) in more {
-        let left = Box::new(alloc, Expr::Bool(true))?;
-        let right = Box::new(alloc, condition)?;
-        all.push((Expr::Two(Op::And, left, right), part))?;
+/// The IF in the last choice, TRUE, of an IF gives it its choices: each asks for TRUE as well at first, and a last one, which stops, is
+/// never taken.
+fn merged(trail: &mut Trail, choices: Row, more: Row) -> Result<Row, Lost> {
+    let begin = trail.begin();
+    trail.put_all(choices)?;
+    for place in 0..more.count() {
+        let item = trail.item(more, place)?;
+        let value = trail.operation(Op::And, TRUE, item.value)?;
+        trail.put(item.worth(value))?;
     }
-    all.push((Expr::Bool(true), Proc::Stop))?;
-    let whole = if_of(alloc, all)?;
-    trail.forward(Law::IfNest, &whole)?;
-    Ok(choices_of_if(trail, whole)?)
-}
-
-/// The last choice goes, where in every state one in front of it is taken.
-fn cut(trail: &mut Trail, choices: Rows) -> Result<Rows, Lost> {
-    let alloc = trail.alloc();
-    let (front, _) = without_last(choices)?;
-    let whole = if_of(alloc, front)?;
-    trail.forward(Law::IfCut, &whole)?;
-    Ok(choices_of_if(trail, whole)?)
-}
-
-/// The conditions behind a place become their second operands.
-fn plain(trail: &mut Trail, choices: Rows, count: usize) -> Result<Rows, Lost> {
-    let alloc = trail.alloc();
-    let mut all = choices;
-    if count > all.len() {
-        return Err(Lost::NoStep);
-    }
-    let back = all.split_off(count)?;
-    for (condition, part) in back {
-        all.push((second_of(alloc, condition)?, part))?;
-    }
-    let whole = if_of(alloc, all)?;
-    trail.forward(Law::Expr, &whole)?;
-    Ok(choices_of_if(trail, whole)?)
-}
-
-fn second_of(alloc: Global, condition: Expr) -> Result<Expr, Memory> {
-    match &condition {
-        Expr::Two(_, _, right) => right.copy(alloc),
-        Expr::Var(_) | Expr::Word { .. } | Expr::Bool(_) | Expr::Not(_) | Expr::Flip(_) => {
-            Ok(condition)
-        }
-    }
+    trail.put(Item::of(STOP))?;
+    let nested = trail.end(begin)?;
+    trail.forward(Law::IfNest, Form::If.of(nested))?;
+    let cut = nested.front(nested.count().saturating_sub(1));
+    trail.forward(Law::IfCut, Form::If.of(cut))?;
+    let all = trail.chain(choices, more)?;
+    trail.forward(Law::Expr, Form::If.of(all))?;
+    Ok(all)
 }

@@ -1,13 +1,7 @@
-use crate::constants::Pairs;
 use crate::joining::join_pairs;
-use crate::layers::Layers;
-use crate::opening::{Branches, branches_of_alt};
-use crate::row::{declared, first_of, flatten, group, two_of_seq};
-use occ_derive_expose::{
-    Frame, Law, Lost, Piece, Trail, alt_of, assign_of, constant, seq_of_two, var_of,
-};
-use occ_syntax::{Expr, Guard, Name, Proc, Wait, Width};
-use std::alloc::Global;
+use crate::spine::Spine;
+use occ_derive_expose::{Form, Frame, Item, Law, Lost, Part, Row, Token, Trail, Wait};
+use occ_syntax::{Name, Width};
 
 /// What one input is about: its channel, its variable with the width, the target of that width, and a name that stands nowhere.
 #[derive(Clone, Copy)]
@@ -24,19 +18,15 @@ struct Turning {
 pub(crate) fn turn_input(
     trail: &mut Trail,
     frame: &Frame,
-    layers: &Layers,
-    branches: Branches,
+    spine: &Spine,
+    branches: Row,
     place: usize,
-) -> Result<Branches, Lost> {
-    let Some((chan, var)) = input_at(branches.as_slice(), place) else {
+) -> Result<Row, Lost> {
+    let Wait::Get(chan, var) = trail.item(branches, place)?.wait else {
         return Ok(branches);
     };
-    let width = match frame.width_of(var) {
-        Some(width) => width,
-        None => match layers.width_of(var) {
-            Some(width) => width,
-            None => return Err(Lost::NoStep),
-        },
+    let Some(width) = width_of(frame, spine.layers.as_slice(), var) else {
+        return Err(Lost::NoStep);
     };
     let Some(target) = frame.target(width) else {
         return Err(Lost::NoStep);
@@ -51,13 +41,19 @@ pub(crate) fn turn_input(
     turning.turn(trail, frame, branches, place)
 }
 
-/// The channel and the variable of the input at a place.
-fn input_at(branches: &[(Guard, Proc)], place: usize) -> Option<(Name, Name)> {
-    let (guard, _) = branches.get(place)?;
-    match &guard.wait {
-        Wait::Get { chan, var } => Some((*chan, *var)),
-        Wait::Skip | Wait::Put { .. } => None,
+/// The width of a variable: of a parameter, of a target, or of one that is declared round.
+fn width_of(frame: &Frame, layers: &[Part], var: Name) -> Option<Width> {
+    if let Some(width) = frame.width_of(var) {
+        return Some(width);
     }
+    for layer in layers {
+        if let Form::Var(name, width) = layer.form {
+            if name == var {
+                return Some(width);
+            }
+        }
+    }
+    None
 }
 
 impl Turning {
@@ -65,118 +61,75 @@ impl Turning {
         self,
         trail: &mut Trail,
         frame: &Frame,
-        branches: Branches,
+        branches: Row,
         place: usize,
-    ) -> Result<Branches, Lost> {
-        let whole = self.declare(trail.alloc(), branches)?;
-        trail.backward(Law::VarUnused, &whole)?;
-        let whole = self.into_spare(trail, whole, place)?;
-        let whole = self.into_target(trail, frame, whole, place)?;
-        let branches = self.undeclare(trail.alloc(), whole)?;
-        let whole = alt_of(trail.alloc(), branches)?;
-        trail.forward(Law::VarUnused, &whole)?;
-        branches_of_alt(trail.alloc(), whole)
+    ) -> Result<Row, Lost> {
+        let whole = self.declared(trail, branches)?;
+        trail.backward(Law::VarUnused, whole)?;
+        let item = trail.item(branches, place)?;
+        let spare = trail.value(Token::Var(self.spare))?;
+        let first = Form::Assign.of(trail.row(&[Item::pair(self.var, spare)])?);
+        let part = trail.two(Form::Seq, first, item.part)?;
+        let branches = self.put(trail, branches, place, (self.spare, part))?;
+        let whole = self.declared(trail, branches)?;
+        trail.forward(Law::VarAlt, whole)?;
+        trail.enter(0)?;
+        trail.enter(place)?;
+        let part = self.retarget(trail, frame, first, item.part)?;
+        trail.leave();
+        trail.leave();
+        let branches = self.put(trail, branches, place, (self.target, part))?;
+        let whole = self.declared(trail, branches)?;
+        trail.backward(Law::VarAlt, whole)?;
+        trail.forward(Law::VarUnused, Form::Alt.of(branches))?;
+        Ok(branches)
     }
 
-    fn declare(self, alloc: Global, branches: Branches) -> Result<Proc, Lost> {
-        let inner = alt_of(alloc, branches)?;
-        Ok(var_of(alloc, self.spare, self.width, inner)?)
+    /// The ALT in the declaration of the spare variable.
+    fn declared(self, trail: &mut Trail, branches: Row) -> Result<Part, Lost> {
+        trail.one(Form::Var(self.spare, self.width), Form::Alt.of(branches))
     }
 
-    fn undeclare(self, alloc: Global, whole: Proc) -> Result<Branches, Lost> {
-        let (_, _, inner) = declared(alloc, whole)?;
-        branches_of_alt(alloc, inner)
-    }
-
-    fn guard(self, condition: Expr, var: Name) -> Guard {
-        let chan = self.chan;
-        Guard {
-            condition,
-            wait: Wait::Get { chan, var },
-        }
-    }
-
-    /// The input takes in to the spare variable, which is then assigned.
-    fn into_spare(self, trail: &mut Trail, whole: Proc, place: usize) -> Result<Proc, Lost> {
-        let alloc = trail.alloc();
-        let mut branches = self.undeclare(alloc, whole)?;
-        let (guard, part) = taken(&mut branches, place)?;
-        let mut pairs = Vec::new(alloc);
-        pairs.push((self.var, Expr::Var(self.spare)))?;
-        let first = assign_of(alloc, pairs.as_slice())?;
-        let part = seq_of_two(alloc, first, part)?;
-        let guard = self.guard(guard.condition, self.spare);
-        put(&mut branches, place, (guard, part))?;
-        let whole = self.declare(alloc, branches)?;
-        trail.forward(Law::VarAlt, &whole)?;
-        Ok(whole)
-    }
-
-    /// The input takes in to the target.
-    fn into_target(
+    /// The input at a place with another variable and another process.
+    fn put(
         self,
         trail: &mut Trail,
-        frame: &Frame,
-        whole: Proc,
+        branches: Row,
         place: usize,
-    ) -> Result<Proc, Lost> {
-        let alloc = trail.alloc();
-        let mut branches = self.undeclare(alloc, whole)?;
-        let (guard, part) = taken(&mut branches, place)?;
-        let Ok(number) = u32::try_from(place) else {
-            return Err(Lost::NoStep);
-        };
-        trail.enter(0)?;
-        trail.enter(number)?;
-        let part = self.retarget(trail, frame, part)?;
-        trail.leave();
-        trail.leave();
-        let guard = self.guard(guard.condition, self.target);
-        put(&mut branches, place, (guard, part))?;
-        let whole = self.declare(alloc, branches)?;
-        trail.backward(Law::VarAlt, &whole)?;
-        Ok(whole)
+        (var, part): (Name, Part),
+    ) -> Result<Row, Lost> {
+        let value = trail.item(branches, place)?.value;
+        let wait = Wait::Get(self.chan, var);
+        trail.replaced(branches, place, Item { wait, value, part })
     }
 
     /// The assignment of the spare variable to the input's, in front of a configuration without this, becomes one to the target, which
     /// is given up, in front of the configuration that has the target's value for the input's variable.
-    fn retarget(self, trail: &mut Trail, frame: &Frame, part: Proc) -> Result<Proc, Lost> {
-        let alloc = trail.alloc();
-        let (first, inner) = two_of_seq(alloc, part)?;
-        let (known, rest) = two_of_seq(alloc, inner)?;
-        let mut parts = Vec::new(alloc);
-        parts.push(known)?;
-        parts.push(rest)?;
-        let (first, parts) = flatten(trail, first, parts)?;
-        let (known, parts) = first_of(parts)?;
-        let (first, known, parts) = group(trail, first, known, parts)?;
+    fn retarget(
+        self,
+        trail: &mut Trail,
+        frame: &Frame,
+        first: Part,
+        inner: Part,
+    ) -> Result<Part, Lost> {
+        let parts = trail.held(inner, Form::Seq)?;
+        let known = trail.part(parts, 0)?;
+        let whole = Form::Seq.of(trail.ahead(first, parts)?);
+        trail.forward(Law::SeqFlat, whole)?;
+        let both = trail.two(Form::Seq, first, known)?;
+        let whole = Form::Seq.of(trail.ahead(both, parts.past(1))?);
+        trail.backward(Law::SeqFlat, whole)?;
         trail.enter(0)?;
         let known = self.exchange(trail, frame, first, known)?;
         trail.leave();
-        let (target, rest) = self.apart(trail, known, parts)?;
-        let (known, rest) = first_of(rest)?;
-        let (rest, _) = first_of(rest)?;
-        let inner = seq_of_two(alloc, known, rest)?;
-        let whole = seq_of_two(alloc, target, inner)?;
-        trail.backward(Law::SeqFlat, &whole)?;
-        let (_, inner) = two_of_seq(alloc, whole)?;
+        let inner = Form::Seq.of(trail.ahead(known, parts.past(1))?);
+        let spare = trail.value(Token::Var(self.spare))?;
+        let target = Form::Assign.of(trail.row(&[Item::pair(self.target, spare)])?);
+        let whole = Form::Seq.of(trail.ahead(target, inner.row)?);
+        trail.forward(Law::SeqFlat, whole)?;
+        let whole = trail.two(Form::Seq, target, inner)?;
+        trail.backward(Law::SeqFlat, whole)?;
         Ok(inner)
-    }
-
-    // The assignment to the target, and what follows, in one SEQ.
-    fn apart(
-        self,
-        trail: &mut Trail,
-        known: Proc,
-        parts: Vec<Proc>,
-    ) -> Result<(Proc, Vec<Proc>), Lost> {
-        let alloc = trail.alloc();
-        let mut pairs = Vec::new(alloc);
-        pairs.push((self.target, Expr::Var(self.spare)))?;
-        let target = assign_of(alloc, pairs.as_slice())?;
-        let mut rest = parts;
-        rest.insert(0, known)?;
-        flatten(trail, target, rest)
     }
 
     /// A SEQ of the assignment of the spare variable and one of what is known becomes a SEQ of the assignment to the target and one of
@@ -185,98 +138,79 @@ impl Turning {
         self,
         trail: &mut Trail,
         frame: &Frame,
-        first: Proc,
-        known: Proc,
-    ) -> Result<Proc, Lost> {
-        let alloc = trail.alloc();
-        let Piece::Assign(first) = Piece::of(alloc, first)? else {
-            return Err(Lost::NoStep);
-        };
-        let Piece::Assign(known) = Piece::of(alloc, known)? else {
-            return Err(Lost::NoStep);
-        };
+        first: Part,
+        known: Part,
+    ) -> Result<Part, Lost> {
+        let first = trail.held(first, Form::Assign)?;
+        let known = trail.held(known, Form::Assign)?;
         let joined = join_pairs(trail, frame, first, known)?;
-        let kept = self.kept(alloc, joined.as_slice())?;
-        let front = self.front(alloc, joined.as_slice())?;
-        let known = assign_of(alloc, kept.as_slice())?;
-        let whole = seq_of_two(alloc, assign_of(alloc, front.as_slice())?, known)?;
-        trail.backward(Law::AssignJoin, &whole)?;
+        let kept = Form::Assign.of(self.kept(trail, joined)?);
+        let front = self.front(trail, joined)?;
+        let whole = trail.two(Form::Seq, Form::Assign.of(front), kept)?;
+        trail.backward(Law::AssignJoin, whole)?;
         trail.enter(0)?;
-        self.narrow(trail, front.as_slice())?;
+        self.narrow(trail, front)?;
         trail.leave();
-        let (_, known) = two_of_seq(alloc, whole)?;
-        Ok(known)
+        Ok(kept)
     }
 
     /// What is known, with the target's value for the input's variable, and none for the target.
-    fn kept(self, alloc: Global, joined: &[(Name, Expr)]) -> Result<Pairs, Lost> {
-        let mut pairs = Vec::new(alloc);
-        for (name, value) in joined {
-            let value = if *name == self.var {
-                Expr::Var(self.target)
-            } else if *name == self.target {
-                constant(self.width, 0)
+    fn kept(self, trail: &mut Trail, joined: Row) -> Result<Row, Lost> {
+        let begin = trail.begin();
+        for place in 0..joined.count() {
+            let item = trail.item(joined, place)?;
+            let value = if item.sets(self.var) {
+                trail.value(Token::Var(self.target))?
+            } else if item.sets(self.target) {
+                trail.constant(self.width, 0)?
             } else {
-                value.copy(alloc)?
+                item.value
             };
-            pairs.push((*name, value))?;
+            trail.put(item.worth(value))?;
         }
-        Ok(pairs)
+        trail.end(begin)
     }
 
     /// The target gets the value of the spare variable, and all others keep theirs.
-    fn front(self, alloc: Global, joined: &[(Name, Expr)]) -> Result<Pairs, Lost> {
-        let mut pairs = Vec::new(alloc);
-        for (name, _) in joined {
-            let value = if *name == self.target {
-                self.spare
-            } else {
-                *name
-            };
-            pairs.push((*name, Expr::Var(value)))?;
+    fn front(self, trail: &mut Trail, joined: Row) -> Result<Row, Lost> {
+        let begin = trail.begin();
+        for place in 0..joined.count() {
+            let item = trail.item(joined, place)?;
+            if let Wait::Set(name) = item.wait {
+                let side = if name == self.target {
+                    self.spare
+                } else {
+                    name
+                };
+                let value = trail.value(Token::Var(side))?;
+                trail.put(item.worth(value))?;
+            }
         }
-        Ok(pairs)
+        trail.end(begin)
+    }
+
+    fn place_of_target(self, trail: &Trail, pairs: Row) -> Result<usize, Lost> {
+        for place in 0..pairs.count() {
+            if trail.item(pairs, place)?.sets(self.target) {
+                return Ok(place);
+            }
+        }
+        Err(Lost::NoStep)
     }
 
     /// Of that assignment the pair of the target alone is left.
-    fn narrow(self, trail: &mut Trail, front: &[(Name, Expr)]) -> Result<(), Lost> {
-        let alloc = trail.alloc();
-        let mut pairs = Vec::new(alloc);
-        pairs.push((self.target, Expr::Var(self.spare)))?;
-        for (name, value) in front {
-            if *name != self.target {
-                pairs.push((*name, value.copy(alloc)?))?;
-            }
+    fn narrow(self, trail: &mut Trail, front: Row) -> Result<(), Lost> {
+        let place = self.place_of_target(trail, front)?;
+        let first = trail.row(&[trail.item(front, place)?])?;
+        let others = trail.without(front, place)?;
+        let mut pairs = trail.chain(first, others)?;
+        if place != 0 {
+            trail.forward(Law::AssignOrder, Form::Assign.of(pairs))?;
         }
-        if !self.leads(front) {
-            trail.forward(Law::AssignOrder, &assign_of(alloc, pairs.as_slice())?)?;
-        }
-        for _ in 1..pairs.len() {
-            let _ = pairs.pop();
-            trail.backward(Law::AssignPad, &assign_of(alloc, pairs.as_slice())?)?;
+        for count in (1..pairs.count()).rev() {
+            pairs = pairs.front(count);
+            trail.backward(Law::AssignPad, Form::Assign.of(pairs))?;
         }
         Ok(())
     }
-
-    fn leads(self, pairs: &[(Name, Expr)]) -> bool {
-        match pairs.first() {
-            Some((name, _)) => *name == self.target,
-            None => false,
-        }
-    }
-}
-
-fn taken(branches: &mut Branches, place: usize) -> Result<(Guard, Proc), Lost> {
-    if place < branches.len() {
-        return Ok(branches.remove(place));
-    }
-    Err(Lost::NoStep)
-}
-
-fn put(branches: &mut Branches, place: usize, branch: (Guard, Proc)) -> Result<(), Lost> {
-    if place <= branches.len() {
-        branches.insert(place, branch)?;
-        return Ok(());
-    }
-    Err(Lost::NoStep)
 }

@@ -1,27 +1,37 @@
 use crate::Lost;
+use crate::store::{Item, Part, Token};
 use occ_script_write::{Direction, Done, Law, Path};
-use occ_syntax::{List, Memory, Proc};
+use occ_syntax::{List, Proc};
 use std::alloc::Global;
 
 /// Steps in order.
 pub type Dones = List<Done>;
 
-/// The steps that a strategy has proposed so far, and the place of the part on which it works now.
+/// The steps that a strategy has proposed so far, the place of the part on which it works now, and all parts and expressions that it
+/// has made. These go with the trail.
 #[derive(Drop)]
 pub struct Trail {
     alloc: Global,
     steps: Dones,
     place: Vec<u32>,
+    pub(crate) items: Vec<Item>,
+    pub(crate) open: Vec<Item>,
+    pub(crate) tokens: Vec<Token>,
 }
 
 impl Trail {
     /// No steps, at the whole.
-    pub fn new(alloc: Global) -> Trail {
-        Trail {
+    pub fn new(alloc: Global) -> Result<Trail, Lost> {
+        let mut tokens = Vec::new(alloc);
+        tokens.push(Token::Bool(true))?;
+        Ok(Trail {
             alloc,
             steps: Dones::new(alloc),
             place: Vec::new(alloc),
-        }
+            items: Vec::new(alloc),
+            open: Vec::new(alloc),
+            tokens,
+        })
     }
 
     /// The allocator.
@@ -30,8 +40,11 @@ impl Trail {
     }
 
     /// Goes on with the part of that number in the present one.
-    pub fn enter(&mut self, number: u32) -> Result<(), Memory> {
-        self.place.push(number)?;
+    pub fn enter(&mut self, number: usize) -> Result<(), Lost> {
+        let Ok(small) = u32::try_from(number) else {
+            return Err(Lost::NoStep);
+        };
+        self.place.push(small)?;
         Ok(())
     }
 
@@ -41,18 +54,23 @@ impl Trail {
     }
 
     /// A law used forward: it makes the present part this one.
-    pub fn forward(&mut self, law: Law, part: &Proc) -> Result<(), Lost> {
+    pub fn forward(&mut self, law: Law, part: Part) -> Result<(), Lost> {
+        let part = self.proc(part)?;
         self.step(law, Direction::Forward, part)
     }
 
     /// A law used backward: it makes the present part this one.
-    pub fn backward(&mut self, law: Law, part: &Proc) -> Result<(), Lost> {
+    pub fn backward(&mut self, law: Law, part: Part) -> Result<(), Lost> {
+        let part = self.proc(part)?;
         self.step(law, Direction::Backward, part)
     }
 
-    fn step(&mut self, law: Law, dir: Direction, part: &Proc) -> Result<(), Lost> {
-        let path = copied(self.alloc, self.place.as_slice())?;
-        let part = part.copy(self.alloc)?;
+    /// A law makes the present part this process.
+    pub fn step(&mut self, law: Law, dir: Direction, part: Proc) -> Result<(), Lost> {
+        let mut path = Path::new(self.alloc);
+        for number in self.place.as_slice() {
+            path.push(*number)?;
+        }
         self.steps.push(Done {
             law: law.id(),
             dir,
@@ -66,13 +84,4 @@ impl Trail {
     pub fn into_steps(self) -> Dones {
         self.steps
     }
-}
-
-/// The path of these numbers.
-fn copied(alloc: Global, place: &[u32]) -> Result<Path, Memory> {
-    let mut path = Path::new(alloc);
-    for number in place {
-        path.push(*number)?;
-    }
-    Ok(path)
 }

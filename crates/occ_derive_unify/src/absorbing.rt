@@ -1,155 +1,169 @@
-use crate::alt::{Alt, Rows, enter};
-use crate::merging::{flat, merged};
-use crate::moving::housed;
-use crate::orders::{Key, ranks};
-use crate::unifying::each_ordered;
-use occ_derive_trail::{Law, Lost, Trail, alt_of, unseen};
-use occ_syntax::Scope;
-use std::alloc::Global;
+use crate::merging::{flat, merged, once};
+use crate::moving::{gathered, housed};
+use crate::orders::{accepted, by_numbers, led_inside, number, ordered, ranks};
+use occ_derive_trail::{Form, Item, Law, Lost, Row, Trail};
+use occ_syntax::{Kind, Name, Scope};
 
-/// Leaves no acceptance that has all events of another.
-pub(crate) fn absorbed(trail: &mut Trail, params: &Scope, mut alt: Alt) -> Result<Alt, Lost> {
-    for _ in 0..alt.list.len() {
-        let sets = sets(trail.alloc(), params, &alt)?;
-        match containing(sets.as_slice()) {
-            Some((less, more)) => alt = parted(trail, params, alt, (less, more))?,
-            None => return Ok(alt),
-        }
+/// Makes a settled ALT one in which each event stands once in the ALT itself, or else in acceptances, where one and the same
+/// superposition follows it; no acceptance has all events of another, and all is in the order of a normal program.
+pub fn unify(trail: &mut Trail, params: &Scope, branches: Row) -> Result<Row, Lost> {
+    let params = params.items();
+    let made = each_acceptance(trail, params, branches, true)?;
+    let mut made = once(trail, params, made)?;
+    let shared = shared_ranks(trail, params, made)?;
+    for rank in shared.as_slice() {
+        made = gathered(trail, params, made, *rank)?;
     }
-    Ok(alt)
+    made = each_acceptance(trail, params, made, false)?;
+    made = merged(trail, params, made)?;
+    absorbed(trail, params, made)
 }
 
-// The ranks of an acceptance's events, with its place.
-#[derive(Drop)]
-struct Set {
-    place: usize,
-    ranks: Vec<u64>,
+// The events of each acceptance in their order; each of them once, where they are to be merged.
+fn each_acceptance(
+    trail: &mut Trail,
+    params: &[(Name, Kind)],
+    branches: Row,
+    is_merged: bool,
+) -> Result<Row, Lost> {
+    let begin = trail.begin();
+    for place in 0..branches.count() {
+        let mut item = trail.item(branches, place)?;
+        if let Some(inner) = accepted(item) {
+            trail.enter(place)?;
+            let inner = if is_merged {
+                merged(trail, params, inner)?
+            } else {
+                ordered(trail, params, inner)?
+            };
+            trail.leave();
+            item = item.with(Form::Alt.of(inner));
+        }
+        trail.put(item)?;
+    }
+    trail.end(begin)
 }
 
-fn sets(alloc: Global, params: &Scope, alt: &Alt) -> Result<Vec<Set>, Lost> {
-    let mut sets = Vec::new(alloc);
-    for place in 0..alt.list.len() {
-        if let Some(branches) = alt.accepted(place) {
-            let ranks = ranks(alloc, params, branches)?;
-            sets.push(Set { place, ranks })?;
+// The ranks of all events of acceptances, each once and in order.
+fn shared_ranks(trail: &Trail, params: &[(Name, Kind)], branches: Row) -> Result<Vec<u64>, Lost> {
+    let mut shared = Vec::new(trail.alloc());
+    for place in 0..branches.count() {
+        if let Some(inner) = accepted(trail.item(branches, place)?) {
+            let more = ranks(trail, params, inner)?;
+            shared.extend_from_slice(more.as_slice())?;
         }
     }
-    Ok(sets)
+    shared.sort_unstable();
+    shared.dedup();
+    Ok(shared)
+}
+
+// Leaves no acceptance that has all events of another.
+fn absorbed(trail: &mut Trail, params: &[(Name, Kind)], branches: Row) -> Result<Row, Lost> {
+    let mut made = branches;
+    for _ in 0..branches.count() {
+        match containing(trail, params, made)? {
+            Some((less, more)) => made = parted(trail, params, made, (less, more))?,
+            None => return Ok(made),
+        }
+    }
+    Ok(made)
 }
 
 // The places of the first acceptance that has all events of another and more, and of that other one, which comes first.
-fn containing(sets: &[Set]) -> Option<(usize, usize)> {
-    for set in sets {
-        if let Some(less) = contained(sets, set.ranks.as_slice()) {
-            return Some((less, set.place));
-        }
-    }
-    None
-}
-
-fn contained(sets: &[Set], ranks: &[u64]) -> Option<usize> {
-    for set in sets {
-        if set.ranks.len() < ranks.len() && is_within(set.ranks.as_slice(), ranks) {
-            return Some(set.place);
-        }
-    }
-    None
-}
-
-// Whether a list is a part of another, both in order.
-fn is_within(less: &[u64], more: &[u64]) -> bool {
-    let mut rest = less;
-    for rank in more {
-        if let [first, others @ ..] = rest {
-            if first == rank {
-                rest = others;
+fn containing(
+    trail: &Trail,
+    params: &[(Name, Kind)],
+    branches: Row,
+) -> Result<Option<(usize, usize)>, Lost> {
+    for place in 0..branches.count() {
+        if let Some(more) = accepted(trail.item(branches, place)?) {
+            if let Some(less) = contained(trail, params, branches, more)? {
+                return Ok(Some((less, place)));
             }
         }
     }
-    rest.is_empty()
+    Ok(None)
+}
+
+fn contained(
+    trail: &Trail,
+    params: &[(Name, Kind)],
+    branches: Row,
+    more: Row,
+) -> Result<Option<usize>, Lost> {
+    for place in 0..branches.count() {
+        if let Some(less) = accepted(trail.item(branches, place)?) {
+            if less.count() < more.count() && is_within(trail, params, less, more) {
+                return Ok(Some(place));
+            }
+        }
+    }
+    Ok(None)
+}
+
+// Whether the events of an acceptance are events of another, both in order.
+fn is_within(trail: &Trail, params: &[(Name, Kind)], less: Row, more: Row) -> bool {
+    let mut met: usize = 0;
+    for place in 0..more.count() {
+        if met < less.count()
+            && number(trail, params, less, met) == number(trail, params, more, place)
+        {
+            met = met.saturating_add(1);
+        }
+    }
+    met == less.count()
 }
 
 // What an acceptance has beyond another that it contains becomes the ALT's own.
 fn parted(
     trail: &mut Trail,
-    params: &Scope,
-    alt: Alt,
+    params: &[(Name, Kind)],
+    branches: Row,
     places: (usize, usize),
-) -> Result<Alt, Lost> {
-    let alloc = trail.alloc();
+) -> Result<Row, Lost> {
     let (less, more) = places;
-    let common = match alt.accepted(less) {
-        Some(branches) => ranks(alloc, params, branches)?,
-        None => return Err(Lost::NoStep),
-    };
-    let alt = alt.led_inside(trail, params, more, common.as_slice())?;
-    let alt = put_last(trail, alt, less, more)?;
-    let (alt, beyond) = least(trail, params, alt, common.len())?;
-    let mut alt = alt;
-    for rank in beyond {
-        alt = housed(trail, params, alt, rank)?;
+    let common = trail.held(trail.part(branches, less)?, Form::Alt)?;
+    let chosen = ranks(trail, params, common)?;
+    let made = led_inside(trail, params, branches, more, chosen.as_slice())?;
+    let made = put_last(trail, params, made, places)?;
+    let (mut made, beyond) = least(trail, made, common.count())?;
+    let beyond = ranks(trail, params, beyond)?;
+    for rank in beyond.as_slice() {
+        made = housed(trail, params, made, *rank)?;
     }
-    let alt = each_ordered(trail, params, alt)?;
-    merged(trail, params, alt)
+    let made = each_acceptance(trail, params, made, false)?;
+    merged(trail, params, made)
 }
 
-fn put_last(trail: &mut Trail, alt: Alt, less: usize, more: usize) -> Result<Alt, Lost> {
-    let alloc = trail.alloc();
-    let mut rows = Rows::new(alloc);
-    for branch in alt.list {
-        let place = rows.count();
-        let key = if place == more {
-            2
-        } else if place == less {
-            1
-        } else {
-            0
-        };
-        rows.push(Key::of(alloc, key), branch)?;
-    }
-    rows.arranged(trail)
-}
-
-// The last two branches are acceptances, and the second begins with all of the first, so many branches. Gives the ranks of the
-// others too.
-fn least(
+// Two branches come last.
+fn put_last(
     trail: &mut Trail,
-    params: &Scope,
-    mut alt: Alt,
-    count: usize,
-) -> Result<(Alt, Vec<u64>), Lost> {
-    let alloc = trail.alloc();
-    let (Some(more), Some(less)) = (alt.list.pop(), alt.list.pop()) else {
-        return Err(Lost::NoStep);
-    };
-    let place = alt.list.len();
-    let mut pair = Vec::with_capacity(alloc, 2)?;
-    pair.push(less)?;
-    pair.push(more)?;
-    alt.list.push((unseen(), alt_of(alloc, pair)?))?;
-    let mut alt = alt.backward(trail, Law::AltFlat)?;
-    let pair = Alt::of(alloc, alt.take(place)?)?;
-    let own = beyond(trail.alloc(), pair, count)?;
-    let ranks = ranks(alloc, params, own.list.as_slice())?;
-    enter(trail, place)?;
-    let own = own.forward(trail, Law::AltLeast)?;
-    trail.leave();
-    alt.put(place, own.into_part(alloc)?)?;
-    Ok((flat(trail, alt, place)?, ranks))
+    params: &[(Name, Kind)],
+    branches: Row,
+    (less, more): (usize, usize),
+) -> Result<Row, Lost> {
+    let mut numbers = Vec::new(trail.alloc());
+    for place in 0..branches.count() {
+        let is_more = u64::from(place == more);
+        numbers.push(is_more * 2 + u64::from(place == less))?;
+    }
+    by_numbers(trail, params, branches, numbers.as_slice())
 }
 
-// Of two acceptances the first, behind what the second has beyond the first branches.
-fn beyond(alloc: Global, mut pair: Alt, count: usize) -> Result<Alt, Lost> {
-    let more = Alt::of(alloc, pair.take(1)?)?;
-    let less = pair.remove(0)?;
-    let mut list = Vec::with_capacity(alloc, more.list.len())?;
-    let mut place: usize = 0;
-    for branch in more.list {
-        if place >= count {
-            list.push(branch)?;
-        }
-        place = place.saturating_add(1);
-    }
-    list.push(less)?;
-    Ok(Alt { list })
+// The last two branches are acceptances, and the second begins with all of the first, so many branches. Gives the second's others too.
+fn least(trail: &mut Trail, branches: Row, count: usize) -> Result<(Row, Row), Lost> {
+    let place = branches.count().saturating_sub(2);
+    let pair = Item::of(Form::Alt.of(branches.past(place)));
+    let made = trail.spliced(branches, place, 2, pair)?;
+    trail.backward(Law::AltFlat, Form::Alt.of(made))?;
+    let more = trail.part(branches, place.saturating_add(1))?;
+    let beyond = trail.held(more, Form::Alt)?.past(count);
+    let less = trail.row(&[trail.item(branches, place)?])?;
+    let own = Form::Alt.of(trail.chain(beyond, less)?);
+    trail.enter(place)?;
+    trail.forward(Law::AltLeast, own)?;
+    trail.leave();
+    let made = trail.replaced(made, place, Item::of(own))?;
+    Ok((flat(trail, made, place)?, beyond))
 }

@@ -2,17 +2,15 @@
 #![tactic(auto)]
 
 mod absorbing;
-mod alt;
 mod merging;
 mod moving;
 mod orders;
 mod restoring;
-mod unifying;
 
+pub use absorbing::unify;
 pub use merging::merge;
 pub use occ_derive_trail::{
-    Dones, Frame, Lost, Piece, Trail, alt_of, assign_of, constant, if_of, seq_of, seq_of_two,
-    unseen, var_of,
+    Dones, Form, Frame, Item, Lost, NONE, Part, Row, SKIP, STOP, TRUE, Token, Trail, Value, Wait,
+    greatest,
 };
 pub use restoring::restore;
-pub use unifying::unify;

@@ -1,214 +1,217 @@
-use crate::alt::{Alt, Rows, enter};
 use crate::merging::{joined, once};
-use crate::orders::{Key, following, rank};
-use occ_derive_trail::{Law, Lost, Trail};
-use occ_syntax::{Guard, Proc, Scope, same_proc};
+use crate::orders::{accepted, by_numbers, following, led_by, led_inside, rank};
+use occ_derive_trail::{Form, Law, Lost, Part, Row, Trail};
+use occ_syntax::{Kind, Name};
 
-/// The place of the first acceptance with an event of that rank: its home. None where no acceptance has one.
-pub(crate) fn home(params: &Scope, alt: &Alt, wanted: u64) -> Option<usize> {
-    for place in 0..alt.list.len() {
-        if follows(params, alt, place, wanted).is_some() {
-            return Some(place);
-        }
-    }
-    None
-}
-
-/// What follows the event of that rank in the acceptance at a place.
-fn follows<'a>(params: &Scope, alt: &'a Alt, place: usize, wanted: u64) -> Option<&'a Proc> {
-    match alt.accepted(place) {
-        Some(branches) => following(params, branches, wanted),
-        None => None,
-    }
-}
-
-/// An event that stands in acceptances and is worked on: its rank and its home.
+/// An event that stands in acceptances and is worked on: its rank, and the place of an acceptance with it: its home.
 #[derive(Clone, Copy)]
 struct Event {
     rank: u64,
     home: usize,
 }
 
-impl Event {
-    // The event with another acceptance in the home's place.
-    fn at(self, home: usize) -> Event {
-        Event {
-            rank: self.rank,
-            home,
+/// The place of the first acceptance with an event of that rank. None where no acceptance has one.
+fn event(
+    trail: &Trail,
+    params: &[(Name, Kind)],
+    branches: Row,
+    rank: u64,
+) -> Result<Option<Event>, Lost> {
+    for home in 0..branches.count() {
+        let event = Event { rank, home };
+        if event.follows(trail, params, branches)?.is_some() {
+            return Ok(Some(event));
         }
     }
-
-    // Whether an acceptance has the event and goes on otherwise behind it than its home.
-    fn differs(self, params: &Scope, alt: &Alt, place: usize) -> bool {
-        let Some(part) = follows(params, alt, self.home, self.rank) else {
-            return false;
-        };
-        match follows(params, alt, place, self.rank) {
-            Some(other) => !same_proc(part, other),
-            None => false,
-        }
-    }
+    Ok(None)
 }
 
 /// Makes what follows an event the same in all acceptances that have it, with all that followed it in the ALT's own branches,
 /// which stand there no longer.
 pub(crate) fn gathered(
     trail: &mut Trail,
-    params: &Scope,
-    alt: Alt,
+    params: &[(Name, Kind)],
+    branches: Row,
     rank: u64,
-) -> Result<Alt, Lost> {
-    let Some(home) = home(params, &alt, rank) else {
-        return Ok(alt);
+) -> Result<Row, Lost> {
+    let Some(event) = event(trail, params, branches, rank)? else {
+        return Ok(branches);
     };
-    let event = Event { rank, home };
-    let alt = all_copied_out(trail, params, alt, event)?;
-    if !has_own(params, alt.list.as_slice(), rank) {
-        return Ok(alt);
-    }
-    let (alt, home) = moved_in(trail, params, alt, event)?;
-    handed_out(trail, params, alt, Event { rank, home })
-}
-
-fn has_own(params: &Scope, list: &[(Guard, Proc)], wanted: u64) -> bool {
-    for (guard, _) in list {
-        if rank(params, guard) == Some(wanted) {
-            return true;
+    let mut made = branches;
+    for home in (0..branches.count()).rev() {
+        if event.differs(trail, params, made, home)? {
+            made = Event { rank, home }.copied_out(trail, params, made)?;
         }
     }
-    false
-}
-
-// Each acceptance behind the home that goes on otherwise gives the ALT a branch of its own.
-fn all_copied_out(
-    trail: &mut Trail,
-    params: &Scope,
-    mut alt: Alt,
-    event: Event,
-) -> Result<Alt, Lost> {
-    for place in (0..alt.list.len()).rev() {
-        if event.differs(params, &alt, place) {
-            alt = copied_out(trail, params, alt, event.at(place))?;
-        }
+    if following(trail, params, made, rank)?.is_none() {
+        return Ok(made);
     }
-    Ok(alt)
-}
-
-// A copy of the event's branch in its home stands in front of it as the ALT's own.
-fn copied_out(trail: &mut Trail, params: &Scope, mut alt: Alt, event: Event) -> Result<Alt, Lost> {
-    let alloc = trail.alloc();
-    let inner = Alt::of(alloc, alt.take(event.home)?)?;
-    enter(trail, event.home)?;
-    let inner = inner.led_by(trail, params, &[event.rank])?;
-    let mut inner = doubled(trail, inner)?;
-    trail.leave();
-    let branch = inner.remove(0)?;
-    alt.put(event.home, inner.into_part(alloc)?)?;
-    alt.insert(event.home, branch)?;
-    alt.backward(trail, Law::AltSplit)
-}
-
-// The first branch twice.
-fn doubled(trail: &mut Trail, alt: Alt) -> Result<Alt, Lost> {
-    let alloc = trail.alloc();
-    let (mut alt, copy) = alt.copied(alloc)?;
-    let first = Alt::of(alloc, copy)?.remove(0)?;
-    alt.insert(0, first)?;
-    alt.backward(trail, Law::AltTwice)
+    let (made, home) = event.moved_in(trail, params, made)?;
+    Event { rank, home }.handed_out(trail, params, made)
 }
 
 /// Moves the ALT's own branches of the event of that rank into its home, where an acceptance has it.
-pub(crate) fn housed(trail: &mut Trail, params: &Scope, alt: Alt, rank: u64) -> Result<Alt, Lost> {
-    let Some(home) = home(params, &alt, rank) else {
-        return Ok(alt);
-    };
-    let (alt, _) = moved_in(trail, params, alt, Event { rank, home })?;
-    Ok(alt)
-}
-
-// The ALT's own branches of an event go into its home, and what follows becomes one superposition. Gives the new place of the
-// home too.
-fn moved_in(
+pub(crate) fn housed(
     trail: &mut Trail,
-    params: &Scope,
-    alt: Alt,
-    event: Event,
-) -> Result<(Alt, usize), Lost> {
-    let (before, own) = counted(params, alt.list.as_slice(), event);
-    let alt = put_in_front(trail, params, alt, event)?;
-    let home = before.saturating_add(own);
-    let mut alt = alt.led_inside(trail, params, home, &[event.rank])?;
-    for place in (before..home).rev() {
-        alt = split(trail, alt, place)?;
-    }
-    let alt = joined_inside(trail, params, alt, before)?;
-    Ok((alt, before))
+    params: &[(Name, Kind)],
+    branches: Row,
+    rank: u64,
+) -> Result<Row, Lost> {
+    let Some(event) = event(trail, params, branches, rank)? else {
+        return Ok(branches);
+    };
+    let (made, _) = event.moved_in(trail, params, branches)?;
+    Ok(made)
 }
 
-// How many other branches stand before the home, and how many of the event's own there are.
-fn counted(params: &Scope, list: &[(Guard, Proc)], event: Event) -> (usize, usize) {
-    let mut before: usize = 0;
-    let mut own: usize = 0;
-    for (place, (guard, _)) in list.iter().enumerate() {
-        if rank(params, guard) == Some(event.rank) {
-            own = own.saturating_add(1);
-        } else if place < event.home {
-            before = before.saturating_add(1);
+impl Event {
+    // What follows the event in its home.
+    fn follows(
+        self,
+        trail: &Trail,
+        params: &[(Name, Kind)],
+        branches: Row,
+    ) -> Result<Option<Part>, Lost> {
+        match accepted(trail.item(branches, self.home)?) {
+            Some(inner) => following(trail, params, inner, self.rank),
+            None => Ok(None),
         }
     }
-    (before, own)
-}
 
-// The event's own branches stand directly in front of its home.
-fn put_in_front(trail: &mut Trail, params: &Scope, alt: Alt, event: Event) -> Result<Alt, Lost> {
-    let alloc = trail.alloc();
-    let mut rows = Rows::new(alloc);
-    for branch in alt.list {
-        let key = if rank(params, &branch.0) == Some(event.rank) {
-            Key::of(alloc, event.home as u64)
-        } else {
-            Key::behind(alloc, rows.count() as u64)?
-        };
-        rows.push(key, branch)?;
+    // Whether another acceptance has the event and goes on otherwise behind it than its home.
+    fn differs(
+        self,
+        trail: &Trail,
+        params: &[(Name, Kind)],
+        branches: Row,
+        home: usize,
+    ) -> Result<bool, Lost> {
+        let rank = self.rank;
+        let there = Event { rank, home }.follows(trail, params, branches)?;
+        match (self.follows(trail, params, branches)?, there) {
+            (Some(part), Some(other)) => Ok(!trail.is_same(part, other)?),
+            _ => Ok(false),
+        }
     }
-    rows.arranged(trail)
+
+    // A copy of the event's branch in its home stands in front of it as the ALT's own.
+    fn copied_out(
+        self,
+        trail: &mut Trail,
+        params: &[(Name, Kind)],
+        branches: Row,
+    ) -> Result<Row, Lost> {
+        let item = trail.item(branches, self.home)?;
+        let inner = trail.held(item.part, Form::Alt)?;
+        trail.enter(self.home)?;
+        let inner = led_by(trail, params, inner, &[self.rank])?;
+        let first = trail.item(inner, 0)?;
+        let doubled = trail.spliced(inner, 0, 0, first)?;
+        trail.backward(Law::AltTwice, Form::Alt.of(doubled))?;
+        trail.leave();
+        let made = trail.replaced(branches, self.home, item.with(Form::Alt.of(inner)))?;
+        let made = trail.spliced(made, self.home, 0, first)?;
+        trail.backward(Law::AltSplit, Form::Alt.of(made))?;
+        Ok(made)
+    }
+
+    // The ALT's own branches of an event go into its home, and what follows becomes one superposition. Gives the new place of the
+    // home too.
+    fn moved_in(
+        self,
+        trail: &mut Trail,
+        params: &[(Name, Kind)],
+        branches: Row,
+    ) -> Result<(Row, usize), Lost> {
+        let (before, own) = self.counted(trail, params, branches)?;
+        let made = self.put_in_front(trail, params, branches)?;
+        let home = before.saturating_add(own);
+        let mut made = led_inside(trail, params, made, home, &[self.rank])?;
+        for place in (before..home).rev() {
+            made = split(trail, made, place)?;
+        }
+        Ok((joined_inside(trail, params, made, before)?, before))
+    }
+
+    // How many other branches stand before the home, and how many of the event's own there are.
+    fn counted(
+        self,
+        trail: &Trail,
+        params: &[(Name, Kind)],
+        row: Row,
+    ) -> Result<(usize, usize), Lost> {
+        let mut before: usize = 0;
+        let mut own: usize = 0;
+        for place in 0..row.count() {
+            if rank(trail, params, trail.item(row, place)?) == Some(self.rank) {
+                own = own.saturating_add(1);
+            } else if place < self.home {
+                before = before.saturating_add(1);
+            }
+        }
+        Ok((before, own))
+    }
+
+    // The event's own branches stand directly in front of its home.
+    fn put_in_front(
+        self,
+        trail: &mut Trail,
+        params: &[(Name, Kind)],
+        row: Row,
+    ) -> Result<Row, Lost> {
+        let mut numbers = Vec::new(trail.alloc());
+        for place in 0..row.count() {
+            let is_own = rank(trail, params, trail.item(row, place)?) == Some(self.rank);
+            let before = if is_own { self.home } else { place };
+            let twice = (before as u64).saturating_mul(2);
+            numbers.push(twice.saturating_add(u64::from(!is_own)))?;
+        }
+        by_numbers(trail, params, row, numbers.as_slice())
+    }
+
+    // What the home now has goes to all acceptances that have less.
+    fn handed_out(
+        self,
+        trail: &mut Trail,
+        params: &[(Name, Kind)],
+        branches: Row,
+    ) -> Result<Row, Lost> {
+        let rank = self.rank;
+        let mut made = branches;
+        for place in 0..branches.count() {
+            if self.differs(trail, params, made, place)? {
+                made = self.copied_out(trail, params, made)?;
+                let home = place.saturating_add(1);
+                (made, _) = Event { rank, home }.moved_in(trail, params, made)?;
+            }
+        }
+        Ok(made)
+    }
 }
 
 // The branch at a place goes into the acceptance behind it, as its first.
-fn split(trail: &mut Trail, mut alt: Alt, place: usize) -> Result<Alt, Lost> {
-    let alloc = trail.alloc();
-    let branch = alt.remove(place)?;
-    let mut inner = Alt::of(alloc, alt.take(place)?)?;
-    inner.insert(0, branch)?;
-    alt.put(place, inner.into_part(alloc)?)?;
-    alt.forward(trail, Law::AltSplit)
+fn split(trail: &mut Trail, branches: Row, place: usize) -> Result<Row, Lost> {
+    let branch = trail.item(branches, place)?;
+    let next = trail.item(branches, place.saturating_add(1))?;
+    let inner = trail.held(next.part, Form::Alt)?;
+    let inner = Form::Alt.of(trail.spliced(inner, 0, 0, branch)?);
+    let made = trail.spliced(branches, place, 2, next.with(inner))?;
+    trail.forward(Law::AltSplit, Form::Alt.of(made))?;
+    Ok(made)
 }
 
 // Neighbours of one guard in the acceptance at a place become one.
 fn joined_inside(
     trail: &mut Trail,
-    params: &Scope,
-    mut alt: Alt,
+    params: &[(Name, Kind)],
+    branches: Row,
     place: usize,
-) -> Result<Alt, Lost> {
-    let alloc = trail.alloc();
-    let inner = Alt::of(alloc, alt.take(place)?)?;
-    enter(trail, place)?;
+) -> Result<Row, Lost> {
+    let item = trail.item(branches, place)?;
+    let inner = trail.held(item.part, Form::Alt)?;
+    trail.enter(place)?;
     let inner = once(trail, params, inner)?;
-    let inner = joined(trail, params, inner)?;
+    let inner = Form::Alt.of(joined(trail, params, inner)?);
     trail.leave();
-    alt.put(place, inner.into_part(alloc)?)?;
-    Ok(alt)
-}
-
-// What the home now has goes to all acceptances that have less.
-fn handed_out(trail: &mut Trail, params: &Scope, mut alt: Alt, event: Event) -> Result<Alt, Lost> {
-    for place in 0..alt.list.len() {
-        if event.differs(params, &alt, place) {
-            alt = copied_out(trail, params, alt, event)?;
-            let other = event.at(place.saturating_add(1));
-            (alt, _) = moved_in(trail, params, alt, other)?;
-        }
-    }
-    Ok(alt)
+    trail.replaced(branches, place, item.with(inner))
 }

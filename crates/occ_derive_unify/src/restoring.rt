@@ -1,176 +1,138 @@
-use crate::alt::{Alt, enter};
 use crate::merging::{flat, has_unseen};
-use crate::orders::{accepted, following, ranks};
-use occ_derive_trail::{Law, Lost, Trail, choices_of, if_of, unseen};
-use occ_syntax::{Choices, Guard, Proc, Scope, Wait};
-use std::alloc::Global;
-use std::mem::replace;
+use crate::orders::{accepted, following, led_by, ordered, ranks};
+use occ_derive_trail::{Form, Item, Law, Lost, Part, Row, Trail, Wait};
+use occ_syntax::{Kind, Name, Scope};
 
 const DEPTH: u32 = 1_000_000;
 
 /// Makes a compact normal part the process of a normal program: each event of an acceptance is offered by the ALT itself too,
 /// and an ALT of events alone has all of them as its acceptance.
-pub fn restore(trail: &mut Trail, params: &Scope, part: Proc) -> Result<Proc, Lost> {
-    restored(trail, params, part, DEPTH)
+pub fn restore(trail: &mut Trail, params: &Scope, part: Part) -> Result<Part, Lost> {
+    restored(trail, params.items(), part, DEPTH)
 }
 
 #[cycle(restoring)]
-fn restored(trail: &mut Trail, params: &Scope, part: Proc, depth: u32) -> Result<Proc, Lost> {
-    if depth == 0 {
-        return Err(Lost::NoStep);
-    }
-    let alloc = trail.alloc();
-    let mut part = part;
-    if let Proc::If(choices) = &mut part {
-        let choices = replace(choices, Choices::new(alloc));
-        return each_choice(trail, params, choices, depth - 1);
-    }
-    let alt = Alt::of(alloc, part)?;
-    let alt = beneath(trail, params, alt, depth - 1)?;
-    let alt = offering(trail, params, alt)?;
-    Ok(alt.into_part(alloc)?)
-}
-
-#[cycle(restoring)]
-fn each_choice(
+fn restored(
     trail: &mut Trail,
-    params: &Scope,
-    choices: Choices,
+    params: &[(Name, Kind)],
+    part: Part,
     depth: u32,
-) -> Result<Proc, Lost> {
-    let alloc = trail.alloc();
-    if depth == 0 {
+) -> Result<Part, Lost> {
+    let Some(depth) = depth.checked_sub(1) else {
         return Err(Lost::NoStep);
+    };
+    match part.form {
+        Form::If => beneath(trail, params, part, depth),
+        Form::Alt => {
+            let part = beneath(trail, params, part, depth)?;
+            offering(trail, params, part.row)
+        }
+        _ => Err(Lost::NoStep),
     }
-    let mut list = Vec::new(alloc);
-    let mut place: usize = 0;
-    for (condition, part) in choices_of(alloc, choices)? {
-        enter(trail, place)?;
-        let part = restored(trail, params, part, depth - 1)?;
-        trail.leave();
-        list.push((condition, part))?;
-        place = place.saturating_add(1);
-    }
-    Ok(if_of(alloc, list)?)
 }
 
-// What follows each event of an ALT and of its acceptances.
+// What stands in each choice of an IF, and what follows each event of an ALT and of its acceptances.
 #[cycle(restoring)]
-fn beneath(trail: &mut Trail, params: &Scope, alt: Alt, depth: u32) -> Result<Alt, Lost> {
-    if depth == 0 {
+fn beneath(
+    trail: &mut Trail,
+    params: &[(Name, Kind)],
+    whole: Part,
+    depth: u32,
+) -> Result<Part, Lost> {
+    let Some(depth) = depth.checked_sub(1) else {
         return Err(Lost::NoStep);
-    }
-    let mut list = Vec::with_capacity(trail.alloc(), alt.list.len())?;
-    let mut place: usize = 0;
-    for (guard, part) in alt.list {
-        enter(trail, place)?;
-        let part = match guard.wait {
-            Wait::Skip => unseen_part(trail, params, part, depth - 1)?,
-            _ => restored(trail, params, part, depth - 1)?,
+    };
+    let begin = trail.begin();
+    for place in 0..whole.row.count() {
+        let item = trail.item(whole.row, place)?;
+        trail.enter(place)?;
+        let part = match (whole.form, item.wait, item.part.form) {
+            (Form::Alt, Wait::Skip, Form::Alt) => beneath(trail, params, item.part, depth)?,
+            (Form::Alt, Wait::Skip, _) => item.part,
+            _ => restored(trail, params, item.part, depth)?,
         };
         trail.leave();
-        list.push((guard, part))?;
-        place = place.saturating_add(1);
+        trail.put(item.with(part))?;
     }
-    Ok(Alt { list })
-}
-
-// An acceptance or an end.
-#[cycle(restoring)]
-fn unseen_part(trail: &mut Trail, params: &Scope, part: Proc, depth: u32) -> Result<Proc, Lost> {
-    let alloc = trail.alloc();
-    if depth == 0 {
-        return Err(Lost::NoStep);
-    }
-    if !matches!(&part, Proc::Alt(_)) {
-        return Ok(part);
-    }
-    let alt = Alt::of(alloc, part)?;
-    let alt = beneath(trail, params, alt, depth - 1)?;
-    Ok(alt.into_part(alloc)?)
+    Ok(whole.form.of(trail.end(begin)?))
 }
 
 // The ALT offers what its acceptances have.
-fn offering(trail: &mut Trail, params: &Scope, alt: Alt) -> Result<Alt, Lost> {
-    if !has_unseen(alt.list.as_slice()) {
-        return slid(trail, alt);
+fn offering(trail: &mut Trail, params: &[(Name, Kind)], branches: Row) -> Result<Part, Lost> {
+    if !has_unseen(trail, branches)? {
+        let last = trail.row(&[Item::of(Form::Alt.of(branches))])?;
+        let whole = Form::Alt.of(trail.chain(branches, last)?);
+        trail.backward(Law::AltSlide, whole)?;
+        return Ok(whole);
     }
-    let mut alt = alt;
-    for place in (0..alt.list.len()).rev() {
-        let own = unshared(trail.alloc(), params, alt.list.as_slice(), place)?;
+    let mut made = branches;
+    for place in (0..branches.count()).rev() {
+        let own = unshared(trail, params, made, place)?;
         if !own.is_empty() {
-            alt = offered(trail, params, alt, (place, own.as_slice()))?;
+            made = offered(trail, params, made, (place, own.as_slice()))?;
         }
     }
-    alt.ordered(trail, params)
-}
-
-// An ALT of events alone, with all of them as an acceptance too.
-fn slid(trail: &mut Trail, alt: Alt) -> Result<Alt, Lost> {
-    let (mut alt, copy) = alt.copied(trail.alloc())?;
-    alt.list.push((unseen(), copy))?;
-    alt.backward(trail, Law::AltSlide)
+    Ok(Form::Alt.of(ordered(trail, params, made)?))
 }
 
 // The ranks of the events of the acceptance at a place that no acceptance before it has.
 fn unshared(
-    alloc: Global,
-    params: &Scope,
-    list: &[(Guard, Proc)],
+    trail: &Trail,
+    params: &[(Name, Kind)],
+    row: Row,
     place: usize,
 ) -> Result<Vec<u64>, Lost> {
-    let mut own = Vec::new(alloc);
-    let Some(branch) = list.get(place) else {
+    let mut own = Vec::new(trail.alloc());
+    let Some(inner) = accepted(trail.item(row, place)?) else {
         return Ok(own);
     };
-    let Some(branches) = accepted(branch) else {
-        return Ok(own);
-    };
-    for rank in ranks(alloc, params, branches)? {
-        if !stands_before(params, list, place, rank) {
-            own.push(rank)?;
+    let all = ranks(trail, params, inner)?;
+    for rank in all.as_slice() {
+        if !stands_in(trail, params, row.front(place), *rank)? {
+            own.push(*rank)?;
         }
     }
     Ok(own)
 }
 
-// Whether an acceptance before that place has an event.
-fn stands_before(params: &Scope, list: &[(Guard, Proc)], place: usize, rank: u64) -> bool {
-    for (number, branch) in list.iter().enumerate() {
-        if number >= place {
-            return false;
-        }
-        if let Some(branches) = accepted(branch) {
-            if following(params, branches, rank).is_some() {
-                return true;
+// Whether an acceptance has an event.
+fn stands_in(
+    trail: &Trail,
+    params: &[(Name, Kind)],
+    branches: Row,
+    rank: u64,
+) -> Result<bool, Lost> {
+    for place in 0..branches.count() {
+        if let Some(inner) = accepted(trail.item(branches, place)?) {
+            if following(trail, params, inner, rank)?.is_some() {
+                return Ok(true);
             }
         }
     }
-    false
+    Ok(false)
 }
 
 // The events of these ranks, which the acceptance at a place has, stand in the ALT too.
 fn offered(
     trail: &mut Trail,
-    params: &Scope,
-    mut alt: Alt,
+    params: &[(Name, Kind)],
+    branches: Row,
     own: (usize, &[u64]),
-) -> Result<Alt, Lost> {
-    let alloc = trail.alloc();
+) -> Result<Row, Lost> {
     let (place, chosen) = own;
-    let inner = Alt::of(alloc, alt.take(place)?)?;
-    enter(trail, place)?;
-    let inner = inner.led_by(trail, params, chosen)?;
-    let (mut outer, copy) = inner.copied(alloc)?;
-    outer.list.truncate(chosen.len());
-    outer.list.push((unseen(), copy))?;
-    let mut outer = outer.backward(trail, Law::AltSlide)?;
-    let inner = Alt::of(alloc, outer.take(chosen.len())?)?;
-    enter(trail, chosen.len())?;
-    let inner = inner.ordered(trail, params)?;
+    let count = chosen.len();
+    let item = trail.item(branches, place)?;
+    let inner = trail.held(item.part, Form::Alt)?;
+    trail.enter(place)?;
+    let inner = led_by(trail, params, inner, chosen)?;
+    let last = trail.row(&[Item::of(Form::Alt.of(inner))])?;
+    let outer = trail.chain(inner.front(count), last)?;
+    trail.backward(Law::AltSlide, Form::Alt.of(outer))?;
+    trail.enter(count)?;
+    let inner = ordered(trail, params, inner)?;
     trail.leave();
     trail.leave();
-    outer.put(chosen.len(), inner.into_part(alloc)?)?;
-    alt.put(place, outer.into_part(alloc)?)?;
-    flat(trail, alt, place)
+    let outer = trail.replaced(outer, count, Item::of(Form::Alt.of(inner)))?;
+    let made = trail.replaced(branches, place, item.with(Form::Alt.of(outer)))?;
+    flat(trail, made, place)
 }

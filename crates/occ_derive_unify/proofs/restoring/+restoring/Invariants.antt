@@ -4,11 +4,5 @@ use Rattle.occ_derive_unify.proofs.restoring.+restoring.Given as goal
 abbrev pub decreases-restored : goal.decreases-restored
 decreases-restored l = l.depth
 
-abbrev pub decreases-each_choice : goal.decreases-each_choice
-decreases-each_choice l = l.depth
-
 abbrev pub decreases-beneath : goal.decreases-beneath
 decreases-beneath l = l.depth
-
-abbrev pub decreases-unseen_part : goal.decreases-unseen_part
-decreases-unseen_part l = l.depth

@@ -1,7 +1,0 @@
-use Rattle.std.proofs.Common.{length, ◌≡◌}
-use Rattle.occ_syntax.specs.View.{in_alternatives}
-use Rattle.occ_derive_trail.proofs.lists.branches_of.Given as goal
-
--- the list stays as long as it was
-abbrev pub invariant-loop-place : goal.invariant-loop-place
-invariant-loop-place l = length (in_alternatives l.list) ≡ length (in_alternatives l.fn.list)
