@@ -37,7 +37,7 @@ pub(crate) fn is_of_events(trail: &Trail, branches: Row) -> Result<bool, Lost> {
 
 /// The two parts of a SEQ.
 pub(crate) fn both_of(trail: &Trail, part: Part) -> Result<(Part, Part), Lost> {
-    let parts = trail.held(part, Form::Seq)?;
+    let parts = part.held(Form::Seq)?;
     Ok((trail.part(parts, 0)?, trail.part(parts, 1)?))
 }
 

@@ -8,10 +8,10 @@ use occ_syntax::{Name, Width};
 /// Leaves out the last pairs of an assignment, from its end, until so many are left. Each gives a variable its own value.
 fn shortened(trail: &mut Trail, pairs: Row, count: usize) -> Result<Part, Lost> {
     for left in (count..pairs.count()).rev() {
-        let part = trail.assignment(pairs.front(left));
+        let part = pairs.front(left).assignment();
         trail.backward(Law::AssignPad, part)?;
     }
-    Ok(trail.assignment(pairs.front(count)))
+    Ok(pairs.front(count).assignment())
 }
 
 /// `vs, ts := es, 0` as `SEQ(vs := es, ts := 0)`.
@@ -71,6 +71,6 @@ pub(crate) fn ended(trail: &mut Trail, frame: &Frame, part: Part) -> Result<Part
     if frame.params.is_empty() {
         return behind_skip(trail, part);
     }
-    let ends = trail.held(part, Form::Assign)?;
+    let ends = part.held(Form::Assign)?;
     parted(trail, frame, ends)
 }

@@ -29,7 +29,7 @@ fn widened(trail: &mut Trail, table: Row, var: (Name, Width)) -> Result<Row, Los
     let begin = trail.begin();
     for place in 0..table.count() {
         let item = trail.item(table, place)?;
-        let before = trail.pairs(item.part)?;
+        let before = item.part.row;
         for number in 0..=greatest(var.1) {
             let (condition, pair) = at_value(trail, var, number)?;
             let value = if item.value == TRUE {
@@ -58,10 +58,10 @@ pub(crate) fn by_states(
     let begin = trail.begin();
     for place in 0..table.count() {
         let item = trail.item(table, place)?;
-        let first = trail.pairs(item.part)?;
+        let first = item.part.row;
         let second = zeros(trail, others)?;
         let pairs = trail.chain(first, second)?;
-        let part = trail.assignment(pairs);
+        let part = pairs.assignment();
         trail.put(item.with(part))?;
     }
     trail.end(begin)

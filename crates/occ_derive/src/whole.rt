@@ -78,7 +78,7 @@ fn without_last(
     front: Part,
 ) -> Result<Part, Lost> {
     let zeros = zeros(trail, before)?;
-    let rest = trail.assignment(zeros);
+    let rest = zeros.assignment();
     let inner = trail.two(Form::Seq, front, rest)?;
     let whole = trail.one(form, inner)?;
     trail.forward(Law::VarEnd, whole)?;
@@ -147,7 +147,7 @@ fn offered(trail: &mut Trail, view: &View, part: Part) -> Result<(), Lost> {
         part = trail.body(part)?;
         trail.enter(0)?;
     }
-    let choices = trail.held(part, Form::If)?;
+    let choices = part.held(Form::If)?;
     for place in 0..choices.count() {
         let part = trail.part(choices, place)?;
         trail.enter(place)?;

@@ -11,7 +11,7 @@ pub fn advance(trail: &mut Trail, frame: &Frame, part: Part) -> Result<Part, Los
     let mut spine = Spine::down(trail, part)?;
     for _ in 0..MOST {
         if !spine.go(trail, frame)? {
-            let inner = trail.assignment(spine.known);
+            let inner = spine.known.assignment();
             return spine.close(trail, inner);
         }
     }
@@ -20,8 +20,8 @@ pub fn advance(trail: &mut Trail, frame: &Frame, part: Part) -> Result<Part, Los
 
 /// A SEQ of an assignment and a configuration becomes the configuration with the assignment brought in to its known values.
 pub fn prefix(trail: &mut Trail, frame: &Frame, part: Part) -> Result<Part, Lost> {
-    let parts = trail.held(part, Form::Seq)?;
-    let known = trail.held(trail.part(parts, 0)?, Form::Assign)?;
+    let parts = part.held(Form::Seq)?;
+    let known = trail.part(parts, 0)?.held(Form::Assign)?;
     let mut rest = trail.part(parts, 1)?;
     let layers = Vec::new(trail.alloc());
     let mut spine = Spine { known, layers };
@@ -37,7 +37,7 @@ pub fn prefix(trail: &mut Trail, frame: &Frame, part: Part) -> Result<Part, Lost
             Form::Var(_, _) => rest = spine.into_scope(trail, rest)?,
             Form::Assign => {
                 let joined = join_pairs(trail, frame, known, rest.row)?;
-                return spine.close(trail, trail.assignment(joined));
+                return spine.close(trail, joined.assignment());
             }
             _ => return Err(Lost::NoStep),
         }
@@ -56,7 +56,7 @@ impl Spine {
             return Ok(true);
         }
         if layer.row.count() == 0 {
-            trail.forward(Law::SeqOne, trail.assignment(self.known))?;
+            trail.forward(Law::SeqOne, self.known.assignment())?;
             return Ok(true);
         }
         let head = trail.part(layer.row, 0)?;
@@ -82,7 +82,7 @@ impl Spine {
     ) -> Result<(), Lost> {
         match head.form {
             Form::Skip => {
-                let first = trail.assignment(self.known);
+                let first = self.known.assignment();
                 let whole = Form::Seq.of(trail.ahead(first, rest)?);
                 trail.forward(Law::SeqSkip, whole)?;
                 self.push(trail, Form::Seq.of(rest))
@@ -131,13 +131,13 @@ impl Spine {
             Law::VarAssign
         };
         self.known = known;
-        trail.forward(law, trail.assignment(known))
+        trail.forward(law, known.assignment())
     }
 
     // What follows STOP is dropped, and STOP becomes the ALT without branches.
     fn stop(&mut self, trail: &mut Trail, rest: Row) -> Result<(), Lost> {
         if rest.count() != 0 {
-            let whole = trail.two(Form::Seq, trail.assignment(self.known), STOP)?;
+            let whole = trail.two(Form::Seq, self.known.assignment(), STOP)?;
             trail.forward(Law::SeqStop, whole)?;
         }
         let none = Form::Alt.of(NONE);
@@ -181,7 +181,7 @@ impl Spine {
 
     // What is known goes into each choice.
     fn into_choices(&self, trail: &mut Trail, choices: Row) -> Result<Row, Lost> {
-        let first = trail.assignment(self.known);
+        let first = self.known.assignment();
         let begin = trail.begin();
         for place in 0..choices.count() {
             let item = trail.item(choices, place)?;

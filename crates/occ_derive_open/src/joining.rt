@@ -21,7 +21,7 @@ pub(crate) fn join_pairs(
     let back = widened(trail, second, order.as_slice())?;
     trail.leave();
     let made = behind(trail, front, back)?;
-    trail.forward(Law::AssignJoin, trail.assignment(made))?;
+    trail.forward(Law::AssignJoin, made.assignment())?;
     evaluated(trail, Form::Assign.of(made))
 }
 

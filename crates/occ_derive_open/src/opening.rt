@@ -12,7 +12,7 @@ pub fn open(trail: &mut Trail, frame: &Frame, part: Part) -> Result<Part, Lost> 
     let Some(layer) = spine.pop(trail) else {
         return end(trail, part);
     };
-    let parts = trail.held(layer, Form::Seq)?;
+    let parts = layer.held(Form::Seq)?;
     let head = trail.part(parts, 0)?;
     match spine.standing(trail, head)? {
         Standing::Moves => Err(Lost::NoStep),
@@ -75,7 +75,7 @@ fn known_values(trail: &mut Trail, frame: &Frame, branches: Row) -> Result<Row, 
 impl Spine {
     // A configuration that reads a variable whose value isn't known becomes an ALT with a branch for each of its values.
     fn split(mut self, trail: &mut Trail, frame: &Frame, name: Name) -> Result<Part, Lost> {
-        let mut part = trail.assignment(self.known);
+        let mut part = self.known.assignment();
         for _ in 0..self.layers.len() {
             let Some(layer) = self.pop(trail) else {
                 return Err(Lost::NoStep);
@@ -107,7 +107,7 @@ impl Spine {
                 Wait::Skip | Wait::Set(_) => item.wait,
             };
             let value = trail.substituted(item.value, self.known)?;
-            let part = trail.two(Form::Seq, trail.assignment(known), item.part)?;
+            let part = trail.two(Form::Seq, known.assignment(), item.part)?;
             trail.put(Item { wait, value, part })?;
         }
         let made = trail.end(begin)?;

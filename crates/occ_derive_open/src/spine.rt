@@ -75,7 +75,7 @@ impl Spine {
         if rest.count() == 0 {
             return Ok(());
         }
-        let both = trail.two(Form::Seq, trail.assignment(self.known), head)?;
+        let both = trail.two(Form::Seq, self.known.assignment(), head)?;
         let whole = Form::Seq.of(trail.ahead(both, rest)?);
         trail.backward(Law::SeqFlat, whole)?;
         self.push(trail, Form::Seq.of(rest))
@@ -83,7 +83,7 @@ impl Spine {
 
     /// The assignment and the SEQ behind it become one SEQ, at which the trail stays.
     pub(crate) fn flatten(&self, trail: &mut Trail, parts: Row) -> Result<(), Lost> {
-        let first = trail.assignment(self.known);
+        let first = self.known.assignment();
         let whole = Form::Seq.of(trail.ahead(first, parts)?);
         trail.forward(Law::SeqFlat, whole)
     }
@@ -91,7 +91,7 @@ impl Spine {
     /// The declaration behind the assignment comes to stand round both, and the trail goes into it.
     pub(crate) fn into_scope(&mut self, trail: &mut Trail, head: Part) -> Result<Part, Lost> {
         let body = trail.body(head)?;
-        let inner = trail.two(Form::Seq, trail.assignment(self.known), body)?;
+        let inner = trail.two(Form::Seq, self.known.assignment(), body)?;
         let whole = trail.one(head.form, inner)?;
         trail.backward(Law::VarFirst, whole)?;
         self.push(trail, head.form.of(NONE))?;

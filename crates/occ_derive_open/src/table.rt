@@ -19,7 +19,8 @@ fn cases_or_else(trail: &mut Trail, table: Row, part: Part, depth: u32) -> Resul
         return Err(Lost::NoStep);
     };
     if table.count() == 1 {
-        return one_case(trail, trail.item(table, 0)?, part);
+        let case = trail.item(table, 0)?;
+        return one_case(trail, case, part);
     }
     let half = table.count() / 2;
     let choices = cases_or_else(trail, table.front(half), part, depth)?;

@@ -112,7 +112,7 @@ impl Turning {
         first: Part,
         inner: Part,
     ) -> Result<Part, Lost> {
-        let parts = trail.held(inner, Form::Seq)?;
+        let parts = inner.held(Form::Seq)?;
         let known = trail.part(parts, 0)?;
         let whole = Form::Seq.of(trail.ahead(first, parts)?);
         trail.forward(Law::SeqFlat, whole)?;
@@ -141,8 +141,8 @@ impl Turning {
         first: Part,
         known: Part,
     ) -> Result<Part, Lost> {
-        let first = trail.held(first, Form::Assign)?;
-        let known = trail.held(known, Form::Assign)?;
+        let first = first.held(Form::Assign)?;
+        let known = known.held(Form::Assign)?;
         let joined = join_pairs(trail, frame, first, known)?;
         let kept = Form::Assign.of(self.kept(trail, joined)?);
         let front = self.front(trail, joined)?;

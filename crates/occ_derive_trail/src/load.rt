@@ -64,7 +64,7 @@ impl Trail {
             self.put(Item::pair(*name, value))?;
         }
         let pairs = self.end(begin)?;
-        Ok(self.assignment(pairs))
+        Ok(pairs.assignment())
     }
 
     #[cycle(loading)]

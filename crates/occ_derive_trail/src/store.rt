@@ -119,6 +119,15 @@ impl Row {
         self.to.saturating_sub(self.from)
     }
 
+    /// The assignment of these pairs; SKIP where there is none.
+    pub fn assignment(self) -> Part {
+        if self.count() == 0 {
+            SKIP
+        } else {
+            Form::Assign.of(self)
+        }
+    }
+
     /// All items but the first ones, so many.
     pub fn past(self, count: usize) -> Row {
         Row {
@@ -132,6 +141,17 @@ impl Row {
         Row {
             from: self.from,
             to: self.from.saturating_add(count).min(self.to),
+        }
+    }
+}
+
+impl Part {
+    /// What a process of that form holds. No step for a process of another form.
+    pub fn held(self, form: Form) -> Result<Row, Lost> {
+        if self.form == form {
+            Ok(self.row)
+        } else {
+            Err(Lost::NoStep)
         }
     }
 }
@@ -208,15 +228,6 @@ impl Trail {
         match part.form {
             Form::Var(_, _) | Form::Chan(_, _) => self.part(part.row, 0),
             _ => Err(Lost::NoStep),
-        }
-    }
-
-    /// What a process of that form holds. No step for a process of another form.
-    pub fn held(&self, part: Part, form: Form) -> Result<Row, Lost> {
-        if part.form == form {
-            Ok(part.row)
-        } else {
-            Err(Lost::NoStep)
         }
     }
 
@@ -312,24 +323,6 @@ impl Trail {
     /// The process of that form that holds two others.
     pub fn two(&mut self, form: Form, first: Part, second: Part) -> Result<Part, Lost> {
         Ok(form.of(self.row(&[Item::of(first), Item::of(second)])?))
-    }
-
-    /// The assignment of these pairs; SKIP where there is none.
-    pub fn assignment(&self, pairs: Row) -> Part {
-        if pairs.count() == 0 {
-            SKIP
-        } else {
-            Form::Assign.of(pairs)
-        }
-    }
-
-    /// The pairs of an assignment; none of SKIP.
-    pub fn pairs(&self, part: Part) -> Result<Row, Lost> {
-        match part.form {
-            Form::Assign => Ok(part.row),
-            Form::Skip => Ok(NONE),
-            _ => Err(Lost::NoStep),
-        }
     }
 
     /// What is assigned to a variable; None where nothing is.

@@ -90,7 +90,10 @@ impl Trail {
 
     /// Whether an expression is this one token.
     pub fn is_token(&self, value: Value, token: Token) -> bool {
-        value.count() == 1 && self.token(value, 0) == Ok(token)
+        match self.token(value, 0) {
+            Ok(first) => first == token && value.count() == 1,
+            Err(_) => false,
+        }
     }
 
     /// The value of a constant; 0 of any other expression.

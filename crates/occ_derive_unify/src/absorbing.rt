@@ -123,7 +123,7 @@ fn parted(
     places: (usize, usize),
 ) -> Result<Row, Lost> {
     let (less, more) = places;
-    let common = trail.held(trail.part(branches, less)?, Form::Alt)?;
+    let common = trail.part(branches, less)?.held(Form::Alt)?;
     let chosen = ranks(trail, params, common)?;
     let made = led_inside(trail, params, branches, more, chosen.as_slice())?;
     let made = put_last(trail, params, made, places)?;
@@ -158,7 +158,7 @@ fn least(trail: &mut Trail, branches: Row, count: usize) -> Result<(Row, Row), L
     let made = trail.spliced(branches, place, 2, pair)?;
     trail.backward(Law::AltFlat, Form::Alt.of(made))?;
     let more = trail.part(branches, place.saturating_add(1))?;
-    let beyond = trail.held(more, Form::Alt)?.past(count);
+    let beyond = more.held(Form::Alt)?.past(count);
     let less = trail.row(&[trail.item(branches, place)?])?;
     let own = Form::Alt.of(trail.chain(beyond, less)?);
     trail.enter(place)?;

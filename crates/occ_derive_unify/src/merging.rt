@@ -112,7 +112,7 @@ pub(crate) fn has_unseen(trail: &Trail, branches: Row) -> Result<bool, Lost> {
 
 /// Puts the branches of the ALT that stands behind an unseen guard in the place of that guard's branch.
 pub(crate) fn flat(trail: &mut Trail, branches: Row, place: usize) -> Result<Row, Lost> {
-    let inner = trail.held(trail.part(branches, place)?, Form::Alt)?;
+    let inner = trail.part(branches, place)?.held(Form::Alt)?;
     let begin = trail.begin();
     trail.put_all(branches.front(place))?;
     trail.put_all(inner)?;

@@ -102,7 +102,7 @@ impl Event {
         branches: Row,
     ) -> Result<Row, Lost> {
         let item = trail.item(branches, self.home)?;
-        let inner = trail.held(item.part, Form::Alt)?;
+        let inner = item.part.held(Form::Alt)?;
         trail.enter(self.home)?;
         let inner = led_by(trail, params, inner, &[self.rank])?;
         let first = trail.item(inner, 0)?;
@@ -193,7 +193,7 @@ impl Event {
 fn split(trail: &mut Trail, branches: Row, place: usize) -> Result<Row, Lost> {
     let branch = trail.item(branches, place)?;
     let next = trail.item(branches, place.saturating_add(1))?;
-    let inner = trail.held(next.part, Form::Alt)?;
+    let inner = next.part.held(Form::Alt)?;
     let inner = Form::Alt.of(trail.spliced(inner, 0, 0, branch)?);
     let made = trail.spliced(branches, place, 2, next.with(inner))?;
     trail.forward(Law::AltSplit, Form::Alt.of(made))?;
@@ -208,7 +208,7 @@ fn joined_inside(
     place: usize,
 ) -> Result<Row, Lost> {
     let item = trail.item(branches, place)?;
-    let inner = trail.held(item.part, Form::Alt)?;
+    let inner = item.part.held(Form::Alt)?;
     trail.enter(place)?;
     let inner = once(trail, params, inner)?;
     let inner = Form::Alt.of(joined(trail, params, inner)?);

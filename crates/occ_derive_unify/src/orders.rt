@@ -186,7 +186,7 @@ pub(crate) fn led_inside(
     chosen: &[u64],
 ) -> Result<Row, Lost> {
     let item = trail.item(branches, place)?;
-    let inner = trail.held(item.part, Form::Alt)?;
+    let inner = item.part.held(Form::Alt)?;
     trail.enter(place)?;
     let inner = led_by(trail, params, inner, chosen)?;
     trail.leave();

@@ -122,7 +122,7 @@ fn offered(
     let (place, chosen) = own;
     let count = chosen.len();
     let item = trail.item(branches, place)?;
-    let inner = trail.held(item.part, Form::Alt)?;
+    let inner = item.part.held(Form::Alt)?;
     trail.enter(place)?;
     let inner = led_by(trail, params, inner, chosen)?;
     let last = trail.row(&[Item::of(Form::Alt.of(inner))])?;

@@ -11,7 +11,7 @@ fn steps_are_kept(rt: HostRuntime) -> Result<(), Lost> {
     let mut trail = Trail::new(alloc)?;
     let part = trail.load(&whole)?;
     assert!(rt; same_proc(&trail.proc(part)?, &whole));
-    let parts = trail.held(part, Form::Seq)?;
+    let parts = part.held(Form::Seq)?;
     trail.enter(0)?;
     for place in 0..parts.count() {
         let inner = trail.part(parts, place)?;
