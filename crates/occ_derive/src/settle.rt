@@ -13,10 +13,15 @@ fn is_end(part: Part) -> bool {
     matches!(part.form, Form::Assign | Form::Skip)
 }
 
-/// Whether a branch is the same as one before it.
-fn is_twice(trail: &Trail, branches: Row, place: usize) -> Result<bool, Lost> {
+/// Whether a branch is the same as one that stands at these places and before it.
+fn is_twice(
+    trail: &Trail,
+    branches: Row,
+    (from, to): (usize, usize),
+    place: usize,
+) -> Result<bool, Lost> {
     let branch = trail.item(branches, place)?;
-    for before in 0..place {
+    for before in from..to.min(place) {
         let other = trail.item(branches, before)?;
         if trail.is_same_guard(other, branch)? && trail.is_same(other.part, branch.part)? {
             return Ok(true);
@@ -25,14 +30,17 @@ fn is_twice(trail: &Trail, branches: Row, place: usize) -> Result<bool, Lost> {
     Ok(false)
 }
 
-/// Takes out each branch that is the same as one before it.
-fn once(trail: &mut Trail, branches: Row) -> Result<Row, Lost> {
+/// Takes out each branch that is the same as one before it. All that are outside these places differ.
+fn once(trail: &mut Trail, branches: Row, from: usize, to: usize) -> Result<Row, Lost> {
     let mut left = branches;
-    let mut place: usize = 0;
-    for _ in 0..branches.count() {
-        if is_twice(trail, left, place)? {
+    let mut end = to;
+    let mut place = from;
+    for _ in from..branches.count() {
+        let first = if place < end { 0 } else { from };
+        if is_twice(trail, left, (first, end), place)? {
             left = trail.without(left, place)?;
             trail.forward(Law::AltTwice, Form::Alt.of(left))?;
+            end = end.saturating_sub(usize::from(place < end));
         } else {
             place = place.saturating_add(1);
         }
@@ -73,7 +81,7 @@ fn settle_all(trail: &mut Trail, frame: &Frame, branches: Row, fuel: u32) -> Res
     let Some(fuel) = fuel.checked_sub(1) else {
         return Err(Lost::NoStep);
     };
-    let mut made = once(trail, branches)?;
+    let mut made = once(trail, branches, 0, branches.count())?;
     for _ in 0..MOST {
         let Some(place) = first_open(trail, made)? else {
             return Ok(made);
@@ -82,8 +90,9 @@ fn settle_all(trail: &mut Trail, frame: &Frame, branches: Row, fuel: u32) -> Res
         trail.enter(place)?;
         let part = settle_one(trail, frame, part, fuel)?;
         trail.leave();
-        made = put_back(trail, made, place, part)?;
-        made = once(trail, made)?;
+        let next = put_back(trail, made, place, part)?;
+        let behind = made.past(place.saturating_add(1)).count();
+        made = once(trail, next, place, next.count().saturating_sub(behind))?;
     }
     Err(Lost::NoStep)
 }

@@ -1,17 +1,28 @@
 use crate::store::{Form, Item, Part, Value, Wait};
 use crate::{Lost, Trail};
 
+/// How deep processes go at most that are compared.
+const DEEPEST: u32 = 1_000_000;
+
 impl Trail {
     /// Whether two parts are the same process.
     pub fn is_same(&self, left: Part, right: Part) -> Result<bool, Lost> {
-        let mut left_for = Vec::new(self.alloc());
-        left_for.push((left, right))?;
+        self.is_same_to(left, right, DEEPEST)
+    }
+
+    /// The last process that each holds is compared in a loop, since there may be thousands of declarations in a row.
+    fn is_same_to(&self, left: Part, right: Part, fuel: u32) -> Result<bool, Lost> {
+        let Some(fuel) = fuel.checked_sub(1) else {
+            return Err(Lost::NoStep);
+        };
+        let mut one = left;
+        let mut other = right;
         for _ in 0..u64::MAX {
-            let Some((one, other)) = left_for.pop() else {
-                return Ok(true);
-            };
             if !self.is_same_form(one.form, other.form)? || one.row.count() != other.row.count() {
                 return Ok(false);
+            }
+            if one.row.count() == 0 || one.row == other.row {
+                return Ok(true);
             }
             for place in 0..one.row.count() {
                 let first = self.item(one.row, place)?;
@@ -19,8 +30,16 @@ impl Trail {
                 if !self.is_same_guard(first, second)? {
                     return Ok(false);
                 }
-                left_for.push((first.part, second.part))?;
             }
+            let last = one.row.count().saturating_sub(1);
+            for place in 0..last {
+                let (first, second) = (self.part(one.row, place)?, self.part(other.row, place)?);
+                if !self.is_same_to(first, second, fuel)? {
+                    return Ok(false);
+                }
+            }
+            one = self.part(one.row, last)?;
+            other = self.part(other.row, last)?;
         }
         Err(Lost::NoStep)
     }

@@ -145,8 +145,12 @@ fn put_last(
 ) -> Result<Row, Lost> {
     let mut numbers = Vec::new(trail.alloc());
     for place in 0..branches.count() {
-        let is_more = u64::from(place == more);
-        numbers.push(is_more * 2 + u64::from(place == less))?;
+        let number = if place == more {
+            2
+        } else {
+            u64::from(place == less)
+        };
+        numbers.push(number)?;
     }
     by_numbers(trail, params, branches, numbers.as_slice())
 }

@@ -10,7 +10,6 @@ mod restoring;
 pub use absorbing::unify;
 pub use merging::merge;
 pub use occ_derive_trail::{
-    Dones, Form, Frame, Item, Lost, NONE, Part, Row, SKIP, STOP, TRUE, Token, Trail, Value, Wait,
-    greatest,
+    Dones, Form, Frame, Item, Lost, Part, Row, SKIP, TRUE, Token, Trail, Value, Wait, greatest,
 };
 pub use restoring::restore;
