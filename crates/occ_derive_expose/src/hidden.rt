@@ -1,7 +1,7 @@
 //! Declared channels round a head form.
 
 use crate::exposing::{Around, Turn, in_two};
-use occ_derive_trail::{Form, Law, Lost, Part, Row, Trail, Wait};
+use occ_derive_trail::{Form, Law, Lost, Part, Row, Trail, Wait, free};
 use occ_syntax::{Name, Width};
 
 /// A declared channel, and those declared next in it, are worked at what they govern. Channels that this doesn't name go.
@@ -10,13 +10,14 @@ pub(crate) fn declared(
     rounds: &mut Vec<Around>,
     part: Part,
 ) -> Result<Turn, Lost> {
+    let used = used_below(trail, part)?;
     let mut rest = part;
     for _ in 0..u64::MAX {
         let Form::Chan(name, width) = rest.form else {
             return Ok(Turn::Work(rest));
         };
         rest = trail.body(rest)?;
-        if is_used(trail, name, rest)? {
+        if used.as_slice().contains(&name) {
             trail.enter(0)?;
             rounds.push(Around::Hidden(name, width))?;
         } else {
@@ -26,24 +27,16 @@ pub(crate) fn declared(
     Err(Lost::NoStep)
 }
 
-// Whether a process uses a channel that is declared round it.
-fn is_used(trail: &Trail, name: Name, part: Part) -> Result<bool, Lost> {
-    let mut left = Vec::new(trail.alloc());
-    left.push(part)?;
+// The names that stand free in what a row of declarations governs.
+fn used_below(trail: &Trail, part: Part) -> Result<Vec<Name>, Lost> {
+    let mut rest = part;
     for _ in 0..u64::MAX {
-        let Some(part) = left.pop() else {
-            return Ok(false);
-        };
-        match part.form {
-            Form::Input(chan, _) | Form::Output(chan, _) if chan == name => return Ok(true),
-            _ => {}
-        }
-        for place in 0..part.row.count() {
-            let item = trail.item(part.row, place)?;
-            if is_on(item.wait, name) {
-                return Ok(true);
+        match rest.form {
+            Form::Var(_, _) | Form::Chan(_, _) => rest = trail.body(rest)?,
+            _ => {
+                let inner = trail.proc(rest)?;
+                return Ok(free(trail.alloc(), &inner)?);
             }
-            left.push(item.part)?;
         }
     }
     Err(Lost::NoStep)

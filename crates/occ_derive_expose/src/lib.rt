@@ -14,6 +14,5 @@ mod repeated;
 pub use exposing::expose;
 pub use naming::apart;
 pub use occ_derive_trail::{
-    Form, Frame, Item, Law, Lost, NONE, Part, Row, SKIP, STOP, TRUE, Token, Trail, Value, Wait,
-    greatest,
+    Form, Frame, Item, Law, Lost, NONE, Part, Row, SKIP, STOP, TRUE, Token, Trail, Wait, greatest,
 };

@@ -14,7 +14,7 @@ mod written;
 pub use frame::Frame;
 pub use lost::Lost;
 pub use occ_script_write::{
-    Direction, Law, NameSet, Path, RenameFault, at, numbered, rename, replace,
+    Direction, Law, NameSet, Path, RenameFault, at, free, numbered, rename, replace,
 };
 pub use store::{Form, Item, NONE, Part, Row, SKIP, STOP, TRUE, Token, Value, Wait};
 pub use trail::{Dones, Trail};
