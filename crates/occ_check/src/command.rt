@@ -7,10 +7,7 @@ ghost use Rattle.occ_check_other.specs.occ_check_text.Lead.{Tells};
 ghost use Rattle.occ_check.specs.Answers.{Answers, TellsRefusal};
 
 use crate::causes::{line_of, words_of};
-use occ_check_other::{
-    Lead, Look, Piece as P, Put, Refused, Source, count_parts, errors, refusal_text, said_of,
-    warnings, write_all,
-};
+use occ_check_other::{Lead, Refused, Source, Tale, accepted, errors, refusal_text, said_of};
 use occ_tool_run::accept::{Refusal, accept_first};
 use occ_tool_run::refusal::usage_words;
 use occ_tool_run::{Loaded, Memory, Names, Reply};
@@ -69,31 +66,6 @@ pub(crate) fn bytes_of(loaded: &Loaded) -> &[u8] {
     }
 }
 
-/// What is told of an accepted program.
-fn accepted(alloc: Global, file: &[u8], text: &[u8]) -> Result<Vec<u8>, Memory> {
-    let source = Source::read(alloc, text)?;
-    let look = Look {
-        alloc,
-        src: &source,
-    };
-    let all = warnings(look)?;
-    let mut out = Put::new(alloc);
-    write_all(&mut out, file, &source, &all);
-    out.add(file);
-    out.say(" is accepted: ", &[]);
-    let parts = count_parts(look);
-    if parts > 0 {
-        let word = if parts == 1 { " part, " } else { " parts, " };
-        out.say("%%", &[P::N(parts), P::T(word)]);
-    }
-    match all.len() {
-        0 => out.say("no warnings\n", &[]),
-        1 => out.say("1 warning\n", &[]),
-        count => out.say("% warnings\n", &[P::N(count)]),
-    }
-    out.whole()
-}
-
 /// What is told of a program that is refused, or `Memory` where memory ran out.
 fn refused(
     alloc: Global,
@@ -131,12 +103,8 @@ fn told(alloc: Global, file: &[u8], text: &[u8], lead: Lead) -> Result<Vec<u8>, 
     ensures { IfOk result (λ told. Tells file.now lead.entry.line lead.entry.words.now told.items) }
 {
     let source = Source::read(alloc, text)?;
-    let look = Look {
-        alloc,
-        src: &source,
-    };
-    let refused = Refused::on(lead.line, lead.words);
-    let all = errors(look, refused)?;
-    let said = said_of(alloc, file, &source, all.as_slice(), lead.line)?;
+    let mut tale = Tale::new(alloc, &source);
+    let of = errors(&mut tale, Refused::on(lead.line, lead.words))?;
+    let said = said_of(&tale, file, of, lead.line)?;
     refusal_text(alloc, file, lead, &said)
 }

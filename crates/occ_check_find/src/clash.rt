@@ -1,26 +1,27 @@
-//! What is told of a place at which types differ.
+//! What is told of a place at which types differ. Each function that tells of it says so.
 
-use crate::look::{Form, Look, width_word};
-use crate::naming::{decl_span, unknown};
+use crate::expr::end_of;
+use crate::look::{width, width_word};
+use crate::naming::unknown;
 use crate::scope::{Decl, Scopes, Sort, size_of};
 use crate::typing::{By, Clash, Ty, ty_of};
-use occ_check_text::{Piece as P, Told};
+use occ_check_text::{At, Piece as P, Tale};
 
 const FAULT: &str = "TypeClash";
 
 /// What is told of a clash of types.
-pub fn told(look: Look, scopes: &Scopes, row: usize, clash: Clash) -> Told {
+pub fn tell(t: &mut Tale, scopes: &Scopes, row: usize, clash: Clash) -> bool {
     let target = matches!((clash.by, clash.whole), (By::Item(i), false) if i == clash.from);
     match clash.found {
-        _ if matches!(clash.by, By::Channel(i) if i == clash.from) => no_channel(
-            look, scopes, row, clash,
-        ),
-        _ if target => no_target(look, scopes, row, clash),
-        Ty::Chan => channel_value(look, scopes, row, clash),
-        Ty::Free(value) if clash.asked > 0 => number(look, scopes, row, clash, value),
-        Ty::Free(_) => bool_number(look, scopes, row, clash),
-        Ty::Bits(_) => widths(look, scopes, row, clash),
-        Ty::Unknown => unknown(look, row, FAULT, "two types differ on this line"),
+        _ if matches!(clash.by, By::Channel(i) if i == clash.from) => {
+            no_channel(t, scopes, row, clash)
+        }
+        _ if target => no_target(t, scopes, row, clash),
+        Ty::Chan => channel_value(t, scopes, row, clash),
+        Ty::Free(value) if clash.asked > 0 => number(t, scopes, row, clash, value),
+        Ty::Free(_) => bool_number(t, scopes, row, clash),
+        Ty::Bits(_) => widths(t, scopes, row, clash),
+        Ty::Unknown => unknown(t, row, FAULT, "two types differ on this line"),
     }
 }
 
@@ -34,25 +35,29 @@ fn bits_for(value: usize) -> u8 {
     8
 }
 
+/// Marks the declaration of the name at a token, with words for the name and a type.
+fn mark_decl(t: &mut Tale, scopes: &Scopes, row: usize, i: usize, words: &str, ty: P) {
+    if let Some(decl) = scopes.find(t.src, row, i) {
+        t.mark(decl.span(), words, &[P::Tok(row, i), ty]);
+    }
+}
+
 /// A variable in the place of a channel.
-fn no_channel(look: Look, scopes: &Scopes, row: usize, clash: Clash) -> Told {
-    let name = P::B(look.src.text_of(row, clash.from));
+fn no_channel(t: &mut Tale, scopes: &Scopes, row: usize, clash: Clash) -> bool {
+    let name = P::Tok(row, clash.from);
     let words = (
         "% is a variable, and no channel",
         "expected a channel, found a variable",
         "write % := to assign",
     );
-    let mut told = look.whole(look.tok(row, clash.from), FAULT, words, &[name, name]);
-    if let Some(decl) = scopes.find(look.src, row, clash.from) {
-        told.mark(decl_span(look, decl), "% is declared here", &[name]);
-    }
-    told
+    t.whole(At::Tok(row, clash.from), FAULT, words, &[name, name]);
+    mark_decl(t, scopes, row, clash.from, "% is declared here", name);
+    true
 }
 
 /// A channel or a replicator's name that is assigned.
-fn no_target(look: Look, scopes: &Scopes, row: usize, clash: Clash) -> Told {
-    let src = look.src;
-    let name = P::B(src.text_of(row, clash.from));
+fn no_target(t: &mut Tale, scopes: &Scopes, row: usize, clash: Clash) -> bool {
+    let name = P::Tok(row, clash.from);
     let words = if matches!(clash.found, Ty::Chan) {
         (
             "% is a channel, and can't be assigned",
@@ -66,155 +71,147 @@ fn no_target(look: Look, scopes: &Scopes, row: usize, clash: Clash) -> Told {
             "",
         )
     };
-    let value = P::B(src.between(row, clash.to.saturating_add(1), src.count(row)));
-    let place = look.toks(row, clash.from, clash.to);
-    let mut told = look.whole(place, FAULT, words, &[name, name, value, name]);
-    if let Some(decl) = scopes.find(src, row, clash.from) {
-        told.mark(decl_span(look, decl), "% is declared here", &[name]);
-    }
-    told
+    let value = P::Toks(row, clash.to.saturating_add(1), t.src.count(row));
+    let place = At::Toks(row, clash.from, clash.to);
+    t.whole(place, FAULT, words, &[name, name, value, name]);
+    mark_decl(t, scopes, row, clash.from, "% is declared here", name);
+    true
 }
 
 /// A channel in an expression, or in the place of a variable.
-fn channel_value(look: Look, scopes: &Scopes, row: usize, clash: Clash) -> Told {
-    let src = look.src;
-    let name = P::B(src.text_of(row, clash.from));
+fn channel_value(t: &mut Tale, scopes: &Scopes, row: usize, clash: Clash) -> bool {
+    let src = t.src;
+    let name = P::Tok(row, clash.from);
     let (hint, variable) = match clash.by {
-        By::Item(target) if clash.whole && src.is(row, 1, ":=") => (
-            "write % ? % to input from % into %",
-            src.text_of(row, target),
-        ),
-        _ if scopes.find(src, row, clash.from).is_some() => (
-            "input from % into a variable first, and name that here",
-            src.text_of(row, 0),
-        ),
-        _ => ("", src.text_of(row, 0)),
+        By::Item(target) if clash.whole && src.is(row, 1, ":=") => {
+            ("write % ? % to input from % into %", target)
+        }
+        _ if scopes.find(src, row, clash.from).is_some() => {
+            ("input from % into a variable first, and name that here", 0)
+        }
+        _ => ("", 0),
     };
-    let variable = P::B(variable);
+    let variable = P::Tok(row, variable);
     let words = (
         "% is a channel, and no value",
         "expected a variable or a value, found a channel",
         hint,
     );
     let pieces = [name, name, variable, name, variable];
-    look.whole(look.tok(row, clash.from), FAULT, words, &pieces)
+    t.whole(At::Tok(row, clash.from), FAULT, words, &pieces)
 }
 
 /// Marks what asks for a type.
-fn mark_asker(look: Look, scopes: &Scopes, row: usize, by: By, told: &mut Told) {
+fn mark_asker(t: &mut Tale, scopes: &Scopes, row: usize, by: By) {
     let (i, carries) = match by {
         By::Item(i) => (i, false),
         By::Channel(i) => (i, true),
         _ => return,
     };
-    let Some(decl) = scopes.find(look.src, row, i) else {
-        return;
-    };
-    let (words, bits) = match decl.sort {
-        Sort::Chan(bits, _) if carries => ("% carries %", bits),
-        Sort::Var(bits) => ("% is %", bits),
-        _ => return,
-    };
-    let name = P::B(look.src.text_of(row, i));
-    told.mark(
-        decl_span(look, decl),
-        words,
-        &[name, P::T(width_word(bits))],
-    )
+    match scopes.sort(t.src, row, i) {
+        Some(Sort::Chan(bits, _)) if carries => {
+            mark_decl(t, scopes, row, i, "% carries %", width(bits))
+        }
+        Some(Sort::Var(bits)) => mark_decl(t, scopes, row, i, "% is %", width(bits)),
+        _ => {}
+    }
+}
+
+/// The replicator's name at a token, with its base and its count.
+fn counter_at(t: &Tale, scopes: &Scopes, row: usize, i: usize) -> Option<(Decl, usize, usize)> {
+    let decl = scopes.find(t.src, row, i)?;
+    match decl.sort {
+        Sort::Counter(base, count) => Some((decl, base, count)),
+        _ => None,
+    }
 }
 
 /// A numeral, or a replicator's name, that doesn't fit.
-fn number(look: Look, scopes: &Scopes, row: usize, clash: Clash, value: usize) -> Told {
-    let src = look.src;
-    let text = P::B(src.between(row, clash.from, clash.to));
-    let counter = scopes
-        .find(src, row, clash.from)
-        .filter(|decl| matches!(decl.sort, Sort::Counter { .. }));
+fn number(t: &mut Tale, scopes: &Scopes, row: usize, clash: Clash, value: usize) -> bool {
+    let text = P::Toks(row, clash.from, clash.to);
+    let counter = counter_at(t, scopes, row, clash.from);
     let size = size_of(clash.asked);
-    let asked = P::T(width_word(clash.asked));
-    let place = look.toks(row, clash.from, clash.to);
-    let mut told = look.tell(place, FAULT, "% doesn't fit into %", &[text, asked]);
-    mark_asker(look, scopes, row, clash.by, &mut told);
+    let most = P::N(size.saturating_sub(1));
+    let place = At::Toks(row, clash.from, clash.to);
+    t.tell(
+        place,
+        FAULT,
+        "% doesn't fit into %",
+        &[text, width(clash.asked)],
+    );
+    mark_asker(t, scopes, row, clash.by);
     match counter {
-        Some(decl) => counter_notes(look, size, decl, &mut told),
-        None => told.here(
-            "expected 0 to %, found %",
-            &[P::N(size.saturating_sub(1)), text],
-        ),
+        Some((decl, base, count)) => {
+            let name = P::Tok(decl.row, decl.tok);
+            let last = base.saturating_add(count).saturating_sub(1);
+            t.mark(decl.span(), "% is % to %", &[name, P::N(base), P::N(last)]);
+            let first = P::N(base.max(size));
+            t.here(
+                "expected 0 to %, found % where % = %",
+                &[most, first, name, first],
+            );
+        }
+        None => t.here("expected 0 to %, found %", &[most, text]),
     }
     let (i, words) = match clash.by {
         By::Item(i) => (i, "declare % as %"),
         By::Channel(i) => (i, "let % carry %"),
-        _ => return told,
+        _ => return true,
     };
-    let wide = P::T(width_word(bits_for(value)));
-    told.hint(words, &[P::B(src.text_of(row, i)), wide]);
-    if let Some(Sort::Counter { base, .. }) = counter.map(|decl| decl.sort) {
-        told.hint(", or write FOR %", &[P::N(size.saturating_sub(base))]);
+    t.hint(words, &[P::Tok(row, i), width(bits_for(value))]);
+    if let Some((_, base, _)) = counter {
+        t.hint(", or write FOR %", &[P::N(size.saturating_sub(base))]);
     }
-    told
-}
-
-/// What is said of a replicator's name that doesn't fit.
-fn counter_notes(look: Look, size: usize, decl: Decl, told: &mut Told) {
-    let Sort::Counter { base, count } = decl.sort else {
-        return;
-    };
-    let name = P::B(look.src.text_of(decl.row, decl.tok));
-    let last = base.saturating_add(count).saturating_sub(1);
-    told.mark(
-        decl_span(look, decl),
-        "% is % to %",
-        &[name, P::N(base), P::N(last)],
-    );
-    let (most, first) = (P::N(size.saturating_sub(1)), P::N(base.max(size)));
-    told.here(
-        "expected 0 to %, found % where % = %",
-        &[most, first, name, first],
-    )
+    true
 }
 
 /// A numeral where BOOL is asked for.
-fn bool_number(look: Look, scopes: &Scopes, row: usize, clash: Clash) -> Told {
+fn bool_number(t: &mut Tale, scopes: &Scopes, row: usize, clash: Clash) -> bool {
     let said = if matches!(clash.by, By::Condition) {
         "a condition is a BOOL"
     } else {
         "a numeral is to go into a BOOL"
     };
-    let hint = match look.src.between(row, clash.from, clash.to) {
-        b"0" => "write FALSE",
-        b"1" => "write TRUE",
-        _ => "",
+    let text = t.src.between(row, clash.from, clash.to);
+    let hint = if text == b"0".as_slice() {
+        "write FALSE"
+    } else if text == b"1".as_slice() {
+        "write TRUE"
+    } else {
+        ""
     };
-    let place = look.toks(row, clash.from, clash.to);
-    let words = (said, "expected BOOL, found a numeral", hint);
-    let mut told = look.whole(place, FAULT, words, &[]);
-    mark_asker(look, scopes, row, clash.by, &mut told);
-    told
+    let place = At::Toks(row, clash.from, clash.to);
+    t.whole(
+        place,
+        FAULT,
+        (said, "expected BOOL, found a numeral", hint),
+        &[],
+    );
+    mark_asker(t, scopes, row, clash.by);
+    true
 }
 
 /// Two widths that differ.
-fn widths(look: Look, scopes: &Scopes, row: usize, clash: Clash) -> Told {
+fn widths(t: &mut Tale, scopes: &Scopes, row: usize, clash: Clash) -> bool {
     match (clash.by, clash.whole) {
-        (By::Condition, _) => condition(look, scopes, row, clash),
-        (By::Item(i), true) => into_item(look, scopes, row, (clash, i)),
-        (By::Channel(i), true) => through_channel(look, scopes, row, (clash, i)),
-        _ => within(look, scopes, row, clash),
+        (By::Condition, _) => condition(t, scopes, row, clash),
+        (By::Item(i), true) => into_item(t, scopes, row, clash, i),
+        (By::Channel(i), true) => through_channel(t, scopes, row, clash, i),
+        _ => within(t, scopes, row, clash),
     }
 }
 
-fn found_word(clash: Clash) -> &'static str {
-    match clash.found {
+fn found_word(clash: Clash) -> P<'static> {
+    P::T(match clash.found {
         Ty::Bits(bits) => width_word(bits),
         _ => "a number",
-    }
+    })
 }
 
 /// A word where a condition is asked for.
-fn condition(look: Look, scopes: &Scopes, row: usize, clash: Clash) -> Told {
-    let src = look.src;
-    let text = P::B(src.between(row, clash.from, clash.to));
-    let found = P::T(found_word(clash));
+fn condition(t: &mut Tale, scopes: &Scopes, row: usize, clash: Clash) -> bool {
+    let text = P::Toks(row, clash.from, clash.to);
+    let found = found_word(clash);
     let said = if clash.whole {
         "a condition is a BOOL"
     } else {
@@ -225,144 +222,122 @@ fn condition(look: Look, scopes: &Scopes, row: usize, clash: Clash) -> Told {
         "expected BOOL, found %",
         "write % = 1; BOOL and % are different types",
     );
-    let place = look.toks(row, clash.from, clash.to);
-    let mut told = look.whole(place, FAULT, words, &[found, text, found]);
-    if let Some(decl) = scopes.find(src, row, clash.from) {
-        let name = P::B(src.text_of(row, clash.from));
-        told.mark(decl_span(look, decl), "% is %", &[name, found]);
-    }
-    told
+    let place = At::Toks(row, clash.from, clash.to);
+    t.whole(place, FAULT, words, &[found, text, found]);
+    mark_decl(t, scopes, row, clash.from, "% is %", found);
+    true
 }
 
 /// A value that is to go into a variable of another type.
-fn into_item(look: Look, scopes: &Scopes, row: usize, at: (Clash, usize)) -> Told {
-    let (clash, target) = at;
-    let src = look.src;
-    let (found, asked) = (P::T(found_word(clash)), P::T(width_word(clash.asked)));
-    let end = crate::expr::item_end(look, row, target).unwrap_or(target);
-    let name = P::B(src.between(row, target, end));
-    let text = P::B(src.between(row, clash.from, clash.to));
-    let place = look.toks(row, clash.from, clash.to);
-    let mut told = look.tell(place, FAULT, "a % is to go into a %", &[found, asked]);
+fn into_item(t: &mut Tale, scopes: &Scopes, row: usize, clash: Clash, target: usize) -> bool {
+    let src = t.src;
+    let (found, asked) = (found_word(clash), width(clash.asked));
+    let name = P::Toks(row, target, end_of(src, row, target));
+    let text = P::Toks(row, clash.from, clash.to);
+    let place = At::Toks(row, clash.from, clash.to);
+    t.tell(place, FAULT, "a % is to go into a %", &[found, asked]);
     if src.find(row, 0, ",").is_some() {
-        told.here("expected % for %, found %", &[asked, name, found]);
-        exchange(look, scopes, row, clash, &mut told);
-        return told;
+        t.here("expected % for %, found %", &[asked, name, found]);
+        exchange(t, scopes, row, clash);
+        return true;
     }
-    mark_asker(look, scopes, row, clash.by, &mut told);
-    told.here("expected %, found %", &[asked, found]);
+    mark_asker(t, scopes, row, clash.by);
+    t.here("expected %, found %", &[asked, found]);
     let plain = clash.to == clash.from.saturating_add(1);
     if clash.asked > 0 && matches!(clash.found, Ty::Bits(0)) {
-        told.hint(
-            "an IF makes a number of it: % := 1 below %, 0 below TRUE",
-            &[name, text],
-        );
+        let words = "an IF makes a number of it: % := 1 below %, 0 below TRUE";
+        t.hint(words, &[name, text]);
     } else if plain && clash.asked == 0 {
-        told.hint(
+        t.hint(
             "say when % is to be TRUE, as % := % = 1",
             &[name, name, text],
         );
     } else if plain {
-        told.hint("nothing is widened: declare % as %", &[text, asked]);
+        t.hint("nothing is widened: declare % as %", &[text, asked]);
     }
-    told
+    true
 }
 
 /// Two names whose values are of the other's type.
-fn exchange(look: Look, scopes: &Scopes, row: usize, clash: Clash, told: &mut Told) {
-    let src = look.src;
+fn exchange(t: &mut Tale, scopes: &Scopes, row: usize, clash: Clash) {
+    let src = t.src;
     let two = src.count(row) == 7
         && src.is(row, 1, ",")
         && src.is(row, 3, ":=")
         && src.is(row, 5, ",");
     if !two {
-        return told.hint("the values go to the names in order", &[]);
+        return t.hint("the values go to the names in order", &[]);
     }
-    let (one, other) = (P::B(src.text_of(row, 0)), P::B(src.text_of(row, 2)));
-    let (first, second) = (P::B(src.text_of(row, 4)), P::B(src.text_of(row, 6)));
-    let types = (ty_of(look, scopes, row, 6), ty_of(look, scopes, row, 2));
+    let (one, other) = (P::Tok(row, 0), P::Tok(row, 2));
+    let (first, second) = (P::Tok(row, 4), P::Tok(row, 6));
+    let types = (ty_of(src, scopes, row, 6), ty_of(src, scopes, row, 2));
     if let (Ty::Bits(found), Ty::Bits(asked)) = types {
         if clash.from == 4 && found != asked {
-            let (found, asked) = (P::T(width_word(found)), P::T(width_word(asked)));
-            told.also(
-                "and %, a %, is to go into %, a %",
-                &[second, found, other, asked],
-            );
+            let pieces = [second, width(found), other, width(asked)];
+            t.also("and %, a %, is to go into %, a %", &pieces);
         }
     }
-    told.hint(
-        "the values go to the names in order: % to %, % to %",
-        &[first, one, second, other],
-    )
+    let words = "the values go to the names in order: % to %, % to %";
+    t.hint(words, &[first, one, second, other])
 }
 
 /// A value that goes through a channel of another type.
-fn through_channel(look: Look, scopes: &Scopes, row: usize, at: (Clash, usize)) -> Told {
-    let (clash, chan) = at;
-    let src = look.src;
-    let input = matches!(look.form(row), Form::Input) || src.find(row, chan, "?").is_some();
-    let name = P::B(src.between(row, clash.from, clash.to));
-    let (found, asked) = (P::T(found_word(clash)), P::T(width_word(clash.asked)));
-    let place = look.toks(row, clash.from, clash.to);
-    let mut told = if input {
-        look.tell(
+fn through_channel(t: &mut Tale, scopes: &Scopes, row: usize, clash: Clash, chan: usize) -> bool {
+    let src = t.src;
+    let name = P::Toks(row, clash.from, clash.to);
+    let (found, asked) = (found_word(clash), width(clash.asked));
+    let place = At::Toks(row, clash.from, clash.to);
+    if src.find(row, chan, "?").is_some() {
+        t.tell(
             place,
             FAULT,
             "a % is to go into %, a %",
             &[asked, name, found],
-        )
+        );
     } else {
-        look.tell(
+        t.tell(
             place,
             FAULT,
             "a % is to go through a channel of %",
             &[found, asked],
-        )
-    };
-    mark_asker(look, scopes, row, clash.by, &mut told);
-    told.here("expected %, found %", &[asked, found]);
-    if clash.to == clash.from.saturating_add(1) {
-        if let Some(decl) = scopes.find(src, row, clash.from) {
-            told.mark(decl_span(look, decl), "% is %", &[name, found]);
-            if clash.asked > 0 {
-                told.hint("declare % as %", &[name, asked]);
-            }
+        );
+    }
+    mark_asker(t, scopes, row, clash.by);
+    t.here("expected %, found %", &[asked, found]);
+    let plain = clash.to == clash.from.saturating_add(1);
+    if plain && scopes.find(src, row, clash.from).is_some() {
+        mark_decl(t, scopes, row, clash.from, "% is %", found);
+        if clash.asked > 0 {
+            t.hint("declare % as %", &[name, asked]);
         }
     }
-    told
+    true
 }
 
 /// An operand of another type than its place asks for.
-fn within(look: Look, scopes: &Scopes, row: usize, clash: Clash) -> Told {
-    let src = look.src;
-    let (found, asked) = (P::T(found_word(clash)), P::T(width_word(clash.asked)));
-    let name = P::B(src.text_of(row, clash.from));
-    let decl = scopes.find(src, row, clash.from);
-    let widens = decl.is_some() && clash.asked > 0 && !matches!(clash.found, Ty::Bits(0));
+fn within(t: &mut Tale, scopes: &Scopes, row: usize, clash: Clash) -> bool {
+    let (found, asked) = (found_word(clash), width(clash.asked));
+    let declared = scopes.find(t.src, row, clash.from).is_some();
+    let widens = declared && clash.asked > 0 && !matches!(clash.found, Ty::Bits(0));
+    let hint = if widens {
+        "nothing is widened: declare % as %"
+    } else {
+        ""
+    };
     let words = (
         "a % stands where a % is asked for",
         "expected %, found %",
-        if widens {
-            "nothing is widened: declare % as %"
-        } else {
-            ""
-        },
+        hint,
     );
-    let place = look.toks(row, clash.from, clash.to);
-    let pieces = [found, asked, asked, found, name, asked];
-    let mut told = look.whole(place, FAULT, words, &pieces);
-    if let Some(decl) = decl {
-        told.mark(decl_span(look, decl), "% is %", &[name, found]);
-    }
+    let place = At::Toks(row, clash.from, clash.to);
+    let pieces = [found, asked, asked, found, P::Tok(row, clash.from), asked];
+    t.whole(place, FAULT, words, &pieces);
+    mark_decl(t, scopes, row, clash.from, "% is %", found);
     let (i, words) = match clash.by {
         By::Item(i) => (i, "% is %, and asks for %"),
         By::Channel(i) => (i, "% carries %"),
-        _ => return told,
+        _ => return true,
     };
-    told.mark(
-        look.tok(row, i),
-        words,
-        &[P::B(src.text_of(row, i)), asked, asked],
-    );
-    told
+    t.mark(At::Tok(row, i), words, &[P::Tok(row, i), asked, asked]);
+    true
 }

@@ -1,7 +1,8 @@
 //! Expressions read token by token, up to the first one that can't stand there.
 
-use crate::look::{Look, width_of};
-use occ_check_text::TokKind;
+use crate::look::width_of;
+use occ_check_text::{Source, TokKind, is_among};
+use std::alloc::Global;
 
 /// What stands at a node of an expression.
 #[derive(Clone, Copy)]
@@ -48,12 +49,11 @@ pub enum Why {
     Index,
 }
 
-/// The first token that can't stand where it does.
+/// The first token that can't stand where it does, and where what is taken as the first operand begins, or the bracket.
 #[derive(Clone, Copy)]
 pub struct Bad {
     pub why: Why,
     pub at: usize,
-    /// Where what is taken as the first operand begins, or the bracket.
     pub from: usize,
 }
 
@@ -67,56 +67,42 @@ struct Frame {
     prefix: Option<usize>,
 }
 
-/// An expression that was read: its nodes, the last of which is the whole, the fault that stopped the reading, and whether memory ran
-/// out for a node.
-#[derive(Drop)]
-pub struct Expr {
-    pub nodes: Vec<Node>,
-    pub bad: Option<Bad>,
-    pub lost: bool,
-}
-
 /// What an operator gives.
 pub fn what_of(word: &[u8]) -> Option<What> {
-    match word {
-        b"PLUS" | b"MINUS" | b"/\\" | b"\\/" | b"><" => Some(What::Word),
-        b"=" | b"<>" | b"<" | b">" | b"<=" | b">=" => Some(What::Compare),
-        b"AND" | b"OR" => Some(What::Logic),
-        _ => None,
+    if is_among(word, "PLUS MINUS /\\ \\/ ><") {
+        Some(What::Word)
+    } else if is_among(word, "= <> < > <= >=") {
+        Some(What::Compare)
+    } else if is_among(word, "AND OR") {
+        Some(What::Logic)
+    } else {
+        None
     }
 }
 
-fn new_frame(open: usize, start: usize) -> Frame {
-    Frame {
-        open,
-        start,
-        left: None,
-        op: None,
-        prefix: None,
-    }
+/// Whether a token is an operator.
+pub fn is_operator(src: &Source, row: usize, i: usize) -> bool {
+    what_of(src.text_of(row, i)).is_some()
 }
 
 /// The token behind an item that begins at a name, or the token of its index that can't stand there.
-pub fn item_end(look: Look, row: usize, i: usize) -> Result<usize, usize> {
-    let src = look.src;
+pub fn item_end(src: &Source, row: usize, i: usize) -> Result<usize, usize> {
     let next = i.saturating_add(1);
     if !src.is(row, next, "[") {
         return Ok(next);
     }
     let index = i.saturating_add(2);
     let mut end = i.saturating_add(3);
-    match src.tok(row, index).kind {
-        TokKind::Numeral => {}
-        TokKind::Name => {
-            if src.is(row, end, "PLUS") || src.is(row, end, "MINUS") {
-                let value = i.saturating_add(4);
-                if !matches!(src.tok(row, value).kind, TokKind::Numeral) {
-                    return Err(value);
-                }
-                end = i.saturating_add(5);
+    if src.is_name(row, index) {
+        if src.is_one(row, end, "PLUS MINUS") {
+            let value = i.saturating_add(4);
+            if !src.is_numeral(row, value) {
+                return Err(value);
             }
+            end = i.saturating_add(5);
         }
-        _ => return Err(index),
+    } else if !src.is_numeral(row, index) {
+        return Err(index);
     }
     if src.is(row, end, "]") {
         Ok(end.saturating_add(1))
@@ -125,26 +111,47 @@ pub fn item_end(look: Look, row: usize, i: usize) -> Result<usize, usize> {
     }
 }
 
-fn stopped(why: Why, at: usize, from: usize) -> Result<usize, Bad> {
-    Err(Bad { why, at, from })
+/// The token behind an item that begins at a name, as far as it can be read.
+pub fn end_of(src: &Source, row: usize, i: usize) -> usize {
+    match item_end(src, row, i) {
+        Ok(end) => end,
+        Err(_) => i.saturating_add(1),
+    }
 }
 
-/// A reader of one expression.
+/// A reader of one expression: its nodes, the last of which is the whole, what is open, whether an operand is wanted, the fault that
+/// stopped the reading, and whether memory ran out.
 #[derive(Drop)]
-struct Reader<'a> {
-    look: Look<'a>,
+pub struct Expr<'a> {
+    src: &'a Source<'a>,
     row: usize,
-    nodes: Vec<Node>,
+    pub nodes: Vec<Node>,
     stack: Vec<Frame>,
     wants: bool,
-    lost: bool,
+    pub bad: Option<Bad>,
+    pub lost: bool,
 }
 
-impl Reader<'_> {
+impl<'a> Expr<'a> {
     /// Adds a node, and gives its place.
-    fn node(&mut self, node: Node) -> usize {
+    fn node(
+        &mut self,
+        what: What,
+        tokens: (usize, usize),
+        op: usize,
+        left: usize,
+        right: usize,
+    ) -> usize {
         let place = self.nodes.len();
-        let pushed = self.nodes.push(node);
+        let (from, to) = tokens;
+        let pushed = self.nodes.push(Node {
+            what,
+            from,
+            to,
+            op,
+            left,
+            right,
+        });
         self.lost = self.lost || pushed.is_err();
         place
     }
@@ -152,6 +159,21 @@ impl Reader<'_> {
     fn open(&mut self, frame: Frame) {
         let pushed = self.stack.push(frame);
         self.lost = self.lost || pushed.is_err();
+    }
+
+    fn open_at(&mut self, open: usize, start: usize) {
+        self.open(Frame {
+            open,
+            start,
+            left: None,
+            op: None,
+            prefix: None,
+        });
+    }
+
+    fn stop(&mut self, why: Why, at: usize, from: usize) -> usize {
+        self.bad = Some(Bad { why, at, from });
+        at
     }
 
     /// An operand is complete: it joins what stands before it.
@@ -163,123 +185,102 @@ impl Reader<'_> {
         let mut top = top;
         let mut right = place;
         if let Some(op) = top.prefix {
-            let flips = self.look.src.is(self.row, op, "~");
+            let flips = self.src.is(self.row, op, "~");
             let what = if flips { What::Flip } else { What::Not };
-            right = self.node(Node {
-                what,
-                from: op,
-                to,
-                op,
-                left: place,
-                right: place,
-            });
+            right = self.node(what, (op, to), op, place, place);
         }
         if let (Some(left), Some(op)) = (top.left, top.op) {
-            let from = self.nodes.get(left).map_or(0, |node| node.from);
-            let what = what_of(self.look.src.text_of(self.row, op)).unwrap_or(What::Word);
-            right = self.node(Node {
-                what,
-                from,
-                to,
-                op,
-                left,
-                right,
-            });
+            let from = match self.nodes.get(left) {
+                Some(node) => node.from,
+                None => 0,
+            };
+            let what = what_of(self.src.text_of(self.row, op)).unwrap_or(What::Word);
+            right = self.node(what, (from, to), op, left, right);
         }
         top.left = Some(right);
         self.open(top);
     }
 
     /// Reads what stands where an operand should, up to the token behind it.
-    fn read_operand(&mut self, i: usize) -> Result<usize, Bad> {
-        let src = self.look.src;
+    fn read_operand(&mut self, i: usize) -> usize {
+        let (src, row) = (self.src, self.row);
         let mut to = i.saturating_add(1);
-        let what = match src.tok(self.row, i).kind {
+        let what = match src.tok(row, i).kind {
             TokKind::Numeral => {
-                let typed = src.is(self.row, to, "(")
-                    && width_of(src.text_of(self.row, i.saturating_add(2))).is_some();
+                let typed = src.is(row, to, "(")
+                    && width_of(src.text_of(row, i.saturating_add(2))).is_some();
                 if typed {
                     to = i.saturating_add(4);
                 }
                 if typed { What::Typed } else { What::Numeral }
             }
             TokKind::Name => {
-                match item_end(self.look, self.row, i) {
+                match item_end(src, row, i) {
                     Ok(end) => to = end,
-                    Err(at) => return stopped(Why::Index, at, i),
+                    Err(at) => return self.stop(Why::Index, at, i),
                 }
                 What::Item
             }
-            TokKind::Word if matches!(src.text_of(self.row, i), b"TRUE" | b"FALSE") => What::Truth,
+            _ if src.is_one(row, i, "TRUE FALSE") => What::Truth,
             _ => return self.read_opening(i),
         };
-        let place = self.node(Node {
-            what,
-            from: i,
-            to,
-            op: i,
-            left: 0,
-            right: 0,
-        });
+        let place = self.node(what, (i, to), i, 0, 0);
         self.operand(place, to);
-        Ok(to)
+        to
     }
 
     /// Reads an opening bracket, NOT or ~.
-    fn read_opening(&mut self, i: usize) -> Result<usize, Bad> {
-        let src = self.look.src;
+    fn read_opening(&mut self, i: usize) -> usize {
         let next = i.saturating_add(1);
-        if src.is(self.row, i, "(") {
-            self.open(new_frame(i, next));
-            return Ok(next);
+        if self.src.is(self.row, i, "(") {
+            self.open_at(i, next);
+            return next;
         }
-        if src.is(self.row, i, "NOT") || src.is(self.row, i, "~") {
+        if self.src.is_one(self.row, i, "NOT ~") {
             if let Some(top) = self.stack.last_mut() {
                 if top.left.is_none() && top.prefix.is_none() {
                     top.prefix = Some(i);
-                    return Ok(next);
+                    return next;
                 }
                 let from = top.start;
-                return stopped(Why::Second, i, from);
+                return self.stop(Why::Second, i, from);
             }
         }
-        stopped(Why::Operand, i, i)
+        self.stop(Why::Operand, i, i)
     }
 
     /// Reads an operator.
-    fn read_operator(&mut self, i: usize) -> Result<usize, Bad> {
-        let (src, row) = (self.look.src, self.row);
+    fn read_operator(&mut self, i: usize) -> usize {
         let Some(top) = self.stack.last_mut() else {
-            return stopped(Why::Bracket, i, i);
+            return self.stop(Why::Bracket, i, i);
         };
         let from = top.start;
         if top.prefix.is_some() {
-            return stopped(Why::Second, i, from);
+            return self.stop(Why::Second, i, from);
         }
         if let Some(op) = top.op {
-            let (before, now) = (src.text_of(row, op), src.text_of(row, i));
-            let logic = matches!(what_of(before), Some(What::Logic))
-                && matches!(what_of(now), Some(What::Logic));
+            let logic = self.src.is_one(self.row, op, "AND OR")
+                && self.src.is_one(self.row, i, "AND OR");
             if !logic {
-                return stopped(Why::Second, i, from);
+                return self.stop(Why::Second, i, from);
             }
-            if before != now {
-                return stopped(Why::Mixed, i, from);
+            if self.src.text_of(self.row, op) != self.src.text_of(self.row, i) {
+                return self.stop(Why::Mixed, i, from);
             }
         }
         top.op = Some(i);
         self.wants = true;
-        Ok(i.saturating_add(1))
+        i.saturating_add(1)
     }
 
     /// Reads a closing bracket.
-    fn read_close(&mut self, i: usize) -> Result<usize, Bad> {
+    fn read_close(&mut self, i: usize) -> usize {
         if self.stack.len() < 2 {
-            return stopped(Why::Bracket, i, i);
+            return self.stop(Why::Bracket, i, i);
         }
         let next = i.saturating_add(1);
         let Some(top) = self.stack.pop() else {
-            return stopped(Why::Bracket, i, i);
+            return next;
         };
         if let Some(place) = top.left {
             // the brackets belong to what they enclose
@@ -289,62 +290,68 @@ impl Reader<'_> {
             }
             self.operand(place, next);
         }
-        Ok(next)
+        next
     }
 
-    fn step(&mut self, i: usize) -> Result<usize, Bad> {
+    /// Reads what stands at a token, up to the one behind it.
+    fn step(&mut self, i: usize) -> usize {
         if self.wants {
-            return self.read_operand(i);
+            self.read_operand(i)
+        } else if self.src.is(self.row, i, ")") {
+            self.read_close(i)
+        } else if is_operator(self.src, self.row, i) {
+            self.read_operator(i)
+        } else {
+            let from = match self.stack.last() {
+                Some(top) => top.start,
+                None => i,
+            };
+            self.stop(Why::Operator, i, from)
         }
-        let src = self.look.src;
-        if src.is(self.row, i, ")") {
-            return self.read_close(i);
+    }
+
+    /// The end is reached: an operand is wanted, or a bracket is open.
+    fn finish(&mut self, from: usize, to: usize) {
+        let open = match self.stack.last() {
+            Some(top) => top.open,
+            None => from,
+        };
+        if self.wants {
+            self.stop(Why::Operand, to, open);
+        } else if self.stack.len() > 1 {
+            self.stop(Why::Bracket, to, open);
         }
-        if what_of(src.text_of(self.row, i)).is_some() {
-            return self.read_operator(i);
-        }
-        let from = self.stack.last().map_or(i, |top| top.start);
-        stopped(Why::Operator, i, from)
     }
 }
 
 /// Reads an expression between two tokens of a row.
-pub fn read(look: Look, row: usize, from: usize, to: usize) -> Expr {
-    let mut reader = Reader {
-        look,
+pub fn read<'a>(
+    alloc: Global,
+    src: &'a Source<'a>,
+    row: usize,
+    from: usize,
+    to: usize,
+) -> Expr<'a> {
+    let mut expr = Expr {
+        src,
         row,
-        nodes: Vec::new(look.alloc),
-        stack: Vec::new(look.alloc),
+        nodes: Vec::new(alloc),
+        stack: Vec::new(alloc),
         wants: true,
+        bad: None,
         lost: false,
     };
-    reader.open(new_frame(from, from));
+    expr.open_at(from, from);
     let mut next = from;
-    let mut bad = None;
     for i in from..to {
         if i < next {
             continue;
         }
-        match reader.step(i) {
-            Ok(end) => next = end,
-            Err(found) => {
-                bad = Some(found);
-                break;
-            }
+        next = expr.step(i);
+        if expr.bad.is_some() {
+            return expr;
         }
     }
-    if bad.is_none() && (reader.wants || reader.stack.len() > 1) {
-        let why = if reader.wants {
-            Why::Operand
-        } else {
-            Why::Bracket
-        };
-        bad = Some(Bad {
-            why,
-            at: to,
-            from: reader.stack.last().map_or(from, |top| top.open),
-        });
-    }
-    let Reader { nodes, lost, .. } = reader;
-    Expr { nodes, bad, lost }
+    expr.finish(from, to);
+    expr
 }

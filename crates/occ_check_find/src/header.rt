@@ -1,94 +1,98 @@
 //! What is told of a header that has none of the forms, or lacks what it needs.
 
 use crate::layout::PROGRAM;
-use crate::look::{Form, Look, behind, foreign, reserved, width_of};
-use occ_check_text::{Piece as P, Span, TokKind, Told};
+use crate::look::{Form, foreign, form_of, line, reserved, width_of};
+use crate::syntax::{at, form_at};
+use occ_check_text::{At, Piece as P, Source, Tale, TokKind, Words};
 
 const TYPES: &str = "BOOL or WORD1 to WORD8";
 
-/// An error of form at a token: its sentence, what is expected there, and its hint, with the pieces of sentence and hint.
-pub fn at_tok(look: Look, at: (usize, usize), words: (&str, &str, &str), pieces: &[P]) -> Told {
-    let (sentence, expected, hint) = words;
-    let (front, text) = look.found(at.0, at.1);
-    let mut told = look.tell(look.tok(at.0, at.1), "Form", sentence, pieces);
-    told.here(
-        "expected %, found %%",
-        &[P::T(expected), P::T(front), P::B(text)],
-    );
-    told.hint(hint, behind(sentence, pieces));
-    told
+/// Whether a token is the end of its row.
+fn is_end(src: &Source, row: usize, i: usize) -> bool {
+    matches!(src.tok(row, i).kind, TokKind::End)
 }
 
-/// A word of another language in the place of a type; what stands there else.
-pub fn at_type(look: Look, row: usize, i: usize, expected: &str) -> Told {
-    let text = look.src.text_of(row, i);
+/// A word of another language in the place of a type; what stands there else. It was told.
+pub fn at_type(t: &mut Tale, row: usize, i: usize, expected: &'static str) -> bool {
+    let text = t.src.text_of(row, i);
     if let Some((is_type, hint)) = foreign(text) {
         let wants = if is_type { TYPES } else { expected };
-        return at_tok(
-            look,
-            (row, i),
+        return at(
+            t,
+            row,
+            i,
             ("% isn't in this language", wants, hint),
-            &[P::B(text)],
+            &[P::Tok(row, i)],
         );
     }
     match reserved(text) {
-        Some(word) if word == "CHAN" || width_of(word.as_bytes()).is_some() => {
-            let words = ("reserved words are capitals", expected, "write %");
-            at_tok(look, (row, i), words, &[P::T(word)])
+        Some(word)
+            if word.as_bytes() == b"CHAN".as_slice() || width_of(word.as_bytes()).is_some() => {
+            at(
+                t,
+                row,
+                i,
+                ("reserved words are capitals", expected, "write %"),
+                &[P::T(word)],
+            )
         }
-        _ => at_tok(look, (row, i), ("a type is missing", expected, ""), &[]),
+        _ => at(t, row, i, ("a type is missing", expected, ""), &[]),
     }
 }
 
-/// What is told of the first row where it is no header, or its program is badly laid out.
-pub fn header_fault(look: Look, row: usize) -> Told {
-    let src = look.src;
+/// What is told of the first row where it is no header, or its program is badly laid out. It was told.
+pub fn header_fault(t: &mut Tale, row: usize) -> bool {
+    let src = t.src;
     if !src.is(row, 0, "PROC") {
-        return no_proc(look, row);
+        return no_proc(t, row);
     }
     if src.row(row).indent > 0 {
-        let words = (
-            "the header stands at level %",
-            "expected level 0, found level %",
-            "take out the spaces in front of it",
-        );
-        let level = P::N(src.level(row));
-        return look.whole(look.margin(row), "Form", words, &[level, level]);
+        return margin_fault(t, row, At::Margin(row), "the header stands at level %");
     }
-    if let Some(told) = words_fault(look, row) {
-        return told;
+    if words_fault(t, row) {
+        return true;
     }
-    if has_body(look, row) {
-        not_closed(look, row)
+    if has_body(src, row) {
+        not_closed(t, row)
     } else {
-        no_body(look, row)
+        no_body(t, row)
     }
 }
 
-fn no_proc(look: Look, row: usize) -> Told {
-    let text = look.src.text_of(row, 0);
-    if matches!(text, b"proc" | b"Proc") {
-        let words = ("reserved words are capitals", "PROC", "write PROC");
-        return at_tok(look, (row, 0), words, &[]);
+/// A row that should stand at level 0. It was told.
+fn margin_fault(t: &mut Tale, row: usize, place: At, said: &'static str) -> bool {
+    let words = (
+        said,
+        "expected level 0, found level %",
+        "take out the spaces in front of it",
+    );
+    let level = P::N(t.src.level(row));
+    form_at(t, place, words, &[level, level])
+}
+
+fn no_proc(t: &mut Tale, row: usize) -> bool {
+    if t.src.is_one(row, 0, "proc Proc") {
+        return at(
+            t,
+            row,
+            0,
+            ("reserved words are capitals", "PROC", "write PROC"),
+            &[],
+        );
     }
-    let said = if foreign(text).is_some() {
+    let said = if foreign(t.src.text_of(row, 0)).is_some() {
         "% isn't in this language"
     } else {
         "the text doesn't begin with PROC"
     };
-    at_tok(look, (row, 0), (said, "PROC", PROGRAM), &[P::B(text)])
+    at(t, row, 0, (said, "PROC", PROGRAM), &[P::Tok(row, 0)])
 }
 
-/// What is wrong with the words of a header.
-fn words_fault(look: Look, row: usize) -> Option<Told> {
-    let src = look.src;
-    if !matches!(src.tok(row, 1).kind, TokKind::Name) {
-        return Some(at_tok(
-            look,
-            (row, 1),
-            ("the program has no name", "a name", ""),
-            &[],
-        ));
+/// What is wrong with the words of a header. Whether it was told.
+fn words_fault(t: &mut Tale, row: usize) -> bool {
+    let src = t.src;
+    if !src.is_name(row, 1) {
+        return at(t, row, 1, ("the program has no name", "a name", ""), &[]);
     }
     if !src.is(row, 2, "(") {
         let words = (
@@ -96,143 +100,142 @@ fn words_fault(look: Look, row: usize) -> Option<Told> {
             "( behind the name",
             "write () where there are none",
         );
-        return Some(at_tok(look, (row, 2), words, &[]));
+        return at(t, row, 2, words, &[]);
     }
     let end = src.count(row);
     let close = src.find(row, 0, ")").unwrap_or(end);
-    if close > 3 || close == end {
-        if let Some(told) = params_fault(look, row, close) {
-            return Some(told);
-        }
+    if (close > 3 || close == end) && params_fault(t, row, close) {
+        return true;
     }
     let next = close.saturating_add(1);
-    if next < end {
-        let words = ("text behind the header", "the end of the line", "");
-        return Some(at_tok(look, (row, next), words, &[]));
+    if next >= end {
+        return false;
     }
-    None
+    at(
+        t,
+        row,
+        next,
+        ("text behind the header", "the end of the line", ""),
+        &[],
+    )
 }
 
-fn params_fault(look: Look, row: usize, close: usize) -> Option<Told> {
-    let mut has_front = false;
-    let mut is_channel = false;
+/// What is wrong with the parameters in front of a closing bracket. Whether it was told.
+fn params_fault(t: &mut Tale, row: usize, close: usize) -> bool {
+    let src = t.src;
+    let mut front: Option<bool> = None;
     let mut start = 3;
     for i in 3..close.saturating_add(1) {
-        if i < close && !look.src.is(row, i, ",") {
+        if i < close && !src.is(row, i, ",") {
             continue;
         }
-        let name = match front_end(look, row, start, has_front) {
-            Ok((end, channel)) => {
-                has_front = true;
-                is_channel = channel.unwrap_or(is_channel);
-                end
-            }
-            Err(told) => return Some(told),
-        };
-        if let Some(told) = declared_fault(look, row, name, is_channel) {
-            return Some(told);
+        let mut name = start;
+        let bare = front.is_some()
+            && src.is_name(row, start)
+            && foreign(src.text_of(row, start)).is_none();
+        if !bare {
+            let Some((end, is_channel)) = front_end(t, row, start, front.is_some()) else {
+                return true;
+            };
+            name = end;
+            front = Some(is_channel);
+        }
+        if declared_fault(t, row, name, front.unwrap_or(false)) {
+            return true;
         }
         start = i.saturating_add(1);
     }
+    false
+}
+
+/// The token behind the front of a parameter, and whether it is one of channels; none where a fault of it was told.
+fn front_end(t: &mut Tale, row: usize, start: usize, has_front: bool) -> Option<(usize, bool)> {
+    let src = t.src;
+    let array = src.is(row, start, "[");
+    let i = start.saturating_add(if array { 3 } else { 0 });
+    let next = i.saturating_add(1);
+    if src.is(row, i, "CHAN") {
+        let width = i.saturating_add(2);
+        if !src.is(row, next, "OF") {
+            no_of(t, row, i);
+            return None;
+        }
+        if width_of(src.text_of(row, width)).is_none() {
+            at_type(t, row, width, TYPES);
+            return None;
+        }
+        return Some((i.saturating_add(3), true));
+    }
+    if width_of(src.text_of(row, i)).is_some() {
+        return Some((next, false));
+    }
+    no_front(t, row, i, !has_front);
     None
 }
 
-/// What a front is read as: the token behind it, and whether it is one of channels, where there is one.
-type FrontEnd = Result<(usize, Option<bool>), Told>;
-
-/// The token behind the front of a parameter, and whether it is one of channels where there is one.
-fn front_end(look: Look, row: usize, start: usize, has_front: bool) -> FrontEnd {
-    let src = look.src;
-    let i = if src.is(row, start, "[") {
-        start.saturating_add(3)
-    } else {
-        start
-    };
-    if src.is(row, i, "CHAN") {
-        let width = i.saturating_add(2);
-        if !src.is(row, i.saturating_add(1), "OF") {
-            return Err(no_of(look, row, i));
-        }
-        if width_of(src.text_of(row, width)).is_none() {
-            return Err(at_type(look, row, width, TYPES));
-        }
-        return Ok((i.saturating_add(3), Some(true)));
-    }
-    let text = src.text_of(row, i);
-    if width_of(text).is_some() {
-        return Ok((i.saturating_add(1), Some(false)));
-    }
-    let plain = matches!(src.tok(row, i).kind, TokKind::Name) && foreign(text).is_none();
-    if has_front && plain && i == start {
-        return Ok((start, None));
-    }
-    Err(no_front(look, row, i, plain && !has_front))
-}
-
-/// A parameter without a front, where one is needed.
-fn no_front(look: Look, row: usize, i: usize, bare: bool) -> Told {
-    let src = look.src;
-    if matches!(src.tok(row, i).kind, TokKind::End) {
+/// A parameter without a front, where one is needed. It was told.
+fn no_front(t: &mut Tale, row: usize, i: usize, is_first: bool) -> bool {
+    let src = t.src;
+    if is_end(src, row, i) {
         let hint = "a line can't go on in the next: write all parameters in one line";
-        return open_line(look, row, i, ("a parameter", hint));
+        return open_line(t, row, i, "a parameter", hint);
     }
-    let next = src.text_of(row, i.saturating_add(1));
-    if bare && matches!(next, b"," | b")" | b"?" | b"!") {
+    let bare = is_first && src.is_name(row, i) && foreign(src.text_of(row, i)).is_none();
+    if bare && src.is_one(row, i.saturating_add(1), ", ) ? !") {
         let words = (
             "the first parameter has no type",
             "BOOL, WORD1 to WORD8, CHAN or [",
             "write WORD4 % for values from 0 to 15",
         );
-        return at_tok(look, (row, i), words, &[P::B(src.text_of(row, i))]);
+        return at(t, row, i, words, &[P::Tok(row, i)]);
     }
-    at_type(look, row, i, "BOOL, WORD1 to WORD8, CHAN, [ or a name")
+    at_type(t, row, i, "BOOL, WORD1 to WORD8, CHAN, [ or a name")
 }
 
-/// OF is missing behind CHAN.
-pub fn no_of(look: Look, row: usize, chan: usize) -> Told {
+/// OF is missing behind CHAN. It was told.
+pub fn no_of(t: &mut Tale, row: usize, chan: usize) -> bool {
     let of = chan.saturating_add(1);
     let mut end = of;
-    for k in of..look.src.count(row) {
-        if matches!(look.src.text_of(row, k), b"," | b")" | b":") {
+    for k in of..t.src.count(row) {
+        if t.src.is_one(row, k, ", ) :") {
             break;
         }
         end = k.saturating_add(1);
     }
     let words = ("OF is missing", "OF", "write CHAN OF %");
-    at_tok(
-        look,
-        (row, of),
-        words,
-        &[P::B(look.src.between(row, of, end))],
-    )
+    at(t, row, of, words, &[P::Toks(row, of, end)])
 }
 
-/// The line ends inside the brackets of its parameters.
-fn open_line(look: Look, row: usize, i: usize, words: (&str, &str)) -> Told {
-    let words = ("the line ends inside the brackets", words.0, words.1);
-    let mut told = at_tok(look, (row, i), words, &[]);
-    told.mark(look.tok(row, 2), "opened here", &[]);
-    told
+/// The line ends inside the brackets of its parameters. It was told.
+fn open_line(
+    t: &mut Tale,
+    row: usize,
+    i: usize,
+    expected: &'static str,
+    hint: &'static str,
+) -> bool {
+    at(
+        t,
+        row,
+        i,
+        ("the line ends inside the brackets", expected, hint),
+        &[],
+    );
+    t.mark(At::Tok(row, 2), "opened here", &[]);
+    true
 }
 
-/// What is wrong with a parameter's name and what stands behind it.
-fn declared_fault(look: Look, row: usize, name: usize, is_channel: bool) -> Option<Told> {
-    let src = look.src;
-    if !matches!(src.tok(row, name).kind, TokKind::Name) {
-        return Some(at_tok(
-            look,
-            (row, name),
-            ("a parameter has no name", "a name", ""),
-            &[],
-        ));
+/// What is wrong with a parameter's name and what stands behind it. Whether it was told.
+fn declared_fault(t: &mut Tale, row: usize, name: usize, is_channel: bool) -> bool {
+    let src = t.src;
+    if !src.is_name(row, name) {
+        return at(t, row, name, ("a parameter has no name", "a name", ""), &[]);
     }
-    let mut next = name.saturating_add(1);
-    if src.is(row, next, "[") {
-        next = name.saturating_add(4);
-    }
-    let marked = matches!(src.text_of(row, next), b"?" | b"!");
+    let element = src.is(row, name.saturating_add(1), "[");
+    let next = name.saturating_add(if element { 4 } else { 1 });
+    let marked = src.is_one(row, next, "? !");
     if is_channel && !marked {
-        return Some(no_mark(look, row, name, next));
+        return no_mark(t, row, name, next);
     }
     if !is_channel && marked {
         let words = (
@@ -240,156 +243,147 @@ fn declared_fault(look: Look, row: usize, name: usize, is_channel: bool) -> Opti
             ", or )",
             "take the mark away, or write CHAN OF in front of the type",
         );
-        return Some(at_tok(look, (row, next), words, &[]));
+        return at(t, row, next, words, &[]);
     }
-    let end = if marked { next.saturating_add(1) } else { next };
-    if matches!(src.text_of(row, end), b"," | b")") {
-        return None;
+    let end = next.saturating_add(usize::from(marked));
+    if src.is_one(row, end, ", )") {
+        return false;
     }
-    if matches!(src.tok(row, end).kind, TokKind::End) {
-        return Some(open_line(
-            look,
-            row,
-            end,
-            (", or )", "write ) behind the last parameter"),
-        ));
+    if is_end(src, row, end) {
+        return open_line(t, row, end, ", or )", "write ) behind the last parameter");
     }
-    let words = ("a comma is missing between parameters", ", or )", "");
-    Some(at_tok(look, (row, end), words, &[]))
+    at(
+        t,
+        row,
+        end,
+        ("a comma is missing between parameters", ", or )", ""),
+        &[],
+    )
 }
 
-/// A channel parameter without its mark.
-fn no_mark(look: Look, row: usize, name: usize, next: usize) -> Told {
-    let word = look.src.text_of(row, name);
-    let (front, text) = look.found(row, next);
-    let (first, last) = (look.tok(row, name), look.tok(row, next));
+/// A channel parameter without its mark. It was told.
+fn no_mark(t: &mut Tale, row: usize, name: usize, next: usize) -> bool {
+    let src = t.src;
+    let (first, last) = (src.tok(row, name), src.tok(row, next));
     let len = last.at.saturating_add(last.len).saturating_sub(first.at);
+    let word = P::Tok(row, name);
+    let front = if is_end(src, row, next) {
+        "the end of the line"
+    } else if src.is_name(row, next) && foreign(src.text_of(row, next)).is_none() {
+        "the name "
+    } else {
+        ""
+    };
     let words = (
         "this channel parameter has no mark",
         "expected ? or ! behind %, found %%",
         "",
     );
-    let pieces = [P::B(word), P::T(front), P::B(text)];
-    let mut told = look.whole(
-        Span {
-            row,
-            at: first.at,
-            len,
-        },
-        "Form",
+    form_at(
+        t,
+        At::Bytes(row, first.at, len),
         words,
-        &pieces,
+        &[word, P::T(front), P::Tok(row, next)],
     );
-    for r in row.saturating_add(1)..look.src.rows() {
-        if let Some(mark) = use_of(look, r, word) {
-            let does = if mark == "!" { "outputs" } else { "inputs" };
-            let line = P::N(r.saturating_add(1));
-            told.hint(
-                "write %% here: the program % on % (line %)",
-                &[P::B(word), P::T(mark), P::T(does), P::B(word), line],
-            );
+    for r in row.saturating_add(1)..src.rows() {
+        if let Some(outputs) = outputs_on(src, r, src.text_of(row, name)) {
+            let (mark, does) = if outputs {
+                ("!", "outputs")
+            } else {
+                ("?", "inputs")
+            };
+            let pieces = [word, P::T(mark), P::T(does), word, line(r)];
+            t.hint("write %% here: the program % on % (line %)", &pieces);
             break;
         }
     }
-    told
+    true
 }
 
-/// The mark with which a row uses a channel.
-fn use_of(look: Look, row: usize, chan: &[u8]) -> Option<&'static str> {
+/// Whether a row that uses a channel outputs on it.
+fn outputs_on(src: &Source, row: usize, chan: &[u8]) -> Option<bool> {
     let mut named = false;
-    for i in 0..look.src.count(row) {
-        match look.src.text_of(row, i) {
-            b"!" if named => return Some("!"),
-            b"?" if named => return Some("?"),
-            text => named = named || text == chan,
+    for i in 0..src.count(row) {
+        if named && src.is_one(row, i, "? !") {
+            return Some(src.is(row, i, "!"));
+        }
+        named = named || src.text_of(row, i) == chan;
+    }
+    None
+}
+
+/// The closing line behind a header that doesn't stand at level 0.
+fn deep_close(src: &Source, header: usize) -> Option<usize> {
+    for r in header.saturating_add(1)..src.rows() {
+        if src.is(r, 0, ":") && src.count(r) == 1 && src.level(r) > 0 {
+            return Some(r);
         }
     }
     None
 }
 
-/// What is told of a program with a body that has no closing line.
-fn not_closed(look: Look, header: usize) -> Told {
-    let rows = look.src.rows();
-    let close = (header.saturating_add(1)..rows).find(|r| look.src.is(*r, 0, ":")
-        && look.src.count(*r) == 1
-        && look.src.level(*r) > 0);
-    let mut told = match close {
-        Some(row) => {
-            let words = (
-                "the closing : stands at level %",
-                "expected level 0, found level %",
-                "take out the spaces in front of it",
-            );
-            let level = P::N(look.src.level(row));
-            look.whole(look.tok(row, 0), "Form", words, &[level, level])
-        }
+/// What is told of a program with a body that has no closing line. It was told.
+fn not_closed(t: &mut Tale, header: usize) -> bool {
+    match deep_close(t.src, header) {
+        Some(row) => margin_fault(t, row, At::Tok(row, 0), "the closing : stands at level %"),
         None => {
             let words = (
                 "the text ends, and its PROC isn't closed",
                 "expected : at level 0, found the end of the text",
                 "add a line with : alone",
             );
-            look.whole(
-                Span {
-                    row: rows,
-                    at: 0,
-                    len: 1,
-                },
-                "Form",
-                words,
-                &[],
-            )
+            form_at(t, At::Bytes(t.src.rows(), 0, 1), words, &[])
         }
     };
-    told.mark(look.tok(header, 0), "this PROC isn't closed yet", &[]);
-    told
+    t.mark(At::Tok(header, 0), "this PROC isn't closed yet", &[]);
+    true
 }
 
-fn has_body(look: Look, row: usize) -> bool {
-    for r in row.saturating_add(1)..look.src.rows() {
-        if look.src.is_blank(r) {
-            continue;
-        }
-        if look.src.level(r) <= 1 {
-            return look.src.level(r) == 1;
+fn has_body(src: &Source, row: usize) -> bool {
+    for r in row.saturating_add(1)..src.rows() {
+        if !src.is_blank(r) && src.level(r) <= 1 {
+            return src.level(r) == 1;
         }
     }
     false
 }
 
-fn all_by_four(look: Look) -> bool {
-    (0..look.src.rows()).all(|r| look.src.is_blank(r) || look.src.row(r).indent % 4 == 0)
+fn all_by_four(src: &Source) -> bool {
+    for r in 0..src.rows() {
+        if !src.is_blank(r) && src.row(r).indent % 4 != 0 {
+            return false;
+        }
+    }
+    true
 }
 
-/// What is told of a program without a body at level 1.
-fn no_body(look: Look, header: usize) -> Told {
-    let next = look.after(header);
-    let row = next.unwrap_or(look.src.rows());
-    let mut told = if look.src.level(row) > 1 {
+/// What is told of a program without a body at level 1. It was told.
+fn no_body(t: &mut Tale, header: usize) -> bool {
+    let src = t.src;
+    let next = src.next(header.saturating_add(1));
+    let row = next.unwrap_or(src.rows());
+    if src.level(row) > 1 {
+        let hint = if all_by_four(src) {
+            "each level is two spaces; halve the spaces of every line (all are multiples of four)"
+        } else {
+            "write this line with 2 spaces"
+        };
         let words = (
             "% spaces in front, where the body stands at level 1",
             "expected 2 spaces, found %",
-            if all_by_four(look) {
-                "each level is two spaces; halve the spaces of every line (all are multiples of four)"
-            } else {
-                "write this line with 2 spaces"
-            },
+            hint,
         );
-        let spaces = P::N(look.src.row(row).indent);
-        look.whole(look.margin(row), "Form", words, &[spaces, spaces])
+        let spaces = P::N(src.row(row).indent);
+        form_at(t, At::Margin(row), words, &[spaces, spaces]);
     } else {
-        let place = Span {
-            row,
-            at: 0,
-            len: look.all(row).len,
-        };
-        look.whole(place, "Form", no_body_words(look, next), &[])
-    };
-    told.mark(look.tok(header, 0), "this PROC has no body at level 1", &[]);
-    told
+        let len = src.span(At::All(row)).len;
+        form_at(t, At::Bytes(row, 0, len), no_body_words(src, next), &[]);
+    }
+    t.mark(At::Tok(header, 0), "this PROC has no body at level 1", &[]);
+    true
 }
 
-fn no_body_words(look: Look, next: Option<usize>) -> (&'static str, &'static str, &'static str) {
+fn no_body_words(src: &Source, next: Option<usize>) -> Words {
     let said = "this PROC has no body";
     let skip = "a program that does nothing has the body SKIP";
     match next {
@@ -398,7 +392,7 @@ fn no_body_words(look: Look, next: Option<usize>) -> (&'static str, &'static str
             "expected a process at level 1, found the end of the text",
             skip,
         ),
-        Some(row) if matches!(look.form(row), Form::Close) => {
+        Some(row) if matches!(form_of(src, row), Form::Close) => {
             (said, "expected a process at level 1, found :", skip)
         }
         Some(_) => (

@@ -1,16 +1,47 @@
-//! What is told of a row whose bytes aren't tokens.
+//! What is told of a row whose bytes aren't tokens. Each function that tells of a fault says that it was told.
 
-use crate::look::{Form, Look, width_word};
+use crate::look::{Form, form_of, is_group, line, width};
 use crate::scope::{Scopes, Sort, size_of};
 use crate::syntax::INDEX;
-use occ_check_text::{Piece as P, Put, Span, TokKind, Told};
+use occ_check_text::{At, Piece as P, Put, Source, Tale, TokKind, cut};
+
+/// The place of a tab among the bytes of a row.
+fn tab_at(src: &Source, row: usize) -> Option<usize> {
+    let bytes = src.bytes(row, 0, src.row(row).code);
+    for (at, byte) in bytes.iter().enumerate() {
+        if *byte == b'\t' {
+            return Some(at);
+        }
+    }
+    None
+}
+
+/// What is wrong with a row's own bytes, whatever stands around it. Whether it was told.
+pub fn bytes_fault(t: &mut Tale, scopes: &Scopes, row: usize) -> bool {
+    let src = t.src;
+    if tab_at(src, row).is_some() {
+        return tab(t, row);
+    }
+    if src.row(row).indent % 2 == 1 {
+        return odd_indent(t, row);
+    }
+    for i in 0..src.count(row) {
+        let tok = src.tok(row, i);
+        match tok.kind {
+            TokKind::Other => return char(t, scopes, row, i),
+            TokKind::Name if tok.len > 32 => return name(t, row, i),
+            TokKind::Numeral if numeral(src.text_of(row, i)) > 255 => return number(t, row, i),
+            _ => {}
+        }
+    }
+    false
+}
 
 /// What is told of a tab.
-pub fn tab(look: Look, row: usize) -> Told {
-    let found = look.src.row(row);
-    let bytes = look.src.bytes(row, 0, found.code);
-    let at = bytes.iter().position(|byte| *byte == b'\t').unwrap_or(0);
-    let words = if at < found.indent {
+pub fn tab(t: &mut Tale, row: usize) -> bool {
+    let src = t.src;
+    let at = tab_at(src, row).unwrap_or(0);
+    let words = if at < src.row(row).indent {
         (
             "a tab stands in front",
             "expected 2 spaces, found a tab",
@@ -23,33 +54,32 @@ pub fn tab(look: Look, row: usize) -> Told {
             "put a space for each tab of this file",
         )
     };
-    let mut told = look.whole(Span { row, at, len: 1 }, "Line Tab", words, &[]);
-    let last = (row..look.src.rows())
-        .rev()
-        .find(|r| look
-            .src
-            .bytes(*r, 0, look.src.row(*r).code)
-            .contains(&b'\t'))
-        .unwrap_or(row);
-    if last > row {
-        let (one, two) = (row.saturating_add(1), last.saturating_add(1));
-        told.hint(" (lines % to %)", &[P::N(one), P::N(two)]);
+    t.whole(At::Bytes(row, at, 1), "Line Tab", words, &[]);
+    let mut last = row;
+    for r in row..src.rows() {
+        if tab_at(src, r).is_some() {
+            last = r;
+        }
     }
-    told
+    if last > row {
+        t.hint(" (lines % to %)", &[line(row), line(last)]);
+    }
+    true
 }
 
 /// What is told of an odd number of spaces in front.
-pub fn odd_indent(look: Look, row: usize) -> Told {
-    let spaces = look.src.row(row).indent;
+pub fn odd_indent(t: &mut Tale, row: usize) -> bool {
+    let spaces = t.src.row(row).indent;
     let low = spaces / 2;
-    let deep = fits_deeper(look, row, low.saturating_add(1));
-    let level = if deep { low.saturating_add(1) } else { low };
+    let deep = fits_deeper(t.src, row, low.saturating_add(1));
+    let level = low.saturating_add(usize::from(deep));
+    let said = if spaces == 1 {
+        "% space in front: each level is two"
+    } else {
+        "% spaces in front: each level is two"
+    };
     let words = (
-        if spaces == 1 {
-            "% space in front: each level is two"
-        } else {
-            "% spaces in front: each level is two"
-        },
+        said,
         "expected % or % spaces, found %",
         "write this line at level %, with % spaces",
     );
@@ -61,76 +91,78 @@ pub fn odd_indent(look: Look, row: usize) -> Told {
         P::N(level),
         P::N(level.saturating_mul(2)),
     ];
-    look.whole(look.margin(row), "Line OddIndent", words, &pieces)
+    t.whole(At::Margin(row), "Line OddIndent", words, &pieces)
 }
 
 /// Whether the nearest row before one asks for parts at that level.
-fn fits_deeper(look: Look, row: usize, level: usize) -> bool {
-    match look.before(row) {
-        Some(before) => {
-            let opens = matches!(
-                look.form(before),
-                Form::Header
-                    | Form::Seq
-                    | Form::Par
-                    | Form::If
-                    | Form::Alt
-                    | Form::Guard
-                    | Form::Condition
-            );
-            opens && look.src.level(before).saturating_add(1) == level
+fn fits_deeper(src: &Source, row: usize, level: usize) -> bool {
+    let Some(before) = src.before(row) else {
+        return false;
+    };
+    let own = form_of(src, before);
+    let opens = is_group(own) || matches!(own, Form::Header | Form::Guard | Form::Condition);
+    opens && src.level(before).saturating_add(1) == level
+}
+
+/// The first token of a row that is none.
+pub fn other_at(src: &Source, row: usize) -> usize {
+    for i in 0..src.count(row) {
+        if matches!(src.tok(row, i).kind, TokKind::Other) {
+            return i;
         }
-        None => false,
     }
+    0
 }
 
 /// What is told of a byte that begins no token.
-pub fn char(look: Look, scopes: &Scopes, row: usize) -> Told {
-    let src = look.src;
-    let i = (0..src.count(row))
-        .find(|i| matches!(src.tok(row, *i).kind, TokKind::Other))
-        .unwrap_or(0);
-    let text = src.text_of(row, i);
-    if text.starts_with(&[0xef, 0xbb, 0xbf]) && src.tok(row, i).at == 0 && row == 0 {
+pub fn char(t: &mut Tale, scopes: &Scopes, row: usize, i: usize) -> bool {
+    let text = t.src.text_of(row, i);
+    if row == 0 && t.src.tok(row, i).at == 0 && text.starts_with(&[0xef, 0xbb, 0xbf]) {
         let words = (
             "the file begins with a byte order mark",
             "expected PROC, found the bytes EF BB BF",
             "save the file as UTF-8 without a byte order mark",
         );
-        return look.whole(look.tok(0, i), "Line Char", words, &[]);
+        return t.whole(At::Tok(0, i), "Line Char", words, &[]);
     }
-    match text.first().copied().unwrap_or(b' ') {
-        b'_' | 0x80.. => letter(look, row, i),
-        0x00..=0x1f | 0x7f => control(look, row, i),
-        _ => sign(look, scopes, row, i),
+    let first = text.first().copied().unwrap_or(b' ');
+    if first == b'_' || first >= 0x80 {
+        letter(t, row, i)
+    } else if first < 0x20 || first == 0x7f {
+        control(t, row, i)
+    } else {
+        sign(t, scopes, row, i)
     }
 }
 
 /// A byte that no text shows.
-fn control(look: Look, row: usize, i: usize) -> Told {
-    let mut bytes = Put::new(look.alloc);
-    hex(&mut bytes, look.src.text_of(row, i));
-    let words = (
-        "a byte that no text shows stands here",
-        "expected %, found the byte%",
-        "take it out; a line ends with a line feed, or a carriage return directly before it",
-    );
-    let pieces = [P::T(expected_there(look, row, i)), P::W(&bytes)];
-    look.whole(look.tok(row, i), "Line Char", words, &pieces)
+fn control(t: &mut Tale, row: usize, i: usize) -> bool {
+    let expected = P::T(expected_there(t.src, row, i));
+    let said = "a byte that no text shows stands here";
+    t.tell(At::Tok(row, i), "Line Char", said, &[]);
+    t.here("expected %, found the byte", &[expected]);
+    hex(t, row, i);
+    let hint = "take it out; a line ends with a line feed, or a carriage return directly before it";
+    t.hint(hint, &[]);
+    true
 }
 
-/// Writes bytes in hexadecimal.
-fn hex(put: &mut Put, bytes: &[u8]) {
-    for byte in bytes {
-        put.add(b" ");
-        for digit in [*byte / 16, *byte % 16] {
-            let letter = if digit < 10 {
-                b'0'.saturating_add(digit)
-            } else {
-                b'A'.saturating_add(digit.saturating_sub(10))
-            };
-            put.add(&[letter]);
-        }
+/// The digits of hexadecimal.
+const HEX: [&str; 16] = [
+    "0", "1", "2", "3", "4", "5", "6", "7", "8", "9", "A", "B", "C", "D", "E", "F",
+];
+
+fn hex_digit(value: u8) -> P<'static> {
+    P::T(match HEX.get(usize::from(value)) {
+        Some(digit) => *digit,
+        None => "0",
+    })
+}
+
+/// Says the bytes of a token in hexadecimal.
+fn hex(t: &mut Tale, row: usize, i: usize) {
+    for byte in t.src.text_of(row, i) {
+        t.more(" %%", &[hex_digit(*byte / 16), hex_digit(*byte % 16)]);
     }
 }
 
@@ -140,20 +172,21 @@ fn is_wordy(byte: u8) -> bool {
 }
 
 /// The word around a place of a row, as a user meant it.
-fn word_around(look: Look, row: usize, at: usize) -> Span {
-    let bytes = look.src.bytes(row, 0, look.src.row(row).code);
-    let mut from = at;
+fn word_around<'a>(src: &Source<'a>, row: usize, at: usize) -> &'a [u8] {
+    let bytes = src.bytes(row, 0, src.row(row).code);
+    let (mut from, mut to) = (0, bytes.len());
     for (i, byte) in bytes.iter().enumerate() {
-        if i <= at && !is_wordy(*byte) {
-            from = i.saturating_add(1);
+        if is_wordy(*byte) {
+            continue;
         }
-        if i == 0 && is_wordy(*byte) {
-            from = 0;
+        if i <= at {
+            from = i.saturating_add(1);
+        } else {
+            to = i;
+            break;
         }
     }
-    let rest = look.src.bytes(row, from, bytes.len());
-    let len = rest.iter().take_while(|byte| is_wordy(**byte)).count();
-    Span { row, at: from, len }
+    src.bytes(row, from, to.saturating_sub(from))
 }
 
 /// The second bytes of letters with a mark, from the one to the other, and what is written for them.
@@ -197,97 +230,104 @@ fn plain_word(put: &mut Put, word: &[u8]) {
 }
 
 /// Whether a word stands on a row.
-fn stands_on(look: Look, row: usize, word: &[u8]) -> bool {
-    let bytes = look.src.bytes(row, 0, look.src.row(row).code);
-    !word.is_empty() && bytes.windows(word.len()).any(|part| part == word)
+fn stands_on(src: &Source, row: usize, word: &[u8]) -> bool {
+    let bytes = src.bytes(row, 0, src.row(row).code);
+    for at in 0..bytes.len() {
+        if cut(bytes, at, bytes.len()).starts_with(word) {
+            return !word.is_empty();
+        }
+    }
+    false
 }
 
 /// Adds the other rows on which a word stands: four at most.
-fn other_rows(look: Look, word: &[u8], row: usize, told: &mut Told) {
+fn other_rows(t: &mut Tale, word: &[u8], row: usize) {
     let mut count: usize = 0;
-    for other in row.saturating_add(1)..look.src.rows() {
-        if stands_on(look, other, word) {
+    for other in row.saturating_add(1)..t.src.rows() {
+        if stands_on(t.src, other, word) {
             if count == 4 {
-                told.hint(" ..", &[]);
+                t.hint(" ..", &[]);
                 break;
             }
-            let front = if count == 0 {
-                " (here and on line "
+            let words = if count == 0 {
+                " (here and on line %"
             } else {
-                ", "
+                ", %"
             };
-            told.hint("%%", &[P::T(front), P::N(other.saturating_add(1))]);
+            t.hint(words, &[line(other)]);
             count = count.saturating_add(1);
         }
     }
     if count > 0 {
-        told.hint(")", &[]);
+        t.hint(")", &[]);
     }
 }
 
 /// A letter that can't stand in a name.
-fn letter(look: Look, row: usize, i: usize) -> Told {
-    let place = look.tok(row, i);
-    let text = look.src.text_of(row, i);
-    let mut bytes = Put::new(look.alloc);
-    let words = if text == b"_".as_slice() {
-        (
-            "a _ can't stand in a name",
-            "expected a letter, a digit or a dot, found _",
-            "",
-        )
+fn letter(t: &mut Tale, row: usize, i: usize) -> bool {
+    let place = At::Tok(row, i);
+    if t.src.is(row, i, "_") {
+        let here = "expected a letter, a digit or a dot, found _";
+        t.whole(
+            place,
+            "Line Char",
+            ("a _ can't stand in a name", here, ""),
+            &[],
+        );
     } else {
-        hex(&mut bytes, text);
-        (
-            "this letter can't stand in a name",
-            "expected a to z, A to Z, a digit or a dot, found the bytes%",
-            "",
-        )
-    };
-    let mut told = look.whole(place, "Line Char", words, &[P::W(&bytes)]);
-    let span = word_around(look, row, place.at);
-    let word = look.src.bytes(row, span.at, span.len);
-    let mut plain = Put::new(look.alloc);
+        t.tell(place, "Line Char", "this letter can't stand in a name", &[]);
+        t.here(
+            "expected a to z, A to Z, a digit or a dot, found the bytes",
+            &[],
+        );
+        hex(t, row, i);
+    }
+    let word = word_around(t.src, row, t.src.tok(row, i).at);
+    let mut plain = Put::new(t.alloc);
     plain_word(&mut plain, word);
     if plain
         .bytes()
         .first()
-        .is_some_and(|byte| byte.is_ascii_alphabetic())
+        .copied()
+        .unwrap_or(0)
+        .is_ascii_alphabetic()
     {
-        told.hint("write %", &[P::Cut(&plain)]);
-        other_rows(look, word, row, &mut told);
+        t.hint("write %", &[P::B(plain.bytes())]);
+        other_rows(t, word, row);
     }
-    told
+    if plain.is_lost() {
+        t.lose();
+    }
+    true
 }
 
 /// A sign of other languages.
-fn sign(look: Look, scopes: &Scopes, row: usize, i: usize) -> Told {
-    let text = look.src.text_of(row, i);
-    let next = look.src.tok(row, i.saturating_add(1));
-    let joined = matches!(text, b"#" | b"-")
-        && matches!(next.kind, TokKind::Name | TokKind::Numeral);
-    let span = if joined && !follows_operand(look, row, i) {
-        look.toks(row, i, hex_end(look, row, i))
+fn sign(t: &mut Tale, scopes: &Scopes, row: usize, i: usize) -> bool {
+    let src = t.src;
+    let next = i.saturating_add(1);
+    let joined = src.is_one(row, i, "# -") && (src.is_name(row, next) || src.is_numeral(row, next));
+    let place = if joined && !follows_operand(src, row, i) {
+        At::Toks(row, i, hex_end(src, row, i))
     } else {
-        look.tok(row, i)
+        At::Tok(row, i)
     };
     let words = ("a % isn't in this language", "expected %, found %", "");
-    let expected = P::T(expected_there(look, row, i));
-    let mut told = look.whole(
-        span,
+    let expected = P::T(expected_there(src, row, i));
+    t.whole(
+        place,
         "Line Char",
         words,
-        &[P::B(text), expected, P::B(text)],
+        &[P::Tok(row, i), expected, P::Tok(row, i)],
     );
-    sign_hint(look, scopes, row, i, &mut told);
-    told
+    sign_hint(t, scopes, row, i);
+    true
 }
 
 /// Behind the digits of a numeral in hexadecimal, or of one with a sign.
-fn hex_end(look: Look, row: usize, i: usize) -> usize {
+fn hex_end(src: &Source, row: usize, i: usize) -> usize {
     let mut end = i.saturating_add(1);
-    for k in i.saturating_add(1)..look.src.count(row) {
-        let (before, tok) = (look.src.tok(row, k.saturating_sub(1)), look.src.tok(row, k));
+    for k in i.saturating_add(1)..src.count(row) {
+        let (before, tok) = (src.tok(row, k.saturating_sub(1)), src.tok(row, k));
         let touches = before.at.saturating_add(before.len) == tok.at;
         if !touches || !matches!(tok.kind, TokKind::Name | TokKind::Numeral) {
             break;
@@ -298,33 +338,30 @@ fn hex_end(look: Look, row: usize, i: usize) -> usize {
 }
 
 /// Whether an operand stands directly in front.
-fn follows_operand(look: Look, row: usize, i: usize) -> bool {
+fn follows_operand(src: &Source, row: usize, i: usize) -> bool {
     let before = i.saturating_sub(1);
     i > 0
-        && (matches!(
-            look.src.tok(row, before).kind,
-            TokKind::Name | TokKind::Numeral
-        ) || matches!(look.src.text_of(row, before), b")" | b"]"))
+        && (src.is_name(row, before)
+            || src.is_numeral(row, before)
+            || src.is_one(row, before, ") ]"))
 }
 
 /// Whether a token stands between the brackets of an index.
-fn is_in_index(look: Look, row: usize, i: usize) -> bool {
+fn is_in_index(src: &Source, row: usize, i: usize) -> bool {
     let mut inside = false;
     for k in 0..i {
-        match look.src.text_of(row, k) {
-            b"[" => inside = true,
-            b"]" => inside = false,
-            _ => {}
+        if src.is_one(row, k, "[ ]") {
+            inside = src.is(row, k, "[");
         }
     }
     inside
 }
 
-fn expected_there(look: Look, row: usize, i: usize) -> &'static str {
-    let follows = follows_operand(look, row, i);
-    if is_in_index(look, row, i) {
+fn expected_there(src: &Source, row: usize, i: usize) -> &'static str {
+    let follows = follows_operand(src, row, i);
+    if is_in_index(src, row, i) {
         "PLUS, MINUS or ]"
-    } else if follows && look.src.is(row, i, ";") {
+    } else if follows && src.is(row, i, ";") {
         "the end of the line"
     } else if i == 0 {
         "a process or a declaration"
@@ -335,100 +372,123 @@ fn expected_there(look: Look, row: usize, i: usize) -> &'static str {
     }
 }
 
+/// The value of a digit in hexadecimal; 16 where it is none.
+fn hex_of(byte: u8) -> usize {
+    for (value, digit) in HEX.iter().enumerate() {
+        if digit.as_bytes().first().copied() == Some(byte.to_ascii_uppercase()) {
+            return value;
+        }
+    }
+    16
+}
+
 /// The value of digits in hexadecimal, where it is at most 255.
 fn hex_value(digits: &[u8]) -> Option<usize> {
     let mut value: usize = 0;
     for byte in digits {
-        let digit = match *byte {
-            b'0'..=b'9' => byte.saturating_sub(b'0'),
-            b'A'..=b'F' => byte.saturating_sub(b'A').saturating_add(10),
-            b'a'..=b'f' => byte.saturating_sub(b'a').saturating_add(10),
-            _ => return None,
-        };
-        value = value.saturating_mul(16).saturating_add(usize::from(digit));
-        if value > 255 {
+        let digit = hex_of(*byte);
+        value = value.saturating_mul(16).saturating_add(digit);
+        if digit == 16 || value > 255 {
             return None;
         }
     }
     if digits.is_empty() { None } else { Some(value) }
 }
 
-fn sign_hint(look: Look, scopes: &Scopes, row: usize, i: usize, told: &mut Told) {
-    let text = look.src.text_of(row, i);
-    let words = match text {
-        b";" => return semicolon_hint(look, row, i, told),
-        b"#" => return hex_hint(look, row, i, told),
-        b"-" => return minus_hint(look, scopes, row, i, told),
-        b"+" => "write % PLUS %",
-        b"*" if is_in_index(look, row, i) => INDEX,
-        b"*" | b"/" | b"\\" | b"%" =>
-            "there is no multiplication and no division: add with PLUS, and choose with IF",
-        b"'" | b"\"" => "a letter is its number, as 65 for A",
-        b"{" | b"}" => "what belongs together is told by the levels: two spaces for each",
-        b"|" => "write OR between two BOOL, \\/ between two words",
-        b"^" => "write >< for the exclusive or of two words",
-        _ => return,
-    };
-    told.hint(words, &[one_before(look, row, i), one_behind(look, row, i)])
-}
+/// What is written in place of signs, which stand with spaces between them.
+const SIGNS: [(&str, &str); 6] = [
+    ("+", "write % PLUS %"),
+    (
+        "* / \\ %",
+        "there is no multiplication and no division: add with PLUS, and choose with IF",
+    ),
+    ("' \"", "a letter is its number, as 65 for A"),
+    (
+        "{ }",
+        "what belongs together is told by the levels: two spaces for each",
+    ),
+    ("|", "write OR between two BOOL, \\/ between two words"),
+    ("^", "write >< for the exclusive or of two words"),
+];
 
-fn one_before<'a>(look: Look<'a>, row: usize, i: usize) -> P<'a> {
-    P::B(look.src.text_of(row, i.saturating_sub(1)))
-}
-
-fn one_behind<'a>(look: Look<'a>, row: usize, i: usize) -> P<'a> {
-    P::B(look.src.text_of(row, i.saturating_add(1)))
-}
-
-fn hex_hint(look: Look, row: usize, i: usize, told: &mut Told) {
-    let end = hex_end(look, row, i);
-    let all = look.src.between(row, i, end);
-    let digits = look.src.between(row, i.saturating_add(1), end);
-    match hex_value(digits) {
-        Some(value) => told.hint("numerals are decimal: % is %", &[P::B(all), P::N(value)]),
-        None => told.hint("numerals are decimal, from 0 to 255", &[]),
+fn sign_hint(t: &mut Tale, scopes: &Scopes, row: usize, i: usize) {
+    let src = t.src;
+    if src.is(row, i, ";") {
+        return semicolon_hint(t, row, i);
     }
-}
-
-fn semicolon_hint(look: Look, row: usize, i: usize, told: &mut Told) {
-    let src = look.src;
-    for mark in ["!", "?"] {
-        if let Some(k) = src.find(row, 0, mark).filter(|k| *k < i) {
-            let (chan, sign) = (P::B(src.between(row, 0, k)), P::T(mark));
-            let first = P::B(src.between(row, k.saturating_add(1), i));
-            let rest = P::B(src.between(row, i.saturating_add(1), src.count(row)));
-            return told.hint(
-                "a communication has one item: write a SEQ of % % % and % % %",
-                &[chan, sign, first, chan, sign, rest],
-            );
+    if src.is(row, i, "#") {
+        return hex_hint(t, row, i);
+    }
+    if src.is(row, i, "-") {
+        return minus_hint(t, scopes, row, i);
+    }
+    if src.is(row, i, "*") && is_in_index(src, row, i) {
+        return t.hint(INDEX, &[]);
+    }
+    for (signs, words) in &SIGNS {
+        if src.is_one(row, i, signs) {
+            let pieces = [
+                P::Tok(row, i.saturating_sub(1)),
+                P::Tok(row, i.saturating_add(1)),
+            ];
+            return t.hint(words, &pieces);
         }
     }
-    told.hint("each process is a line of its own: leave the ; out", &[])
 }
 
-fn minus_hint(look: Look, scopes: &Scopes, row: usize, i: usize, told: &mut Told) {
-    let behind = one_behind(look, row, i);
-    if follows_operand(look, row, i) {
-        return told.hint("write % MINUS %", &[one_before(look, row, i), behind]);
+fn hex_hint(t: &mut Tale, row: usize, i: usize) {
+    let src = t.src;
+    let end = hex_end(src, row, i);
+    match hex_value(src.between(row, i.saturating_add(1), end)) {
+        Some(value) => {
+            let pieces = [P::Toks(row, i, end), P::N(value)];
+            t.hint("numerals are decimal: % is %", &pieces)
+        }
+        None => t.hint("numerals are decimal, from 0 to 255", &[]),
     }
-    let width = match scopes.find(look.src, row, 0).map(|decl| decl.sort) {
+}
+
+fn semicolon_hint(t: &mut Tale, row: usize, i: usize) {
+    let src = t.src;
+    for mark in ["!", "?"] {
+        let k = src.find(row, 0, mark).unwrap_or(i);
+        if k < i {
+            let (chan, sign) = (P::Toks(row, 0, k), P::T(mark));
+            let first = P::Toks(row, k.saturating_add(1), i);
+            let rest = P::Toks(row, i.saturating_add(1), src.count(row));
+            let words = "a communication has one item: write a SEQ of % % % and % % %";
+            return t.hint(words, &[chan, sign, first, chan, sign, rest]);
+        }
+    }
+    t.hint("each process is a line of its own: leave the ; out", &[])
+}
+
+fn minus_hint(t: &mut Tale, scopes: &Scopes, row: usize, i: usize) {
+    let src = t.src;
+    let next = i.saturating_add(1);
+    if follows_operand(src, row, i) {
+        let pieces = [P::Tok(row, i.saturating_sub(1)), P::Tok(row, next)];
+        return t.hint("write % MINUS %", &pieces);
+    }
+    let bits = match scopes.sort(src, row, 0) {
         Some(Sort::Var(bits)) => bits,
         _ => 0,
     };
-    let number = numeral(look.src.text_of(row, i.saturating_add(1)));
-    let size = size_of(width);
+    let number = numeral(src.text_of(row, next));
+    let size = size_of(bits);
     if number == 0 || number >= size {
-        return told.hint("words have no sign and wrap: take MINUS", &[]);
+        return t.hint("words have no sign and wrap: take MINUS", &[]);
     }
     let words = if number == 1 {
         "words have no sign and wrap: in % the number -% is %, and % MINUS % takes one away"
     } else {
         "words have no sign and wrap: in % the number -% is %, and % MINUS % takes so much away"
     };
-    let wrapped = P::N(size.saturating_sub(number));
-    let (width, number) = (P::T(width_word(width)), P::N(number));
-    let target = P::B(look.src.text_of(row, 0));
-    told.hint(words, &[width, number, wrapped, target, number])
+    let (wrapped, number) = (P::N(size.saturating_sub(number)), P::N(number));
+    t.hint(
+        words,
+        &[width(bits), number, wrapped, P::Tok(row, 0), number],
+    )
 }
 
 /// The value of decimal digits, as far as it is below a million; 0 where they are none.
@@ -436,41 +496,51 @@ pub fn numeral(digits: &[u8]) -> usize {
     let mut value: usize = 0;
     for byte in digits {
         if byte.is_ascii_digit() && value < 100_000 {
-            value = value
-                .saturating_mul(10)
-                .saturating_add(usize::from(byte.saturating_sub(b'0')));
+            let digit = usize::from(byte.saturating_sub(b'0'));
+            value = value.saturating_mul(10).saturating_add(digit);
         }
     }
     value
 }
 
+/// The first numeral of a row above 255; 0 where there is none.
+pub fn number_at(src: &Source, row: usize) -> usize {
+    for i in 0..src.count(row) {
+        if src.is_numeral(row, i) && numeral(src.text_of(row, i)) > 255 {
+            return i;
+        }
+    }
+    0
+}
+
 /// What is told of a numeral above 255.
-pub fn number(look: Look, row: usize) -> Told {
-    let src = look.src;
-    let at = (0..src.count(row)).find(|i| {
-        matches!(src.tok(row, *i).kind, TokKind::Numeral) && numeral(src.text_of(row, *i)) > 255
-    });
-    let at = at.unwrap_or(0);
-    let text = P::B(src.text_of(row, at));
+pub fn number(t: &mut Tale, row: usize, i: usize) -> bool {
     let words = (
         "% is above 255",
         "expected 0 to 255, found %",
         "the widest type is WORD8: take a smaller scale, or two words",
     );
-    look.whole(look.tok(row, at), "Line Number", words, &[text, text])
+    let text = P::Tok(row, i);
+    t.whole(At::Tok(row, i), "Line Number", words, &[text, text])
+}
+
+/// The first name of a row that is too long; 0 where there is none.
+pub fn name_at(src: &Source, row: usize) -> usize {
+    for i in 0..src.count(row) {
+        if src.is_name(row, i) && src.tok(row, i).len > 32 {
+            return i;
+        }
+    }
+    0
 }
 
 /// What is told of a name that is too long.
-pub fn name(look: Look, row: usize) -> Told {
-    let src = look.src;
-    let at = (0..src.count(row)).find(|i| matches!(src.tok(row, *i).kind, TokKind::Name)
-        && src.tok(row, *i).len > 32);
-    let at = at.unwrap_or(0);
-    let len = P::N(src.tok(row, at).len);
+pub fn name(t: &mut Tale, row: usize, i: usize) -> bool {
+    let len = P::N(t.src.tok(row, i).len);
     let words = (
         "a name of % characters",
         "expected at most 32 characters, found %",
         "take a shorter name",
     );
-    look.whole(look.tok(row, at), "Line Name", words, &[len, len])
+    t.whole(At::Tok(row, i), "Line Name", words, &[len, len])
 }

@@ -17,14 +17,12 @@ mod syntax;
 mod typing;
 mod usage;
 
-pub use expr::{Expr, Node, What, item_end, read};
+pub use expr::{Expr, Node, What, read};
 pub use lexical::numeral;
 pub use limits::Limit;
-pub use look::{Below, Form, Look, width_word};
-pub use naming::{decl_span, is_array};
+pub use look::{Below, Form, declares, form_of, is_group, line, repeats, width};
 pub use occ_check_text::{
-    Lead, Memory, Piece, Put, Source, Span, TextKind, TokKind, Told, refusal_text, said_of,
-    write_all,
+    At, Lead, Memory, Piece, Put, Said, Source, Span, Tale, TextKind, refusal_text, said_of,
 };
 pub use report::{Fault, Refused, errors, first_word};
 pub use scope::{Decl, Scopes, Sort, size_of};

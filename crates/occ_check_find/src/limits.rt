@@ -1,11 +1,11 @@
-//! What is told of a text that is over a limit.
+//! What is told of a text that is over a limit. Each function that tells of it says so.
 
 use crate::expr::{What, what_of};
 use crate::lexical::numeral;
-use crate::look::Look;
-use crate::naming::decl_span;
+use crate::look::repeats;
+use crate::naming::unknown;
 use crate::scope::{Decl, Scopes, Sort};
-use occ_check_text::{Memory, Piece as P, Put, Span, TokKind, Told};
+use occ_check_text::{At, Memory, Piece as P, Source, Span, Tale};
 
 /// A limit.
 #[derive(Clone, Copy)]
@@ -20,65 +20,55 @@ pub enum Limit {
     ScopeBits,
 }
 
-const SMALLER: &str = "take fewer: most faults are there in the small design too";
-
-const BYTES: (&str, &str, &str) = (
-    "the file is too long",
-    "expected at most 65536 bytes",
-    "a program is short: look whether this file is one",
-);
-
-const LEVELS: (&str, &str, &str) = (
-    "this line stands at level %",
-    "expected level 64 or less, found level %",
-    "put an IF whose first choice is an IF, or a PAR in a PAR, into one",
-);
-
-const TOKENS: (&str, &str, &str) = (
-    "% words and signs on one line",
-    "expected at most 4096",
-    "assign parts of it to variables first",
-);
-
 /// What is told of a limit on a row.
-pub fn over(look: Look, scopes: &Scopes, row: usize, which: Limit) -> Result<Told, Memory> {
-    Ok(match which {
-        Limit::Bytes => look.whole(
-            Span {
-                row: 0,
-                at: 0,
-                len: 1,
-            },
-            "Limit Bytes",
-            BYTES,
-            &[],
-        ),
-        Limit::Levels => {
-            let level = P::N(look.src.level(row));
-            look.whole(look.margin(row), "Limit Levels", LEVELS, &[level, level])
+pub fn over(t: &mut Tale, scopes: &Scopes, row: usize, which: Limit) -> Result<bool, Memory> {
+    match which {
+        Limit::Bytes => {
+            let words = (
+                "the file is too long",
+                "expected at most 65536 bytes",
+                "a program is short: look whether this file is one",
+            );
+            Ok(t.whole(At::Bytes(0, 0, 1), "Limit Bytes", words, &[]))
         }
+        Limit::Levels => Ok(levels(t, row)),
         Limit::Tokens => {
-            let count = P::N(look.src.count(row));
-            look.whole(look.all(row), "Limit Tokens", TOKENS, &[count])
+            let words = (
+                "% words and signs on one line",
+                "expected at most 4096",
+                "assign parts of it to variables first",
+            );
+            let count = P::N(t.src.count(row));
+            Ok(t.whole(At::All(row), "Limit Tokens", words, &[count]))
         }
-        Limit::Parameters => parameters(look, scopes, row)?,
-        Limit::Count => count(look, row),
-        Limit::Controls => controls(look, row),
-        Limit::InterfaceBits => interface(look, scopes, row)?,
-        Limit::ScopeBits => scope(look, scopes, row)?,
-    })
+        Limit::Parameters => parameters(t, scopes, row),
+        Limit::Count => Ok(count(t, row)),
+        Limit::Controls => Ok(controls(t, row)),
+        Limit::InterfaceBits => interface(t, scopes, row),
+        Limit::ScopeBits => scope(t, scopes, row),
+    }
+}
+
+fn levels(t: &mut Tale, row: usize) -> bool {
+    let words = (
+        "this line stands at level %",
+        "expected level 64 or less, found level %",
+        "put an IF whose first choice is an IF, or a PAR in a PAR, into one",
+    );
+    let level = P::N(t.src.level(row));
+    t.whole(At::Margin(row), "Limit Levels", words, &[level, level])
 }
 
 /// What stands between the brackets of a header.
-fn inside(look: Look, row: usize) -> Span {
-    let close = look.src.find(row, 0, ")").unwrap_or(look.src.count(row));
-    look.toks(row, 3, close)
+fn inside(src: &Source, row: usize) -> At {
+    let close = src.find(row, 0, ")").unwrap_or(src.count(row));
+    At::Toks(row, 3, close)
 }
 
-fn parameters(look: Look, scopes: &Scopes, row: usize) -> Result<Told, Memory> {
+fn parameters(t: &mut Tale, scopes: &Scopes, row: usize) -> Result<bool, Memory> {
     let mut number: usize = 0;
     let mut arrays = false;
-    for decl in listed(look, scopes, row)?.as_slice() {
+    for decl in listed(t, scopes, row)?.as_slice() {
         number = number.saturating_add(decl.count.max(1));
         arrays = arrays || decl.count > 0;
     }
@@ -95,71 +85,77 @@ fn parameters(look: Look, scopes: &Scopes, row: usize) -> Result<Told, Memory> {
             "take fewer parameters: most faults are there in the small design too",
         )
     };
-    let pieces = [P::N(number), P::N(number)];
-    Ok(look.whole(inside(look, row), "Limit Parameters", words, &pieces))
+    let place = inside(t.src, row);
+    Ok(t.whole(
+        place,
+        "Limit Parameters",
+        words,
+        &[P::N(number), P::N(number)],
+    ))
 }
 
 /// The declarations of a row, also where they aren't in scope yet.
-fn listed(look: Look, scopes: &Scopes, row: usize) -> Result<Vec<Decl>, Memory> {
-    let mut found = Vec::new(look.alloc);
+fn listed(t: &Tale, scopes: &Scopes, row: usize) -> Result<Vec<Decl>, Memory> {
+    let mut own = Scopes::new(t.alloc);
+    own.pass(t.src, row)?;
+    let mut found = Vec::new(t.alloc);
     for decl in scopes.all.as_slice() {
         if decl.row == row {
             found.push(*decl)?;
         }
     }
     if found.is_empty() {
-        let mut own = Scopes::new(look.alloc);
-        own.pass(look, row)?;
-        for decl in own.all.as_slice() {
-            found.push(*decl)?;
-        }
+        found.extend_from_slice(own.all.as_slice())?;
     }
     Ok(found)
 }
 
-fn count(look: Look, row: usize) -> Told {
-    let src = look.src;
-    let group = look.repeats(row);
-    let at = (0..src.count(row)).find(|place| {
-        let i = *place;
-        let opens = i > 0 && (src.is(row, i.saturating_sub(1), "[") || (group && i == 5));
-        let numeric = matches!(src.tok(row, i).kind, TokKind::Numeral);
-        opens && numeric && numeral(src.text_of(row, i)) > 64
-    });
-    let at = at.unwrap_or(0);
-    let text = P::B(src.text_of(row, at));
+fn count(t: &mut Tale, row: usize) -> bool {
+    let src = t.src;
+    let group = repeats(src, row);
+    let mut at = 0;
+    for i in (1..src.count(row)).rev() {
+        let opens = src.is(row, i.saturating_sub(1), "[") || (group && i == 5);
+        if opens && src.is_numeral(row, i) && numeral(src.text_of(row, i)) > 64 {
+            at = i;
+        }
+    }
+    let text = P::Tok(row, at);
     let said = if group { "% copies" } else { "% elements" };
-    let words = (said, "expected at most 64, found %", SMALLER);
-    look.whole(look.tok(row, at), "Limit Count", words, &[text, text])
+    let words = (
+        said,
+        "expected at most 64, found %",
+        "take fewer: most faults are there in the small design too",
+    );
+    t.whole(At::Tok(row, at), "Limit Count", words, &[text, text])
 }
 
-fn controls(look: Look, row: usize) -> Told {
+fn controls(t: &mut Tale, row: usize) -> bool {
     let words = (
         "more than 4096 controls once copies are made",
         "expected at most 4096 processes, choices and declarations, each copy counted",
         "take smaller counts: most faults are there in the small design too",
     );
-    let mut told = look.whole(look.tok(row, 0), "Limit Controls", words, &[]);
-    let mut most = row;
-    let mut copies = 0;
-    for r in 0..look.src.rows() {
-        let number = numeral(look.src.text_of(r, 5));
-        if look.repeats(r) && number > copies {
+    t.whole(At::Tok(row, 0), "Limit Controls", words, &[]);
+    let (mut most, mut copies) = (row, 0);
+    for r in 0..t.src.rows() {
+        let number = numeral(t.src.text_of(r, 5));
+        if number > copies && repeats(t.src, r) {
             most = r;
             copies = number;
         }
     }
     if copies > 0 {
-        told.mark(
-            look.all(most),
+        t.mark(
+            At::All(most),
             "% copies of what stands below",
             &[P::N(copies)],
         );
     }
-    told
+    true
 }
 
-fn bits_of(decl: &Decl) -> usize {
+fn bits_of(decl: Decl) -> usize {
     match decl.sort {
         Sort::Var(bits) => usize::from(bits.max(1)).saturating_mul(decl.count.max(1)),
         _ => 0,
@@ -167,130 +163,146 @@ fn bits_of(decl: &Decl) -> usize {
 }
 
 /// The sum of the bits of variables, and the place from the first to the last of them.
-fn summed(look: Look, decls: &[Decl]) -> (usize, Option<Span>) {
-    let mut sum: usize = 0;
-    let mut place: Option<Span> = None;
-    for decl in decls {
+#[derive(Clone, Copy)]
+struct Sum {
+    bits: usize,
+    place: Option<Span>,
+}
+
+const NONE: Sum = Sum {
+    bits: 0,
+    place: None,
+};
+
+impl Sum {
+    /// The sum with one more.
+    fn with(self, src: &Source, decl: Decl) -> Sum {
         let bits = bits_of(decl);
         if bits == 0 {
-            continue;
+            return self;
         }
-        sum = sum.saturating_add(bits);
-        let span = decl_span(look, *decl);
+        let span = src.span(decl.span());
+        let mut whole = self.place.unwrap_or(span);
         let end = span.at.saturating_add(span.len);
-        place = Some(match place {
-            Some(before) => Span {
-                row: before.row,
-                at: before.at,
-                len: end.saturating_sub(before.at),
-            },
-            None => span,
-        });
+        whole.len = end.saturating_sub(whole.at);
+        Sum {
+            bits: self.bits.saturating_add(bits),
+            place: Some(whole),
+        }
     }
-    (sum, place)
+
+    /// The place, or that of a row where there is none.
+    fn at(self, other: At) -> At {
+        match self.place {
+            Some(span) => At::Bytes(span.row, span.at, span.len),
+            None => other,
+        }
+    }
 }
 
-fn interface(look: Look, scopes: &Scopes, row: usize) -> Result<Told, Memory> {
-    let decls = listed(look, scopes, row)?;
-    let (sum, place) = summed(look, &decls);
-    let mut parts = Put::new(look.alloc);
-    for decl in decls.as_slice() {
-        let bits = bits_of(decl);
-        if bits > 0 {
-            let front = if parts.is_empty() { "" } else { " + " };
-            parts.say("%%", &[P::T(front), P::N(bits)]);
-        }
-    }
-    let words = (
-        "% bits of parameter variables",
-        "expected at most 16 bits, found %",
-        "all initial states are compared: take narrower words",
-    );
-    let span = place.unwrap_or(inside(look, row));
-    Ok(look.whole(
-        span,
-        "Limit InterfaceBits",
-        words,
-        &[P::N(sum), P::W(&parts)],
-    ))
-}
-
-fn scope(look: Look, scopes: &Scopes, row: usize) -> Result<Told, Memory> {
-    let own = listed(look, scopes, row)?;
-    let (mut sum, place) = summed(look, &own);
-    let mut told = Told::new(
-        look.alloc,
-        place.unwrap_or(look.all(row)),
-        b"Limit ScopeBits",
-    );
-    let mut group = Vec::new(look.alloc);
-    let mut newest: Option<Decl> = None;
-    for at in scopes.in_scope() {
-        let Some(decl) = scopes.decl(*at).filter(|decl| decl.row != row) else {
-            continue;
-        };
-        if newest.is_some_and(|before| before.row != decl.row) {
-            sum = sum.saturating_add(mark_bits(look, &group, &mut told));
-            group.truncate(0);
-        }
-        group.push(decl)?;
-        if bits_of(&decl) > 0 {
-            newest = Some(decl);
-        }
-    }
-    sum = sum.saturating_add(mark_bits(look, &group, &mut told));
-    told.say("% bits of variables in scope here", &[P::N(sum)]);
-    told.here("expected at most 24 bits in scope, found %", &[P::N(sum)]);
-    if let (Some(one), Some(other)) = (own.first(), newest) {
-        let name = look.src.text_of(one.row, one.tok);
-        if other.is_param {
-            told.hint("take narrower words", &[]);
-        } else {
-            let before = look.src.text_of(other.row, other.tok);
-            told.hint(
-                "declare % where % isn't in scope, or take narrower words",
-                &[P::B(name), P::B(before)],
-            );
-        }
-    }
-    Ok(told)
-}
-
-fn mark_bits(look: Look, decls: &[Decl], told: &mut Told) -> usize {
-    let (sum, place) = summed(look, decls);
-    if let Some(span) = place {
-        told.mark(span, "% bits", &[P::N(sum)]);
+fn summed(src: &Source, decls: &[Decl]) -> Sum {
+    let mut sum = NONE;
+    for decl in decls {
+        sum = sum.with(src, *decl);
     }
     sum
 }
 
+fn interface(t: &mut Tale, scopes: &Scopes, row: usize) -> Result<bool, Memory> {
+    let decls = listed(t, scopes, row)?;
+    let sum = summed(t.src, decls.as_slice());
+    let place = sum.at(inside(t.src, row));
+    let said = "% bits of parameter variables";
+    t.tell(place, "Limit InterfaceBits", said, &[P::N(sum.bits)]);
+    t.here("expected at most 16 bits, found ", &[]);
+    let mut words = "%";
+    for decl in decls.as_slice() {
+        let bits = bits_of(*decl);
+        if bits > 0 {
+            t.more(words, &[P::N(bits)]);
+            words = " + %";
+        }
+    }
+    t.hint("all initial states are compared: take narrower words", &[]);
+    Ok(true)
+}
+
+/// Marks the variables of a group, and gives the sum of their bits.
+fn mark_bits(t: &mut Tale, sum: Sum) -> usize {
+    if sum.place.is_some() {
+        t.mark(sum.at(At::All(0)), "% bits", &[P::N(sum.bits)]);
+    }
+    sum.bits
+}
+
+/// Marks the variables in scope but those of a row, row by row, and gives the sum of their bits and the newest one.
+fn mark_others(t: &mut Tale, scopes: &Scopes, row: usize) -> (usize, Option<Decl>) {
+    let mut bits: usize = 0;
+    let mut group = NONE;
+    let mut newest: Option<Decl> = None;
+    for place in scopes.open.as_slice() {
+        let Some(decl) = scopes.decl(*place) else {
+            continue;
+        };
+        if decl.row == row {
+            continue;
+        }
+        let before = match newest {
+            Some(other) => other.row,
+            None => decl.row,
+        };
+        if before != decl.row {
+            bits = bits.saturating_add(mark_bits(t, group));
+            group = NONE;
+        }
+        group = group.with(t.src, decl);
+        if bits_of(decl) > 0 {
+            newest = Some(decl);
+        }
+    }
+    (bits.saturating_add(mark_bits(t, group)), newest)
+}
+
+fn scope(t: &mut Tale, scopes: &Scopes, row: usize) -> Result<bool, Memory> {
+    let own = listed(t, scopes, row)?;
+    let sum = summed(t.src, own.as_slice());
+    t.error(sum.at(At::All(row)), b"Limit ScopeBits");
+    let (others, newest) = mark_others(t, scopes, row);
+    let bits = P::N(sum.bits.saturating_add(others));
+    t.say("% bits of variables in scope here", &[bits]);
+    t.here("expected at most 24 bits in scope, found %", &[bits]);
+    if let (Some(one), Some(other)) = (own.first(), newest) {
+        if other.is_param {
+            t.hint("take narrower words", &[]);
+        } else {
+            let pieces = [P::Tok(one.row, one.tok), P::Tok(other.row, other.tok)];
+            t.hint(
+                "declare % where % isn't in scope, or take narrower words",
+                &pieces,
+            );
+        }
+    }
+    Ok(true)
+}
+
 /// What is told of a comparison of numerals alone.
-pub fn no_type(look: Look, row: usize) -> Told {
-    let src = look.src;
+pub fn no_type(t: &mut Tale, row: usize) -> bool {
+    let src = t.src;
     for i in 1..src.count(row) {
-        let before = i.saturating_sub(1);
-        if matches!(what_of(src.text_of(row, i)), Some(What::Compare))
-            && matches!(src.tok(row, before).kind, TokKind::Numeral)
+        let (before, next) = (i.saturating_sub(1), i.saturating_add(1));
+        if src.is_numeral(row, before)
+            && matches!(what_of(src.text_of(row, i)), Some(What::Compare))
         {
-            let next = i.saturating_add(1);
             let words = (
                 "nothing tells the width of this comparison",
                 "expected an operand with a width, found numerals alone",
                 "write %(WORD4) % %",
             );
-            let pieces = [
-                P::B(src.text_of(row, before)),
-                P::B(src.text_of(row, i)),
-                P::B(src.text_of(row, next)),
-            ];
-            let place = look.toks(row, before, next.saturating_add(1));
-            return look.whole(place, "NoType", words, &pieces);
+            let pieces = [P::Tok(row, before), P::Tok(row, i), P::Tok(row, next)];
+            let place = At::Toks(row, before, next.saturating_add(1));
+            return t.whole(place, "NoType", words, &pieces);
         }
     }
-    crate::naming::unknown(
-        look,
-        row,
-        "NoType",
-        "nothing tells the width of a comparison on this line",
-    )
+    let said = "nothing tells the width of a comparison on this line";
+    unknown(t, row, "NoType", said)
 }

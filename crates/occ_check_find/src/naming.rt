@@ -1,48 +1,45 @@
-//! Names that aren't in scope, are declared again, or reach outside their array.
+//! Names that aren't in scope, are declared again, or reach outside their array. Each function that tells of a fault says so.
 
-use crate::layout::kind_word;
+use crate::expr::end_of;
+use crate::layout::kind;
 use crate::lexical::numeral;
-use crate::look::{Below, Form, Look, alike, width_word};
-use crate::scope::{Decl, Scopes, Sort};
+use crate::look::{Below, Form, alike, declares, form_of, is_group, line, place, repeats, width};
+use crate::scope::{Decl, Scopes, Sort, blank};
+use crate::syntax::name_twice;
 use crate::typing;
-use indexmap::IndexSet;
-use occ_check_text::{Memory, Piece as P, Put, Span, TokKind, Told};
+use occ_check_text::{At, Piece as P, Source, Tale};
 
-/// The tokens of a row between which names are used.
-pub fn used_from(look: Look, row: usize) -> usize {
-    match look.form(row) {
-        Form::Header
-        | Form::Declare
-        | Form::Seq
-        | Form::Par
-        | Form::If
-        | Form::Alt
-        | Form::Close
-        | Form::Blank => { look.src.count(row) }
-        _ => 0,
+/// The first token of a row at which names are used.
+pub fn used_from(src: &Source, row: usize) -> usize {
+    let own = form_of(src, row);
+    let none = matches!(
+        own,
+        Form::Header | Form::Declare | Form::Close | Form::Blank
+    );
+    if none || is_group(own) {
+        src.count(row)
+    } else {
+        0
     }
 }
 
 /// Whether a token names a channel by what stands around it.
-pub fn is_channel_place(look: Look, row: usize, i: usize) -> bool {
-    let end = crate::expr::item_end(look, row, i).unwrap_or(i.saturating_add(1));
-    let marked = look.src.is(row, end, "?") || look.src.is(row, end, "!");
-    marked && (i == 0 || look.src.is(row, i.saturating_sub(1), "&"))
+pub fn is_channel_place(src: &Source, row: usize, i: usize) -> bool {
+    src.is_one(row, end_of(src, row, i), "? !") && (i == 0 || src.is(row, i.saturating_sub(1), "&"))
 }
 
 /// Whether a token stands inside the brackets of an index.
-pub fn is_index(look: Look, row: usize, i: usize) -> bool {
-    i > 0 && look.src.is(row, i.saturating_sub(1), "[")
+pub fn is_index(src: &Source, row: usize, i: usize) -> bool {
+    i > 0 && src.is(row, i.saturating_sub(1), "[")
 }
 
 /// The first name of a row that isn't in scope, or is an array without an index, or has an index and is none.
-pub fn undeclared_at(look: Look, scopes: &Scopes, row: usize) -> Option<usize> {
-    let src = look.src;
-    for i in used_from(look, row)..src.count(row) {
-        if matches!(src.tok(row, i).kind, TokKind::Name) {
+pub fn undeclared_at(src: &Source, scopes: &Scopes, row: usize) -> Option<usize> {
+    for i in used_from(src, row)..src.count(row) {
+        if src.is_name(row, i) {
             let indexed = src.is(row, i.saturating_add(1), "[");
             match scopes.find(src, row, i) {
-                Some(decl) if is_array(decl) == indexed => {}
+                Some(decl) if decl.is_array() == indexed => {}
                 _ => return Some(i),
             }
         }
@@ -50,52 +47,35 @@ pub fn undeclared_at(look: Look, scopes: &Scopes, row: usize) -> Option<usize> {
     None
 }
 
-/// Whether a declaration is one of elements.
-pub fn is_array(decl: Decl) -> bool {
-    decl.count > 0 || decl.element.is_some()
-}
-
 /// What is told of a name that isn't in scope.
-pub fn undeclared(look: Look, scopes: &Scopes, row: usize) -> Told {
-    let Some(i) = undeclared_at(look, scopes, row) else {
-        return unknown(
-            look,
-            row,
-            "Undeclared",
-            "a name on this line isn't in scope",
-        );
+pub fn undeclared(t: &mut Tale, scopes: &Scopes, row: usize) -> bool {
+    let src = t.src;
+    let Some(i) = undeclared_at(src, scopes, row) else {
+        return unknown(t, row, "Undeclared", "a name on this line isn't in scope");
     };
-    let name = look.src.text_of(row, i);
-    if let Some(decl) = scopes.find(look.src, row, i) {
-        return half_array(look, row, i, decl);
+    if let Some(decl) = scopes.find(src, row, i) {
+        return half_array(t, row, i, decl);
     }
-    let choice = matches!(look.place(row), Below::Choice | Below::Choices);
-    if choice && look.src.count(row) == 1 && matches!(name, b"ELSE" | b"OTHERWISE") {
+    let name = P::Tok(row, i);
+    let choice = matches!(place(src, row), Below::Choice | Below::Choices);
+    if choice && src.count(row) == 1 && src.is_one(row, i, "ELSE OTHERWISE") {
         let words = (
             "there is no % in this language",
             "expected a condition, found the name %, which isn't declared",
             "the last choice of an IF is TRUE",
         );
-        return look.whole(
-            look.tok(row, 0),
-            "Undeclared",
-            words,
-            &[P::B(name), P::B(name)],
-        );
+        return t.whole(At::Tok(row, 0), "Undeclared", words, &[name, name]);
     }
-    let wants = wanted_sort(look, row, i);
-    let list = in_scope(look, scopes, wants);
-    let words = ("there is no % here", "expected % in scope (%), found %", "");
-    let pieces = [P::B(name), P::T(wants.word()), P::W(&list), P::B(name)];
-    let mut told = look.whole(look.tok(row, i), "Undeclared", words, &pieces);
-    let ended = scopes
-        .latest(name)
-        .filter(|decl| decl.end > decl.row && decl.end <= row);
-    match ended {
-        Some(decl) => tell_ended(look, decl, row, &mut told),
-        None => undeclared_hint(look, scopes, (row, i), wants, &mut told),
+    let wants = wanted_sort(src, row, i);
+    t.tell(At::Tok(row, i), "Undeclared", "there is no % here", &[name]);
+    t.here("expected % in scope (", &[P::T(wants.word())]);
+    in_scope(t, scopes, wants);
+    t.more("), found %", &[name]);
+    match scopes.latest(src.text_of(row, i)) {
+        Some(decl) if decl.end > decl.row && decl.end <= row => tell_ended(t, decl, row),
+        _ => undeclared_hint(t, scopes, row, i, wants),
     }
-    told
+    true
 }
 
 /// What a place asks of a name.
@@ -116,29 +96,28 @@ impl Wants {
     }
 
     fn takes(self, sort: Sort) -> bool {
-        match self {
-            Wants::Variable => matches!(sort, Sort::Var(_)),
-            Wants::Channel => matches!(sort, Sort::Chan(_, _)),
-            Wants::Counter => matches!(sort, Sort::Counter { .. }),
+        match sort {
+            Sort::Var(_) => matches!(self, Wants::Variable),
+            Sort::Chan(_, _) => matches!(self, Wants::Channel),
+            Sort::Counter(_, _) => matches!(self, Wants::Counter),
         }
     }
 }
 
-fn wanted_sort(look: Look, row: usize, i: usize) -> Wants {
-    if is_index(look, row, i) {
+fn wanted_sort(src: &Source, row: usize, i: usize) -> Wants {
+    if is_index(src, row, i) {
         Wants::Counter
-    } else if is_channel_place(look, row, i) {
+    } else if is_channel_place(src, row, i) {
         Wants::Channel
     } else {
         Wants::Variable
     }
 }
 
-/// The names of a sort in scope, five at most.
-fn in_scope(look: Look, scopes: &Scopes, wants: Wants) -> Put {
-    let mut list = Put::new(look.alloc);
+/// Says the names of a sort in scope, five at most.
+fn in_scope(t: &mut Tale, scopes: &Scopes, wants: Wants) {
     let mut count: usize = 0;
-    for place in scopes.in_scope() {
+    for place in scopes.open.as_slice() {
         let Some(decl) = scopes.decl(*place) else {
             continue;
         };
@@ -146,139 +125,145 @@ fn in_scope(look: Look, scopes: &Scopes, wants: Wants) -> Put {
             continue;
         }
         if count == 5 {
-            list.add(b", ..");
-            break;
+            return t.more(", ..", &[]);
         }
-        if count > 0 {
-            list.add(b", ");
-        }
-        list.say("%", &[P::B(look.src.text_of(decl.row, decl.tok))]);
+        let words = if count > 0 { ", %" } else { "%" };
+        t.more(words, &[P::Tok(decl.row, decl.tok)]);
         count = count.saturating_add(1);
     }
     if count == 0 {
-        list.add(b"there is none");
+        t.more("there is none", &[]);
     }
-    list
 }
 
 /// An array without an index, or an index behind what is no array.
-fn half_array(look: Look, row: usize, i: usize, decl: Decl) -> Told {
-    let name = P::B(look.src.text_of(row, i));
-    let words = if is_array(decl) {
-        (
+fn half_array(t: &mut Tale, row: usize, i: usize, decl: Decl) -> bool {
+    let name = P::Tok(row, i);
+    let (words, last) = if decl.is_array() {
+        let words = (
             "% is an array, and stands here without an index",
             "expected %[0] or another element, found %",
             "name one element, or replicate over all: SEQ i = 0 FOR %",
-        )
+        );
+        (words, P::N(decl.count))
     } else {
-        (
+        let words = (
             "% is no array, and stands here with an index",
             "expected % alone, found %[",
             "take the index away, or write [4] in front of the type of %",
-        )
+        );
+        (words, name)
     };
-    let last = if is_array(decl) {
-        P::N(decl.count)
-    } else {
-        name
-    };
-    let mut told = look.whole(
-        look.tok(row, i),
+    t.whole(
+        At::Tok(row, i),
         "Undeclared",
         words,
         &[name, name, name, last],
     );
-    told.mark(decl_span(look, decl), "% is declared here", &[name]);
-    told
+    t.mark(decl.span(), "% is declared here", &[name]);
+    true
 }
 
 /// The first row that a declaration governs, and the last one.
-fn rows_of(decl: Decl, look: Look) -> (usize, usize) {
+fn rows_of(src: &Source, decl: Decl) -> (usize, usize) {
     let next = decl.row.saturating_add(1);
-    let first = (next..decl.end)
-        .find(|row| !look.src.is_blank(*row) && !matches!(look.form(*row), Form::Declare))
-        .unwrap_or(next);
-    let last = (first..decl.end).rev().find(|row| !look.src.is_blank(*row));
-    (first, last.unwrap_or(first))
+    let mut first = None;
+    let mut last = next;
+    for row in next..decl.end {
+        if src.is_blank(row) {
+            continue;
+        }
+        last = row;
+        if first.is_none() && !declares(src, row) {
+            first = Some(row);
+        }
+    }
+    (first.unwrap_or(next), last)
 }
 
 /// The declaration of a name whose scope has ended, and what to write.
-fn tell_ended(look: Look, decl: Decl, row: usize, told: &mut Told) {
-    let name = look.src.text_of(decl.row, decl.tok);
-    let (first, last) = rows_of(decl, look);
-    let (one, two) = (first.saturating_add(1), last.saturating_add(1));
-    let declares = matches!(look.form(decl.row), Form::Declare);
-    let span = if declares {
-        look.all(decl.row)
+fn tell_ended(t: &mut Tale, decl: Decl, row: usize) {
+    let name = P::Tok(decl.row, decl.tok);
+    let (first, last) = rows_of(t.src, decl);
+    let declares = declares(t.src, decl.row);
+    let place = if declares {
+        At::All(decl.row)
     } else {
-        decl_span(look, decl)
+        decl.span()
     };
     if first == last {
-        told.mark(
-            span,
-            "this % holds for line % alone",
-            &[P::B(name), P::N(one)],
-        );
+        t.mark(place, "this % holds for line % alone", &[name, line(first)]);
     } else {
-        told.mark(
-            span,
-            "this % holds for lines % to %",
-            &[P::B(name), P::N(one), P::N(two)],
-        );
+        let pieces = [name, line(first), line(last)];
+        t.mark(place, "this % holds for lines % to %", &pieces);
     }
     if !declares {
-        return told.hint("a replicator's name holds for the one part below it", &[]);
+        return t.hint("a replicator's name holds for the one part below it", &[]);
     }
-    let joint = if row == first.saturating_add(1) {
-        " and "
-    } else {
-        " to "
-    };
-    let (line, here) = (decl.row.saturating_add(1), row.saturating_add(1));
-    told.hint(
+    let next = row == first.saturating_add(1);
+    let joint = P::T(if next { " and " } else { " to " });
+    t.hint(
         "a declaration governs the one process below it: put SEQ below line %, and lines %%% one level deeper",
-        &[P::N(line), P::N(one), P::T(joint), P::N(here)],
+        &[line(decl.row), line(first), joint, line(row)],
     )
+}
+
+/// How many bytes two words have in common in front.
+fn same_front(one: &[u8], two: &[u8]) -> usize {
+    for (i, byte) in one.iter().enumerate() {
+        if two.get(i).copied() != Some(*byte) {
+            return i;
+        }
+    }
+    one.len()
+}
+
+/// How many bytes two words have in common at the end.
+fn same_back(one: &[u8], two: &[u8]) -> usize {
+    for (i, byte) in one.iter().rev().enumerate() {
+        let at = two.len().saturating_sub(i.saturating_add(1));
+        if i >= two.len() || two.get(at).copied() != Some(*byte) {
+            return i;
+        }
+    }
+    one.len()
 }
 
 /// Whether two words of more than two letters differ by one letter: another one, one more or one less.
 fn near(one: &[u8], two: &[u8]) -> bool {
-    let (short, long) = if one.len() <= two.len() {
-        (one, two)
-    } else {
-        (two, one)
-    };
-    if short.len() < 3 || long.len().saturating_sub(short.len()) > 1 {
+    let (least, most) = (one.len().min(two.len()), one.len().max(two.len()));
+    if least < 3 || most.saturating_sub(least) > 1 {
         return false;
     }
-    let front = short.iter().zip(long).take_while(|(a, b)| a == b).count();
-    let back = short
-        .iter()
-        .rev()
-        .zip(long.iter().rev())
-        .take_while(|(a, b)| a == b)
-        .count();
-    if short.len() == long.len() {
-        return front.saturating_add(back).saturating_add(1) >= short.len();
-    }
-    front.saturating_add(back) >= short.len()
+    let same = same_front(one, two).saturating_add(same_back(one, two));
+    same.saturating_add(1) >= most
 }
 
-fn undeclared_hint(look: Look, scopes: &Scopes, at: (usize, usize), wants: Wants, told: &mut Told) {
-    let (row, i) = at;
-    let src = look.src;
-    let name = src.text_of(row, i);
-    for place in scopes.in_scope() {
-        let Some(decl) = scopes.decl(*place) else {
-            continue;
+/// A name in scope that is meant, and whether it is one by its capitals alone.
+fn meant(src: &Source, scopes: &Scopes, name: &[u8], wants: Wants) -> Option<(Decl, bool)> {
+    for place in scopes.open.as_slice() {
+        if let Some(decl) = scopes.decl(*place) {
+            let other = src.text_of(decl.row, decl.tok);
+            if alike(name, other) {
+                return Some((decl, true));
+            }
+            if wants.takes(decl.sort) && near(name, other) {
+                return Some((decl, false));
+            }
+        }
+    }
+    None
+}
+
+fn undeclared_hint(t: &mut Tale, scopes: &Scopes, row: usize, i: usize, wants: Wants) {
+    let src = t.src;
+    if let Some((decl, by_capitals)) = meant(src, scopes, src.text_of(row, i), wants) {
+        let words = if by_capitals {
+            "% is meant? capitals count"
+        } else {
+            "% is meant?"
         };
-        let other = src.text_of(decl.row, decl.tok);
-        if alike(name, other) {
-            return told.hint("% is meant? capitals count", &[P::B(other)]);
-        }
-        if near(name, other) && wants.takes(decl.sort) {
-            return told.hint("% is meant?", &[P::B(other)]);
-        }
+        return t.hint(words, &[P::Tok(decl.row, decl.tok)]);
     }
     let channel = matches!(wants, Wants::Channel);
     let given = src.find(row, i, ":=").is_some()
@@ -286,23 +271,22 @@ fn undeclared_hint(look: Look, scopes: &Scopes, at: (usize, usize), wants: Wants
     if !given && !channel {
         return;
     }
-    let Some(body) = body_row(look) else {
-        return;
-    };
-    let front = P::T(if channel { "CHAN OF " } else { "" });
-    let width = P::T(width_word(width_beside(look, scopes, row, i)));
-    told.hint(
-        "declare it in front of the process that uses it: %% %: above line %",
-        &[front, width, P::B(name), P::N(body.saturating_add(1))],
-    )
+    if let Some(body) = body_row(src) {
+        let front = P::T(if channel { "CHAN OF " } else { "" });
+        let bits = width_beside(src, scopes, row, i);
+        t.hint(
+            "declare it in front of the process that uses it: %% %: above line %",
+            &[front, width(bits), P::Tok(row, i), line(body)],
+        )
+    }
 }
 
 /// The width with which a name would be declared: that of another name on its line.
-fn width_beside(look: Look, scopes: &Scopes, row: usize, i: usize) -> u8 {
-    for k in 0..look.src.count(row) {
-        if k != i && matches!(look.src.tok(row, k).kind, TokKind::Name) {
-            match scopes.find(look.src, row, k).map(|decl| decl.sort) {
-                Some(Sort::Var(bits)) | Some(Sort::Chan(bits, _)) => return bits,
+fn width_beside(src: &Source, scopes: &Scopes, row: usize, i: usize) -> u8 {
+    for k in 0..src.count(row) {
+        if k != i && src.is_name(row, k) {
+            match scopes.sort(src, row, k) {
+                Some(Sort::Var(bits) | Sort::Chan(bits, _)) => return bits,
                 _ => {}
             }
         }
@@ -311,113 +295,102 @@ fn width_beside(look: Look, scopes: &Scopes, row: usize, i: usize) -> u8 {
 }
 
 /// The first row of the body that is no declaration.
-fn body_row(look: Look) -> Option<usize> {
-    let header = look.first()?;
-    (header.saturating_add(1)..look.src.rows()).find(|r| {
-        !look.src.is_blank(*r) && look.src.level(*r) == 1 && !matches!(look.form(*r), Form::Declare)
-    })
+fn body_row(src: &Source) -> Option<usize> {
+    let header = src.first()?;
+    for r in header.saturating_add(1)..src.rows() {
+        if !src.is_blank(r) && src.level(r) == 1 && !declares(src, r) {
+            return Some(r);
+        }
+    }
+    None
 }
 
-/// The place of a declaration: with its front where that stands directly before the name, else the name alone.
-pub fn decl_span(look: Look, decl: Decl) -> Span {
-    look.toks(decl.row, decl.from, decl.to)
+/// An error of which no place is known but the row. It was told.
+pub fn unknown(t: &mut Tale, row: usize, fault: &str, said: &'static str) -> bool {
+    let kind = kind(t.src, row);
+    t.whole(At::All(row), fault, (said, "% stands here", ""), &[kind])
 }
 
-/// An error of which no place is known but the row.
-pub fn unknown(look: Look, row: usize, fault: &str, said: &str) -> Told {
-    let kind = P::T(kind_word(look.form(row)));
-    look.whole(look.all(row), fault, (said, "% stands here", ""), &[kind])
+/// The name in a list from a token on that is in scope already, and its declaration; an element is no name again where it is another one.
+fn again_in_list(src: &Source, scopes: &Scopes, row: usize, from: usize) -> Option<(usize, Decl)> {
+    for i in from..src.count(row) {
+        if !src.is_name(row, i) {
+            continue;
+        }
+        if let Some(decl) = scopes.find(src, row, i) {
+            let element = numeral(src.text_of(row, i.saturating_add(2)));
+            let other = src.is(row, i.saturating_add(1), "[")
+                && decl.element != Some(element)
+                && decl.count == 0;
+            if !other {
+                return Some((i, decl));
+            }
+        }
+    }
+    None
 }
 
 /// The declaration in scope that a row declares again, and the token at which it does.
-pub fn redeclared_at(
-    look: Look,
-    scopes: &Scopes,
-    row: usize,
-) -> Result<Option<(usize, Decl)>, Memory> {
-    match look.form(row) {
-        Form::Seq | Form::Par | Form::If | Form::Alt if look.repeats(row) => {
-            Ok(scopes.find(look.src, row, 1).map(|decl| (1, decl)))
-        }
-        Form::Declare | Form::Header => again_in_list(look, scopes, row),
-        _ => Ok(None),
+pub fn redeclared_at(t: &mut Tale, scopes: &Scopes, row: usize) -> Option<(usize, Decl)> {
+    let src = t.src;
+    let own = form_of(src, row);
+    if repeats(src, row) {
+        return match scopes.find(src, row, 1) {
+            Some(decl) => Some((1, decl)),
+            None => None,
+        };
+    }
+    if !matches!(own, Form::Declare | Form::Header) {
+        return None;
+    }
+    let from = if matches!(own, Form::Header) { 3 } else { 0 };
+    let again = again_in_list(src, scopes, row, from);
+    let end = match again {
+        Some((i, _)) => i,
+        None => src.count(row),
+    };
+    match name_twice(t, row, from, end, false) {
+        Some((i, k)) => Some((i, blank(row, k, k, k.saturating_add(1), Sort::Var(0)))),
+        None => again,
     }
 }
 
-fn again_in_list(look: Look, scopes: &Scopes, row: usize) -> Result<Option<(usize, Decl)>, Memory> {
-    let src = look.src;
-    let from = if matches!(look.form(row), Form::Header) {
-        3
-    } else {
-        0
+/// What is told of a name that is declared again, as far as it is known.
+pub fn redeclared(t: &mut Tale, row: usize, again: Option<(usize, Decl)>) -> bool {
+    let Some((i, decl)) = again else {
+        return unknown(
+            t,
+            row,
+            "Redeclared",
+            "a name on this line is declared again",
+        );
     };
-    let mut seen: IndexSet<Vec<u8>> = IndexSet::new(look.alloc);
-    let mut places: Vec<usize> = Vec::new(look.alloc);
-    for i in from..src.count(row) {
-        if !matches!(src.tok(row, i).kind, TokKind::Name) {
-            continue;
-        }
-        let text = src.text_of(row, i);
-        if let Some(decl) = scopes.find(src, row, i) {
-            let element = src.is(row, i.saturating_add(1), "[");
-            let other = element
-                && decl.element != Some(numeral(src.text_of(row, i.saturating_add(2))))
-                && decl.count == 0;
-            if !other {
-                return Ok(Some((i, decl)));
-            }
-        }
-        if let Some(place) = seen.get_index_of(text) {
-            let k = places.get(place).copied().unwrap_or(i);
-            return Ok(Some((
-                i,
-                crate::scope::blank(row, k, k, k.saturating_add(1), Sort::Var(0)),
-            )));
-        }
-        seen.insert_full(Vec::from_slice(look.alloc, text)?)?;
-        places.push(i)?;
-    }
-    Ok(None)
+    let name = P::Tok(row, i);
+    let said = "% is declared again inside its own scope";
+    t.tell(At::Tok(row, i), "Redeclared", said, &[name]);
+    t.mark(At::Tok(decl.row, decl.tok), "% is declared here", &[name]);
+    t.here("expected a new name, found %", &[name]);
+    t.hint("take another name", &[]);
+    true
 }
 
-/// What is told of a name that is declared again.
-pub fn redeclared(look: Look, scopes: &Scopes, row: usize) -> Result<Told, Memory> {
-    let Some((i, decl)) = redeclared_at(look, scopes, row)? else {
-        let said = "a name on this line is declared again";
-        return Ok(unknown(look, row, "Redeclared", said));
-    };
-    let name = P::B(look.src.text_of(row, i));
-    let mut told = look.tell(
-        look.tok(row, i),
-        "Redeclared",
-        "% is declared again inside its own scope",
-        &[name],
-    );
-    told.mark(look.tok(decl.row, decl.tok), "% is declared here", &[name]);
-    told.here("expected a new name, found %", &[name]);
-    told.hint("take another name", &[]);
-    Ok(told)
-}
-
-/// An element that its array doesn't have: the token of the array, the element that is reached, and the value of the index at
-/// which it is.
+/// An element that its array doesn't have: the token of the array and its declaration, the element that is reached, whether it is below
+/// the first one, and the value of the index at which it is reached.
 #[derive(Clone, Copy)]
 pub struct Outside {
-    pub tok: usize,
-    pub element: usize,
-    pub below: bool,
-    pub value: Option<usize>,
+    tok: usize,
+    decl: Decl,
+    element: usize,
+    below: bool,
+    value: Option<usize>,
 }
 
 /// The first element of a row that is outside its array.
-pub fn outside_at(look: Look, scopes: &Scopes, row: usize) -> Option<Outside> {
-    let src = look.src;
-    for tok in used_from(look, row)..src.count(row) {
-        if src.is(row, tok.saturating_add(1), "[")
-            && matches!(src.tok(row, tok).kind, TokKind::Name)
-        {
+pub fn outside_at(src: &Source, scopes: &Scopes, row: usize) -> Option<Outside> {
+    for tok in used_from(src, row)..src.count(row) {
+        if src.is(row, tok.saturating_add(1), "[") && src.is_name(row, tok) {
             if let Some(decl) = scopes.find(src, row, tok) {
-                let outside = item_outside(look, scopes, (row, tok), decl);
+                let outside = item_outside(src, scopes, row, tok, decl);
                 if outside.is_some() {
                     return outside;
                 }
@@ -427,114 +400,100 @@ pub fn outside_at(look: Look, scopes: &Scopes, row: usize) -> Option<Outside> {
     None
 }
 
-fn item_outside(look: Look, scopes: &Scopes, at: (usize, usize), decl: Decl) -> Option<Outside> {
-    let src = look.src;
-    let (row, tok) = at;
+fn has(decl: Decl, element: usize) -> bool {
+    element < decl.count || decl.element == Some(element)
+}
+
+fn item_outside(
+    src: &Source,
+    scopes: &Scopes,
+    row: usize,
+    tok: usize,
+    decl: Decl,
+) -> Option<Outside> {
     let index = tok.saturating_add(2);
-    let has = |element: usize| element < decl.count || decl.element == Some(element);
-    if matches!(src.tok(row, index).kind, TokKind::Numeral) {
-        let element = numeral(src.text_of(row, index));
-        let found = Outside {
-            tok,
-            element,
-            below: false,
-            value: None,
+    let mut found = Outside {
+        tok,
+        decl,
+        element: numeral(src.text_of(row, index)),
+        below: false,
+        value: None,
+    };
+    if src.is_numeral(row, index) {
+        return if has(decl, found.element) {
+            None
+        } else {
+            Some(found)
         };
-        return if has(element) { None } else { Some(found) };
     }
-    let Some(Sort::Counter { base, count }) = scopes.find(src, row, index).map(|found| found.sort)
-    else {
+    let Some(Sort::Counter(base, count)) = scopes.sort(src, row, index) else {
         return None;
     };
     let more = numeral(src.text_of(row, index.saturating_add(2)));
-    let sign = src.text_of(row, index.saturating_add(1));
+    let plus = src.is(row, index.saturating_add(1), "PLUS");
+    let minus = src.is(row, index.saturating_add(1), "MINUS");
     for step in 0..count.clamp(1, 300) {
         let value = base.saturating_add(step);
-        let (element, below) = match sign {
-            b"PLUS" => (value.saturating_add(more), false),
-            b"MINUS" => (value.saturating_sub(more), more > value),
-            _ => (value, false),
+        found.value = Some(value);
+        found.below = minus && more > value;
+        found.element = if plus {
+            value.saturating_add(more)
+        } else if minus {
+            value.saturating_sub(more)
+        } else {
+            value
         };
-        if below || !has(element) {
-            return Some(Outside {
-                tok,
-                element,
-                below,
-                value: Some(value),
-            });
+        if found.below || !has(decl, found.element) {
+            return Some(found);
         }
     }
     None
 }
 
 /// What is told of an element outside its array, or of one that stands twice on the left.
-pub fn index(look: Look, scopes: &Scopes, row: usize) -> Told {
-    let Some(outside) = outside_at(look, scopes, row) else {
-        return unknown(look, row, "Index", "one element stands twice on the left");
+pub fn index(t: &mut Tale, scopes: &Scopes, row: usize) -> bool {
+    let src = t.src;
+    let Some(outside) = outside_at(src, scopes, row) else {
+        return unknown(t, row, "Index", "one element stands twice on the left");
     };
-    let src = look.src;
     let first = outside.tok.saturating_add(2);
     let close = src.find(row, first, "]").unwrap_or(first.saturating_add(1));
-    let name = src.text_of(row, outside.tok);
-    let decl = scopes.find(src, row, outside.tok);
-    let last = decl.map_or(0, |found| found.count.saturating_sub(1));
+    let name = P::Tok(row, outside.tok);
+    let last = P::N(outside.decl.count.saturating_sub(1));
     let said = if outside.below {
         "an element below %[0]"
     } else {
         "%[%] is outside the array"
     };
-    let mut told = look.tell(
-        look.toks(row, first, close),
+    t.tell(
+        At::Toks(row, first, close),
         "Index",
         said,
-        &[P::B(name), P::N(outside.element)],
+        &[name, P::N(outside.element)],
     );
-    if let Some(found) = decl {
-        told.mark(
-            decl_span(look, found),
-            "%[0] to %[%]",
-            &[P::B(name), P::B(name), P::N(last)],
-        );
-    }
-    let note = reached(look, row, outside, last);
-    told.here("%", &[P::W(&note)]);
-    match outside.value {
-        Some(_) => outside_hint(look, scopes, row, outside, &mut told),
-        None => told.hint("the last element is %[%]", &[P::B(name), P::N(last)]),
-    }
-    told
-}
-
-/// Which elements there are, and which one is reached.
-fn reached(look: Look, row: usize, outside: Outside, last: usize) -> Put {
-    let src = look.src;
-    let first = outside.tok.saturating_add(2);
-    let value = outside.value.unwrap_or(0);
-    let mut note = Put::new(look.alloc);
-    note.say("expected 0 to %, found ", &[P::N(last)]);
+    t.mark(outside.decl.span(), "%[0] to %[%]", &[name, name, last]);
     if outside.below {
         let less = numeral(src.text_of(row, first.saturating_add(2)));
-        note.say("-%", &[P::N(less.saturating_sub(value))]);
+        let less = P::N(less.saturating_sub(outside.value.unwrap_or(0)));
+        t.here("expected 0 to %, found -%", &[last, less]);
     } else {
-        note.say("%", &[P::N(outside.element)]);
+        t.here("expected 0 to %, found %", &[last, P::N(outside.element)]);
     }
-    if outside.value.is_some() {
-        note.say(
-            " where % = %",
-            &[P::B(src.text_of(row, first)), P::N(value)],
-        );
+    match outside.value {
+        Some(value) => {
+            t.more(" where % = %", &[P::Tok(row, first), P::N(value)]);
+            outside_hint(t, scopes, row, outside);
+        }
+        None => t.hint("the last element is %[%]", &[name, last]),
     }
-    note
+    true
 }
 
-fn outside_hint(look: Look, scopes: &Scopes, row: usize, outside: Outside, told: &mut Told) {
-    let src = look.src;
+fn outside_hint(t: &mut Tale, scopes: &Scopes, row: usize, outside: Outside) {
+    let src = t.src;
     let first = outside.tok.saturating_add(2);
-    let size = scopes
-        .find(src, row, outside.tok)
-        .map_or(0, |decl| decl.count);
-    let Some(Sort::Counter { base, count }) = scopes.find(src, row, first).map(|decl| decl.sort)
-    else {
+    let size = outside.decl.count;
+    let Some(Sort::Counter(base, count)) = scopes.sort(src, row, first) else {
         return;
     };
     let plus = src.is(row, first.saturating_add(1), "PLUS");
@@ -545,23 +504,21 @@ fn outside_hint(look: Look, scopes: &Scopes, row: usize, outside: Outside, told:
     };
     let room = size.saturating_sub(base.saturating_add(more));
     if !outside.below && room > 0 && room < count {
-        told.hint("write FOR %", &[P::N(room)]);
+        t.hint("write FOR %", &[P::N(room)]);
         if plus && base.saturating_add(count) <= size {
-            let (name, counter) = (src.text_of(row, outside.tok), src.text_of(row, first));
-            told.hint(", or %[%]", &[P::B(name), P::B(counter)]);
+            t.hint(", or %[%]", &[P::Tok(row, outside.tok), P::Tok(row, first)]);
         }
     }
 }
 
 /// What is told of the direction of a channel.
-pub fn direction(look: Look, scopes: &Scopes, row: usize) -> Told {
-    let Some((chan, mark, decl)) = typing::against_at(look, scopes, row) else {
-        return unknown(look, row, "Direction", "a channel is used against its mark");
+pub fn direction(t: &mut Tale, scopes: &Scopes, row: usize) -> bool {
+    let src = t.src;
+    let Some((chan, mark, decl)) = typing::against_at(src, scopes, row) else {
+        return unknown(t, row, "Direction", "a channel is used against its mark");
     };
-    let src = look.src;
-    let name = P::B(src.text_of(row, chan));
-    let gives = matches!(decl.sort, Sort::Chan(_, b'!'));
-    let (said, does, own, other) = if gives {
+    let name = P::Tok(row, chan);
+    let (said, does, own, other) = if matches!(decl.sort, Sort::Chan(_, b'!')) {
         (
             "% gives, and is used to input",
             "outputs",
@@ -577,35 +534,39 @@ pub fn direction(look: Look, scopes: &Scopes, row: usize) -> Told {
         )
     };
     let words = (said, "expected % behind %, found %", "");
-    let mut told = look.whole(
-        look.tok(row, mark),
+    t.whole(
+        At::Tok(row, mark),
         "Direction",
         words,
         &[name, own, name, other],
     );
-    told.mark(
-        look.toks(decl.row, decl.tok, decl.to),
+    let place = At::Toks(decl.row, decl.tok, decl.to);
+    t.mark(
+        place,
         "the mark says that the program % on %",
         &[P::T(does), name],
     );
-    let rest = P::B(src.between(row, mark.saturating_add(1), src.count(row)));
-    match other_channel(look, scopes, decl) {
-        Some(meant) => told.hint("% % % is meant?", &[P::B(meant), other, rest]),
+    let rest = P::Toks(row, mark.saturating_add(1), src.count(row));
+    match other_channel(scopes, decl) {
+        Some(meant) => {
+            let meant = P::Tok(meant.row, meant.tok);
+            t.hint("% % % is meant?", &[meant, other, rest])
+        }
         None => {
             let words = "write % % % here, or %% in the header";
-            told.hint(words, &[name, own, rest, name, other])
+            t.hint(words, &[name, own, rest, name, other])
         }
     }
-    told
+    true
 }
 
 /// The one other channel parameter of that type with the other mark.
-fn other_channel<'a>(look: Look<'a>, scopes: &Scopes, decl: Decl) -> Option<&'a [u8]> {
+fn other_channel(scopes: &Scopes, decl: Decl) -> Option<Decl> {
     let Sort::Chan(bits, own) = decl.sort else {
         return None;
     };
     let mut found = None;
-    for place in scopes.in_scope() {
+    for place in scopes.open.as_slice() {
         let Some(other) = scopes.decl(*place) else {
             continue;
         };
@@ -614,7 +575,7 @@ fn other_channel<'a>(look: Look<'a>, scopes: &Scopes, decl: Decl) -> Option<&'a 
                 if found.is_some() {
                     return None;
                 }
-                found = Some(look.src.text_of(other.row, other.tok));
+                found = Some(other);
             }
         }
     }

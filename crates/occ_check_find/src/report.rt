@@ -1,12 +1,13 @@
-//! What is told of a text that is refused: the fault of the refusal first, and further ones that don't rest on it.
+//! What is told of a text that is refused: the fault of the refusal, and further ones that don't rest on it.
 
-use crate::expr::what_of;
+use crate::expr::is_operator;
 use crate::limits::{Limit, no_type, over};
-use crate::look::{Form, Look, width_word};
+use crate::look::{Form, form_of, line, width};
 use crate::scope::Scopes;
+use crate::typing::{Ty, ty_of};
 use crate::{layout, lexical, naming, syntax, typing, usage};
 use indexmap::IndexSet;
-use occ_check_text::{Memory, Piece as P, TextKind, TokKind, Told};
+use occ_check_text::{At, Memory, Piece as P, Source, Tale, TextKind};
 
 /// Why a text is refused.
 #[derive(Clone, Copy)]
@@ -38,7 +39,13 @@ pub struct Refused<'a> {
 
 /// The first word, and what stands behind the space behind it.
 pub fn first_word(words: &[u8]) -> (&[u8], &[u8]) {
-    let len = words.iter().take_while(|byte| **byte != b' ').count();
+    let mut len = words.len();
+    for (i, byte) in words.iter().enumerate() {
+        if *byte == b' ' {
+            len = i;
+            break;
+        }
+    }
     let (first, rest) = words.split_at(len.min(words.len()));
     match rest {
         [_, behind @ ..] => (first, behind),
@@ -47,7 +54,7 @@ pub fn first_word(words: &[u8]) -> (&[u8], &[u8]) {
 }
 
 /// The faults by the words that they begin with; each other one is of form.
-const FAULTS: [(&str, Fault); 22] = [
+const FAULTS: [(&str, Fault); 21] = [
     ("Line Tab", Fault::Tab),
     ("Line OddIndent", Fault::OddIndent),
     ("Line Char", Fault::Char),
@@ -69,25 +76,23 @@ const FAULTS: [(&str, Fault); 22] = [
     ("Direction", Fault::Direction),
     ("SharedVariable", Fault::SharedVariable),
     ("SharedEnd", Fault::SharedEnd),
-    ("Form", Fault::Form),
 ];
-
-/// The fault that a refusal's words tell.
-fn fault_of(words: &[u8]) -> Fault {
-    for (name, fault) in &FAULTS {
-        if words.starts_with(name.as_bytes()) {
-            return *fault;
-        }
-    }
-    Fault::Form
-}
 
 impl<'a> Refused<'a> {
     /// A refusal on a line, counted from 1, with these words for its fault.
-    pub fn on(line: u32, words: &'a [u8]) -> Refused<'a> {
-        let row = (line as usize).saturating_sub(1);
-        let fault = fault_of(words);
-        Refused { row, fault, words }
+    pub fn on(number: u32, words: &'a [u8]) -> Refused<'a> {
+        let mut found = Refused {
+            row: (number as usize).saturating_sub(1),
+            fault: Fault::Form,
+            words,
+        };
+        for (name, fault) in &FAULTS {
+            if words.starts_with(name.as_bytes()) {
+                found.fault = *fault;
+                break;
+            }
+        }
+        found
     }
 }
 
@@ -98,97 +103,99 @@ const MOST_FURTHER: usize = 19;
 const MOST_TRIES: usize = 60;
 
 /// What is told of the fault for which a text is refused. The scopes are those of its row.
-pub fn first(look: Look, scopes: &Scopes, refused: Refused) -> Result<Told, Memory> {
+fn first(t: &mut Tale, scopes: &Scopes, refused: Refused) -> Result<(), Memory> {
     let row = refused.row;
-    Ok(match refused.fault {
-        Fault::Tab => lexical::tab(look, row),
-        Fault::OddIndent => lexical::odd_indent(look, row),
-        Fault::Char => lexical::char(look, scopes, row),
-        Fault::Number => lexical::number(look, row),
-        Fault::Name => lexical::name(look, row),
-        Fault::Form => layout::form_fault(look, row),
-        Fault::Undeclared => naming::undeclared(look, scopes, row),
-        Fault::Redeclared => naming::redeclared(look, scopes, row)?,
-        Fault::Index => naming::index(look, scopes, row),
-        Fault::TypeClash => match typing::type_clash(look, scopes, row)? {
-            Some(told) => told,
-            None => naming::unknown(look, row, "TypeClash", "two types differ on this line"),
-        },
-        Fault::NoType => no_type(look, row),
-        Fault::Direction => naming::direction(look, scopes, row),
-        Fault::Over(which) => over(look, scopes, row, which)?,
-        Fault::SharedVariable => usage::shared_variable(look, row, refused.words)?,
-        Fault::SharedEnd => usage::shared_end(look, scopes, row, refused.words)?,
-    })
+    match refused.fault {
+        Fault::Tab | Fault::OddIndent | Fault::Char | Fault::Number | Fault::Name => {
+            first_bytes(t, scopes, refused);
+        }
+        Fault::Form => {
+            layout::form_fault(t, row);
+        }
+        Fault::Undeclared => {
+            naming::undeclared(t, scopes, row);
+        }
+        Fault::Redeclared => {
+            let again = naming::redeclared_at(t, scopes, row);
+            naming::redeclared(t, row, again);
+        }
+        Fault::Index => {
+            naming::index(t, scopes, row);
+        }
+        Fault::TypeClash => {
+            if !typing::type_clash(t, scopes, row)? {
+                naming::unknown(t, row, "TypeClash", "two types differ on this line");
+            }
+        }
+        Fault::NoType => {
+            no_type(t, row);
+        }
+        Fault::Direction => {
+            naming::direction(t, scopes, row);
+        }
+        Fault::Over(which) => {
+            over(t, scopes, row, which)?;
+        }
+        Fault::SharedVariable => usage::shared_variable(t, row, refused.words)?,
+        Fault::SharedEnd => usage::shared_end(t, scopes, row, refused.words)?,
+    }
+    Ok(())
+}
+
+/// What is told of the bytes of a row for which a text is refused. It was told.
+fn first_bytes(t: &mut Tale, scopes: &Scopes, refused: Refused) -> bool {
+    let row = refused.row;
+    match refused.fault {
+        Fault::Tab => lexical::tab(t, row),
+        Fault::OddIndent => lexical::odd_indent(t, row),
+        Fault::Char => {
+            let i = lexical::other_at(t.src, row);
+            lexical::char(t, scopes, row, i)
+        }
+        Fault::Number => {
+            let i = lexical::number_at(t.src, row);
+            lexical::number(t, row, i)
+        }
+        _ => {
+            let i = lexical::name_at(t.src, row);
+            lexical::name(t, row, i)
+        }
+    }
 }
 
 /// Whether a row goes on from the one before, which ends where more must follow.
-fn goes_on(look: Look, row: usize) -> bool {
-    let Some(before) = look.before(row) else {
+fn goes_on(src: &Source, row: usize) -> bool {
+    let Some(before) = src.before(row) else {
         return false;
     };
-    let last = look
-        .src
-        .text_of(before, look.src.count(before).saturating_sub(1));
-    matches!(last, b"," | b"(" | b":=") || what_of(last).is_some()
+    let last = src.count(before).saturating_sub(1);
+    src.is_one(before, last, ", ( :=") || is_operator(src, before, last)
 }
 
-/// What is wrong with a row's own bytes, whatever stands around it.
-fn bytes_fault(look: Look, scopes: &Scopes, row: usize) -> Option<Told> {
-    let src = look.src;
-    let found = src.row(row);
-    if src.bytes(row, 0, found.code).contains(&b'\t') {
-        return Some(lexical::tab(look, row));
-    }
-    if found.indent % 2 == 1 {
-        return Some(lexical::odd_indent(look, row));
-    }
-    for i in 0..src.count(row) {
-        let tok = src.tok(row, i);
-        match tok.kind {
-            TokKind::Other => return Some(lexical::char(look, scopes, row)),
-            TokKind::Name if tok.len > 32 => return Some(lexical::name(look, row)),
-            TokKind::Numeral if lexical::numeral(src.text_of(row, i)) > 255 => {
-                return Some(lexical::number(look, row));
-            }
-            _ => {}
-        }
-    }
-    None
-}
-
-/// A walk through the rows of a text that collects what is told.
+/// A walk through the rows of a text that tells what is wrong with them: the names in scope, the names that stand for nothing known, the
+/// rows whose words are faulty, how many were, whether only words are looked at, and the number of what was told of the refusal.
 #[derive(Drop)]
-struct Walk<'a> {
-    look: Look<'a>,
+struct Walk {
     scopes: Scopes,
-    further: Vec<Told>,
     spoilt: IndexSet<Vec<u8>>,
     faulty: Vec<bool>,
     tries: usize,
     loose: bool,
+    lead: Option<usize>,
 }
 
-impl<'a> Walk<'a> {
-    fn new(look: Look<'a>) -> Walk<'a> {
-        Walk {
-            look,
-            scopes: Scopes::new(look.alloc),
-            further: Vec::new(look.alloc),
-            spoilt: IndexSet::new(look.alloc),
-            faulty: Vec::new(look.alloc),
-            tries: 0,
-            loose: false,
-        }
-    }
-
+impl Walk {
     /// The names of a row stand for nothing that is known.
-    fn spoil(&mut self, row: usize) -> Result<(), Memory> {
-        self.note(row)?;
-        let look = self.look;
-        for i in 0..look.src.count(row) {
-            if matches!(look.src.tok(row, i).kind, TokKind::Name) {
-                let copy = Vec::from_slice(look.alloc, look.src.text_of(row, i))?;
+    fn spoil(&mut self, t: &Tale, row: usize) -> Result<(), Memory> {
+        for _ in self.faulty.len()..row.saturating_add(1) {
+            self.faulty.push(false)?;
+        }
+        if let Some(place) = self.faulty.get_mut(row) {
+            *place = true;
+        }
+        for i in 0..t.src.count(row) {
+            if t.src.is_name(row, i) {
+                let copy = Vec::from_slice(t.alloc, t.src.text_of(row, i))?;
                 self.spoilt.insert_full(copy)?;
             }
         }
@@ -196,10 +203,9 @@ impl<'a> Walk<'a> {
     }
 
     /// Blames the declarations that a row names.
-    fn blame(&mut self, row: usize) {
-        let src = self.look.src;
+    fn blame(&mut self, src: &Source, row: usize) {
         for i in 0..src.count(row) {
-            if matches!(src.tok(row, i).kind, TokKind::Name) {
+            if src.is_name(row, i) {
                 if let Some(place) = self.scopes.place_of(src.text_of(row, i)) {
                     self.scopes.blame(place);
                 }
@@ -208,146 +214,149 @@ impl<'a> Walk<'a> {
     }
 
     /// Whether a row names a declaration that is blamed.
-    fn is_blamed(&self, row: usize) -> bool {
-        let src = self.look.src;
-        (0..src.count(row)).any(|i| {
-            matches!(src.tok(row, i).kind, TokKind::Name)
-                && self
-                    .scopes
-                    .find(src, row, i)
-                    .is_some_and(|decl| decl.blamed)
-        })
-    }
-
-    /// Whether the same was said before.
-    fn was_said(&self, first: Option<&Told>, told: &Told) -> bool {
-        let said = told.sentence.bytes();
-        first.is_some_and(|other| other.sentence.bytes() == said)
-            || self
-                .further
-                .iter()
-                .any(|other| other.sentence.bytes() == said)
+    fn is_blamed(&self, src: &Source, row: usize) -> bool {
+        for i in 0..src.count(row) {
+            if src.is_name(row, i) {
+                match self.scopes.find(src, row, i) {
+                    Some(decl) if decl.blamed => return true,
+                    _ => {}
+                }
+            }
+        }
+        false
     }
 
     /// What is wrong with the names, types and directions of a row, where that rests on no other fault.
-    fn judged(&mut self, row: usize) -> Result<Option<Told>, Memory> {
-        let look = self.look;
-        if let Some(i) = naming::undeclared_at(look, &self.scopes, row) {
-            let spoilt = self.spoilt.get_index_of(look.src.text_of(row, i)).is_some();
-            self.spoil(row)?;
-            return if spoilt {
-                Ok(None)
-            } else {
-                Ok(Some(naming::undeclared(look, &self.scopes, row)))
-            };
-        }
-        if naming::redeclared_at(look, &self.scopes, row)?.is_some() {
-            return Ok(Some(naming::redeclared(look, &self.scopes, row)?));
-        }
-        if naming::outside_at(look, &self.scopes, row).is_some() {
-            return Ok(Some(naming::index(look, &self.scopes, row)));
-        }
-        if let Some(told) = typing::type_clash(look, &self.scopes, row)? {
-            if !self.is_blamed(row) {
-                self.blame(row);
-                return Ok(Some(told));
+    fn judge(&mut self, t: &mut Tale, row: usize) -> Result<(), Memory> {
+        if let Some(i) = naming::undeclared_at(t.src, &self.scopes, row) {
+            let known = self.spoilt.get_index_of(t.src.text_of(row, i)).is_none();
+            self.spoil(t, row)?;
+            if known {
+                naming::undeclared(t, &self.scopes, row);
             }
-            self.tell_also(row);
+            return Ok(());
         }
-        if typing::against_at(look, &self.scopes, row).is_some() {
-            return Ok(Some(naming::direction(look, &self.scopes, row)));
+        let again = naming::redeclared_at(t, &self.scopes, row);
+        if again.is_some() {
+            naming::redeclared(t, row, again);
+            return Ok(());
         }
-        Ok(None)
-    }
-
-    /// Adds a further clash of the same types to what was told last of them.
-    fn tell_also(&mut self, row: usize) {
-        let look = self.look;
-        if !matches!(look.form(row), Form::Condition) || look.src.count(row) != 3 {
-            return;
+        if naming::outside_at(t.src, &self.scopes, row).is_some() {
+            naming::index(t, &self.scopes, row);
+            return Ok(());
         }
-        let types = (
-            typing::ty_of(look, &self.scopes, row, 0),
-            typing::ty_of(look, &self.scopes, row, 2),
-        );
-        let (typing::Ty::Bits(left), typing::Ty::Bits(right)) = types else {
-            return;
-        };
-        let pieces = [
-            P::B(look.src.between(row, 0, 3)),
-            P::N(row.saturating_add(1)),
-            P::T(width_word(left)),
-            P::T(width_word(right)),
-        ];
-        for told in &mut self.further {
-            if told.fault.bytes() == b"TypeClash".as_slice() && !told.has_also() {
-                return told.also("% on line % compares a % with a %", &pieces);
-            }
+        if self.judge_types(t, row)? {
+            return Ok(());
         }
-    }
-
-    /// Whether what a row says can't be known: it goes on from the one before, or is a condition below a faulty row.
-    fn is_unclear(&self, row: usize) -> bool {
-        let look = self.look;
-        let below = look
-            .parent(row)
-            .is_some_and(|parent| self.is_faulty(parent));
-        goes_on(look, row) || (below && matches!(look.form(row), Form::Condition))
-    }
-
-    /// What is wrong with a row's own bytes and words.
-    fn own_fault(&self, row: usize) -> Option<Told> {
-        let told = bytes_fault(self.look, &self.scopes, row);
-        if told.is_some() {
-            return told;
-        }
-        syntax::words_fault(self.look, row)
-    }
-
-    /// Whether a fault of a row's own words was found.
-    fn is_faulty(&self, row: usize) -> bool {
-        self.faulty.get(row).copied().unwrap_or(false)
-    }
-
-    /// Notes that a row is faulty.
-    fn note(&mut self, row: usize) -> Result<(), Memory> {
-        for _ in self.faulty.len()..row.saturating_add(1) {
-            self.faulty.push(false)?;
-        }
-        if let Some(place) = self.faulty.get_mut(row) {
-            *place = true;
+        if typing::against_at(t.src, &self.scopes, row).is_some() {
+            naming::direction(t, &self.scopes, row);
         }
         Ok(())
     }
 
-    /// What is wrong with a row.
-    fn row_fault(&mut self, row: usize) -> Result<Option<Told>, Memory> {
-        if matches!(self.look.form(row), Form::Header) {
-            return Ok(None);
+    /// What is wrong with the types of a row, where no fault was told of its declarations. Whether it was told.
+    fn judge_types(&mut self, t: &mut Tale, row: usize) -> Result<bool, Memory> {
+        let count = t.len();
+        if !typing::type_clash(t, &self.scopes, row)? {
+            return Ok(false);
         }
-        if self.is_unclear(row) {
-            self.spoil(row)?;
-            return Ok(None);
+        if !self.is_blamed(t.src, row) {
+            self.blame(t.src, row);
+            return Ok(true);
         }
-        if let Some(told) = self.own_fault(row) {
-            self.spoil(row)?;
-            self.tries = self.tries.saturating_add(1);
-            return Ok(Some(told));
-        }
-        if self.loose {
-            return Ok(None);
-        }
-        self.judged(row)
+        t.keep(count);
+        self.tell_also(t, row);
+        Ok(false)
     }
 
-    /// Adds what is wrong with a row, where there is room for it and the same wasn't said before.
-    fn look_further(&mut self, row: usize, first: Option<&Told>) -> Result<(), Memory> {
-        if self.further.len() >= MOST_FURTHER || self.tries >= MOST_TRIES {
+    /// Adds a further clash of the same types to what was told of them first.
+    fn tell_also(&self, t: &mut Tale, row: usize) {
+        let src = t.src;
+        if !matches!(form_of(src, row), Form::Condition) || src.count(row) != 3 {
+            return;
+        }
+        let left = ty_of(src, &self.scopes, row, 0);
+        let right = ty_of(src, &self.scopes, row, 2);
+        let (Ty::Bits(left), Ty::Bits(right)) = (left, right) else {
+            return;
+        };
+        let pieces = [P::Toks(row, 0, 3), line(row), width(left), width(right)];
+        if let Some(of) = t.first_of("TypeClash", self.lead) {
+            t.also_of(of, "% on line % compares a % with a %", &pieces);
+        }
+    }
+
+    /// Whether what a row says can't be known: it goes on from the one before, or is a condition below a faulty row.
+    fn is_unclear(&self, src: &Source, row: usize) -> bool {
+        let below = match src.parent(row) {
+            Some(parent) => self.faulty.get(parent).copied().unwrap_or(false),
+            None => false,
+        };
+        goes_on(src, row) || (below && matches!(form_of(src, row), Form::Condition))
+    }
+
+    /// Tells what is wrong with a row.
+    fn row_fault(&mut self, t: &mut Tale, row: usize) -> Result<(), Memory> {
+        if t.src.is(row, 0, "PROC") {
             return Ok(());
         }
-        if let Some(found) = self.row_fault(row)? {
-            if !self.was_said(first, &found) {
-                self.further.push(found)?;
+        if self.is_unclear(t.src, row) {
+            return self.spoil(t, row);
+        }
+        if lexical::bytes_fault(t, &self.scopes, row) || syntax::words_fault(t, row) {
+            self.tries = self.tries.saturating_add(1);
+            return self.spoil(t, row);
+        }
+        if self.loose {
+            return Ok(());
+        }
+        self.judge(t, row)
+    }
+
+    /// Tells what is wrong with a row, where there is room for it and the same wasn't said before.
+    fn look_further(&mut self, t: &mut Tale, row: usize) -> Result<(), Memory> {
+        let count = t.len();
+        let most = MOST_FURTHER.saturating_add(usize::from(self.lead.is_some()));
+        if count >= most || self.tries >= MOST_TRIES {
+            return Ok(());
+        }
+        self.row_fault(t, row)?;
+        if t.len() > count && t.is_repeated() {
+            t.keep(count);
+        }
+        Ok(())
+    }
+
+    /// Tells why the text is refused, and notes what rests on that.
+    fn look_first(&mut self, t: &mut Tale, refused: Refused) -> Result<(), Memory> {
+        self.lead = Some(t.len());
+        first(t, &self.scopes, refused)?;
+        match refused.fault {
+            Fault::TypeClash => self.blame(t.src, refused.row),
+            Fault::Undeclared => self.spoil(t, refused.row)?,
+            _ => {}
+        }
+        Ok(())
+    }
+
+    /// Walks over the rows up to the end of the program.
+    fn go(&mut self, t: &mut Tale, refused: Refused) -> Result<(), Memory> {
+        let src = t.src;
+        let mut closed = false;
+        for row in 0..src.rows() {
+            if src.is_blank(row) {
+                continue;
+            }
+            self.scopes.enter(src, row);
+            if row == refused.row {
+                self.look_first(t, refused)?;
+            } else {
+                self.look_further(t, row)?;
+            }
+            self.scopes.pass(src, row)?;
+            closed = closed || (src.level(row) == 0 && src.is(row, 0, ":"));
+            if closed && row >= refused.row {
+                break;
             }
         }
         Ok(())
@@ -355,82 +364,55 @@ impl<'a> Walk<'a> {
 }
 
 /// Whether a fault is one of the row's own words.
-fn is_own(look: Look, refused: Refused) -> bool {
+fn is_own(t: &mut Tale, refused: Refused) -> bool {
     match refused.fault {
         Fault::Form => {
-            Some(refused.row) != look.first() && syntax::words_fault(look, refused.row).is_some()
+            let own = Some(refused.row) != t.src.first() && syntax::words_fault(t, refused.row);
+            t.keep(0);
+            own
         }
         Fault::Tab | Fault::OddIndent | Fault::Char | Fault::Number | Fault::Name => true,
         _ => false,
     }
 }
 
-/// What is told of a file of another kind where a program is wanted.
-fn another_kind(look: Look, row: usize, refused: Refused) -> Option<Told> {
-    let kind = TextKind::of(look.src);
-    if refused.row != row || matches!(kind, TextKind::Program | TextKind::Unknown) {
-        return None;
+/// What is told of a file of another kind where a program is wanted. Whether it was told.
+fn another_kind(t: &mut Tale, row: usize, refused: Refused) -> bool {
+    let kind = TextKind::of(t.src);
+    if refused.row != row || kind.is("program") || kind.is("unknown") {
+        return false;
     }
-    let mut told = Told::new(look.alloc, look.all(row), refused.words);
-    told.say("this is %, and no program", &[P::T(kind.word())]);
-    told.here("expected PROC, found %", &[P::T(kind.begins())]);
-    told.hint("it is for the command %", &[P::T(kind.taken_by())]);
-    Some(told)
+    t.error(At::All(row), refused.words);
+    t.say("this is %, and no program", &[P::T(kind.word)]);
+    t.here("expected PROC, found %", &[P::T(kind.begins)]);
+    t.hint("it is for the command %", &[P::T(kind.taken_by)]);
+    true
 }
 
-/// What is told of a text that is refused: the refusal's fault first, then further ones by their rows.
-pub fn errors(look: Look, refused: Refused) -> Result<Vec<Told>, Memory> {
-    let first = look.first().unwrap_or(0);
-    if let Some(told) = another_kind(look, first, refused) {
-        let mut all = Vec::new(look.alloc);
-        all.push(told)?;
-        return Ok(all);
+/// Tells why a text is refused, and further faults by their rows. It gives the number of what was told of the refusal.
+pub fn errors(t: &mut Tale, refused: Refused) -> Result<usize, Memory> {
+    let row = t.src.first().unwrap_or(0);
+    if another_kind(t, row, refused) {
+        return Ok(0);
     }
-    all_errors(look, refused)
-}
-
-fn all_errors(look: Look, refused: Refused) -> Result<Vec<Told>, Memory> {
-    let mut walk = Walk::new(look);
-    let own = is_own(look, refused);
-    walk.loose = matches!(refused.fault, Fault::Form) && !own;
-    if own {
-        walk.spoil(refused.row)?;
-    }
-    let mut told: Option<Told> = None;
-    let mut closed = false;
-    let rows = look.src.rows();
-    for row in 0..rows {
-        if look.src.is_blank(row) {
-            continue;
-        }
-        walk.scopes.enter(look, row);
-        if row == refused.row {
-            let found = first(look, &walk.scopes, refused)?;
-            if matches!(refused.fault, Fault::TypeClash) {
-                walk.blame(row);
-            }
-            if matches!(refused.fault, Fault::Undeclared) {
-                walk.spoil(row)?;
-            }
-            told = Some(found);
-        } else {
-            walk.look_further(row, told.as_ref())?;
-        }
-        walk.scopes.pass(look, row)?;
-        closed = closed || (look.src.level(row) == 0 && matches!(look.form(row), Form::Close));
-        if closed && row >= refused.row {
-            break;
-        }
-    }
-    let lead = match told {
-        Some(found) => found,
-        None => first(look, &walk.scopes, refused)?,
+    let own = is_own(t, refused);
+    let mut walk = Walk {
+        scopes: Scopes::new(t.alloc),
+        spoilt: IndexSet::new(t.alloc),
+        faulty: Vec::new(t.alloc),
+        tries: 0,
+        loose: matches!(refused.fault, Fault::Form) && !own,
+        lead: None,
     };
-    let mut all = Vec::new(look.alloc);
-    all.push(lead)?;
-    let Walk { further, .. } = walk;
-    for found in further {
-        all.push(found)?;
+    if own {
+        walk.spoil(t, refused.row)?;
     }
-    Ok(all)
+    walk.go(t, refused)?;
+    match walk.lead {
+        Some(lead) => Ok(lead),
+        None => {
+            first(t, &walk.scopes, refused)?;
+            Ok(t.len().saturating_sub(1))
+        }
+    }
 }

@@ -1,226 +1,275 @@
-//! The first token of a row that can't stand there.
+//! The first token of a row that can't stand there. Each function here says whether it told of a fault.
 
-use crate::expr::item_end;
-use crate::header::{at_tok, at_type, no_of};
-use crate::look::{Below, Form, Look, foreign, reserved, width_of};
-use crate::operators::expression;
+use crate::expr::{end_of, item_end, read};
+use crate::header::{at_type, no_of};
+use crate::look::{Below, Form, foreign, form_of, here, place, reserved, width_of};
+use crate::operators::bad_expression;
 use indexmap::IndexSet;
-use occ_check_text::{Piece as P, TokKind, Told};
+use occ_check_text::{At, Piece as P, Source, Tale, Words, behind, is_among};
+
+/// An error of form at a token: its sentence, what is expected there, and its hint, with the pieces of sentence and hint. It was told.
+pub fn at(t: &mut Tale, row: usize, i: usize, words: Words, pieces: &[P]) -> bool {
+    let (sentence, expected, hint) = words;
+    t.tell(At::Tok(row, i), "Form", sentence, pieces);
+    here(t, row, i, expected);
+    t.hint(hint, behind(sentence, pieces));
+    true
+}
+
+/// An error of form at a place: its sentence, what is said there and its hint, with the pieces in order. It was told.
+pub fn form_at(t: &mut Tale, place: At, words: Words, pieces: &[P]) -> bool {
+    t.whole(place, "Form", words, pieces)
+}
 
 /// What is wrong with the words of a row that is no header.
-pub fn words_fault(look: Look, row: usize) -> Option<Told> {
-    if let Some(told) = strange_word(look, row) {
-        return Some(told);
+pub fn words_fault(t: &mut Tale, row: usize) -> bool {
+    if strange_word(t, row) {
+        return true;
     }
-    match look.form(row) {
-        Form::Blank | Form::Header => None,
-        Form::Close | Form::Skip | Form::Stop => nothing_more(look, row, 1),
-        Form::Seq | Form::Par | Form::If | Form::Alt => replicator(look, row),
-        Form::Declare => declaration(look, row),
-        Form::Assign => assignment(look, row),
-        Form::Guard => guard(look, row),
-        Form::Input | Form::Output => message(look, row, 0),
-        Form::Condition => condition(look, row),
+    match form_of(t.src, row) {
+        Form::Blank | Form::Header => false,
+        Form::Close | Form::Skip | Form::Stop => nothing_more(t, row, 1),
+        Form::Seq | Form::Par | Form::If | Form::Alt => replicator(t, row),
+        Form::Declare => declaration(t, row),
+        Form::Assign => assignment(t, row),
+        Form::Guard => guard(t, row),
+        Form::Input | Form::Output => message(t, row, 0),
+        Form::Condition => condition(t, row),
     }
 }
 
 /// What stands in a place, as it is told behind *expected*.
-fn wanted(look: Look, row: usize) -> &'static str {
-    match look.place(row) {
+fn wanted(src: &Source, row: usize) -> &'static str {
+    match place(src, row) {
         Below::Choice | Below::Choices => "a condition",
         Below::Branch | Below::Branches => "a guard",
         _ => "a process",
     }
 }
 
+/// Whether a row stands where a process should.
+fn is_slot(src: &Source, row: usize) -> bool {
+    matches!(place(src, row), Below::Nothing | Below::Slot | Below::Slots)
+}
+
 /// A row that begins with a word of another language, or with a reserved word in small letters.
-fn strange_word(look: Look, row: usize) -> Option<Told> {
-    let src = look.src;
-    let (text, next) = (src.text_of(row, 0), src.text_of(row, 1));
-    if !matches!(src.tok(row, 0).kind, TokKind::Name)
-        || matches!(next, b":=" | b"?" | b"!" | b"[" | b",")
-    {
-        return None;
+fn strange_word(t: &mut Tale, row: usize) -> bool {
+    let src = t.src;
+    if !src.is_name(row, 0) || src.is_one(row, 1, ":= ? ! [ ,") {
+        return false;
     }
-    let wants = wanted(look, row);
-    if matches!(text, b"ELSE" | b"OTHERWISE") && wants == "a condition" {
-        return None;
+    let choice = matches!(place(src, row), Below::Choice | Below::Choices);
+    if choice && src.is_one(row, 0, "ELSE OTHERWISE") {
+        return false;
     }
+    let wants = wanted(src, row);
+    let text = src.text_of(row, 0);
     if let Some((is_type, hint)) = foreign(text) {
         let wants = if is_type {
             "BOOL or WORD1 to WORD8"
         } else {
             wants
         };
-        return Some(foreign_row(look, row, wants, hint));
+        return foreign_row(t, row, wants, hint);
     }
-    let word = reserved(text).filter(|_| !matches!(next, b"=" | b"&"))?;
-    let words = ("reserved words are capitals", wants, "write %");
-    Some(at_tok(look, (row, 0), words, &[P::T(word)]))
-}
-
-fn foreign_row(look: Look, row: usize, wants: &str, hint: &str) -> Told {
-    let text = look.src.text_of(row, 0);
-    match text {
-        b"TIMER" => {
-            let said = "there are no timers in this language";
-            at_tok(
-                look,
-                (row, 0),
-                (said, "a process or a declaration", hint),
-                &[],
+    match reserved(text) {
+        Some(word) if !src.is_one(row, 1, "= &") => {
+            at(
+                t,
+                row,
+                0,
+                ("reserved words are capitals", wants, "write %"),
+                &[P::T(word)],
             )
         }
-        b"VAL" => abbreviation(look, row),
-        _ => at_tok(
-            look,
-            (row, 0),
-            ("% isn't in this language", wants, hint),
-            &[P::B(text)],
-        ),
+        _ => false,
     }
 }
 
-fn abbreviation(look: Look, row: usize) -> Told {
-    let src = look.src;
+fn foreign_row(t: &mut Tale, row: usize, wants: &'static str, hint: &'static str) -> bool {
+    if t.src.is(row, 0, "VAL") {
+        return abbreviation(t, row);
+    }
+    if t.src.is(row, 0, "TIMER") {
+        let said = "there are no timers in this language";
+        return at(t, row, 0, (said, "a process or a declaration", hint), &[]);
+    }
+    at(
+        t,
+        row,
+        0,
+        ("% isn't in this language", wants, hint),
+        &[P::Tok(row, 0)],
+    )
+}
+
+fn abbreviation(t: &mut Tale, row: usize) -> bool {
+    let src = t.src;
+    let count = src.count(row);
     let is = src.find(row, 0, "IS");
-    let end = src
-        .find(row, is.unwrap_or(0), ":")
-        .unwrap_or(src.count(row));
-    let at = is.unwrap_or(0);
+    let from = is.unwrap_or(0);
+    let end = src.find(row, from, ":").unwrap_or(count);
+    let hint = if is.is_some() {
+        "write % in place of %"
+    } else {
+        "write the value in place of the name"
+    };
     let words = (
         "there are no abbreviations in this language",
         "expected a process or a declaration, found VAL",
-        if is.is_some() {
-            "write % in place of %"
-        } else {
-            "write the value in place of the name"
-        },
+        hint,
     );
-    let value = P::B(src.between(row, at.saturating_add(1), end));
-    let name = P::B(src.text_of(row, at.saturating_sub(1)));
-    let whole = src.find(row, 0, ":").unwrap_or(src.count(row));
-    look.whole(look.toks(row, 0, whole), "Form", words, &[value, name])
+    let pieces = [
+        P::Toks(row, from.saturating_add(1), end),
+        P::Tok(row, from.saturating_sub(1)),
+    ];
+    let whole = src.find(row, 0, ":").unwrap_or(count);
+    form_at(t, At::Toks(row, 0, whole), words, &pieces)
 }
 
 /// A row whose words end in front of a token has something behind them.
-fn nothing_more(look: Look, row: usize, i: usize) -> Option<Told> {
-    if look.src.count(row) <= i {
-        return None;
+fn nothing_more(t: &mut Tale, row: usize, i: usize) -> bool {
+    if t.src.count(row) <= i {
+        return false;
     }
-    let word = look.src.text_of(row, i.saturating_sub(1));
     let words = ("something stands behind %", "the end of the line", "");
-    Some(at_tok(look, (row, i), words, &[P::B(word)]))
+    at(t, row, i, words, &[P::Tok(row, i.saturating_sub(1))])
 }
 
-/// SEQ, PAR, IF or ALT with something behind it that is no replicator.
-fn replicator(look: Look, row: usize) -> Option<Told> {
-    let src = look.src;
-    if src.count(row) <= 1 {
-        return None;
+/// What a token is to be.
+#[derive(Clone, Copy)]
+enum Want {
+    Name,
+    Numeral,
+    Sign(&'static str),
+}
+
+fn is_wanted(src: &Source, row: usize, i: usize, want: Want) -> bool {
+    match want {
+        Want::Name => src.is_name(row, i),
+        Want::Numeral => src.is_numeral(row, i),
+        Want::Sign(sign) => src.is(row, i, sign),
     }
-    let word = P::B(src.text_of(row, 0));
-    if !matches!(src.tok(row, 1).kind, TokKind::Name) {
-        let words = (
+}
+
+/// The tokens of a replicator behind its first word, and what is told where one is missing.
+const REPLICATOR: [(Want, Words); 5] = [
+    (
+        Want::Name,
+        (
             "something stands behind %",
             "the end of the line, or a replicator",
             "",
-        );
-        return Some(at_tok(look, (row, 1), words, &[word]));
-    }
-    if !src.is(row, 2, "=") {
-        let words = ("a replicator lacks its =", "=", "write % % = 0 FOR 4");
-        return Some(at_tok(look, (row, 2), words, &[word, P::B(src.text_of(row, 1))]));
-    }
-    if !matches!(src.tok(row, 3).kind, TokKind::Numeral) {
-        let words = (
+        ),
+    ),
+    (
+        Want::Sign("="),
+        ("a replicator lacks its =", "=", "write % % = 0 FOR 4"),
+    ),
+    (
+        Want::Numeral,
+        (
             "the base of a replicator is a numeral",
             "a numeral",
             "begin at a numeral, and let an IF in the body skip the first ones",
-        );
-        return Some(at_tok(look, (row, 3), words, &[]));
-    }
-    if !src.is(row, 4, "FOR") {
-        let words = (
+        ),
+    ),
+    (
+        Want::Sign("FOR"),
+        (
             "a replicator lacks its FOR",
             "FOR",
             "write % FOR and how many",
-        );
-        return Some(at_tok(look, (row, 4), words, &[P::B(src.between(row, 0, 4))]));
-    }
-    if !matches!(src.tok(row, 5).kind, TokKind::Numeral) {
-        let words = (
+        ),
+    ),
+    (
+        Want::Numeral,
+        (
             "the count of a replicator is a numeral",
             "a numeral from 0 to 64",
             "take the greatest count, and let an IF in the body skip the rest",
-        );
-        return Some(at_tok(look, (row, 5), words, &[]));
+        ),
+    ),
+];
+
+/// SEQ, PAR, IF or ALT with something behind it that is no replicator.
+fn replicator(t: &mut Tale, row: usize) -> bool {
+    let src = t.src;
+    if src.count(row) <= 1 {
+        return false;
     }
-    if src.count(row) > 6 {
-        let words = (
-            "something stands behind the replicator",
-            "the end of the line",
-            "",
-        );
-        return Some(at_tok(look, (row, 6), words, &[]));
+    let mut i = 1;
+    for (want, words) in &REPLICATOR {
+        if !is_wanted(src, row, i, *want) {
+            let first = if i == 4 {
+                P::Toks(row, 0, 4)
+            } else {
+                P::Tok(row, 0)
+            };
+            return at(t, row, i, *words, &[first, P::Tok(row, 1)]);
+        }
+        i = i.saturating_add(1);
     }
-    None
+    if src.count(row) <= 6 {
+        return false;
+    }
+    let words = (
+        "something stands behind the replicator",
+        "the end of the line",
+        "",
+    );
+    at(t, row, 6, words, &[])
 }
 
 /// A declaration.
-fn declaration(look: Look, row: usize) -> Option<Told> {
-    let src = look.src;
+fn declaration(t: &mut Tale, row: usize) -> bool {
+    let src = t.src;
     let mut i = 0;
     if src.is(row, 0, "[") {
-        if !matches!(src.tok(row, 1).kind, TokKind::Numeral) {
+        if !src.is_numeral(row, 1) {
             let words = (
                 "the count of an array is a numeral",
                 "a numeral from 1 to 64",
                 "",
             );
-            return Some(at_tok(look, (row, 1), words, &[]));
+            return at(t, row, 1, words, &[]);
         }
         if !src.is(row, 2, "]") {
-            return Some(at_tok(
-                look,
-                (row, 2),
-                ("the ] of a count is missing", "]", ""),
-                &[],
-            ));
+            return at(t, row, 2, ("the ] of a count is missing", "]", ""), &[]);
         }
         i = 3;
     }
     if src.is(row, i, "CHAN") {
         if !src.is(row, i.saturating_add(1), "OF") {
-            return Some(no_of(look, row, i));
+            return no_of(t, row, i);
         }
         i = i.saturating_add(2);
     }
     if width_of(src.text_of(row, i)).is_none() {
-        return Some(at_type(look, row, i, "BOOL or WORD1 to WORD8"));
+        return at_type(t, row, i, "BOOL or WORD1 to WORD8");
     }
     let names = i.saturating_add(1);
     let Some(colon) = src.find(row, i, ":") else {
-        return Some(open_declaration(look, row, names));
+        return open_declaration(t, row, names);
     };
-    if let Some(told) = declared_names(look, row, names, colon) {
-        return Some(told);
+    if declared_names(t, row, names, colon) {
+        return true;
     }
     let next = colon.saturating_add(1);
-    if next < src.count(row) {
-        let words = (
-            "text behind a declaration",
-            "the end of the line",
-            "what it governs stands on the next line, at the same level",
-        );
-        return Some(at_tok(look, (row, next), words, &[]));
+    if next >= src.count(row) {
+        return false;
     }
-    None
+    let words = (
+        "text behind a declaration",
+        "the end of the line",
+        "what it governs stands on the next line, at the same level",
+    );
+    at(t, row, next, words, &[])
 }
 
 /// A declaration without its colon.
-fn open_declaration(look: Look, row: usize, names: usize) -> Told {
-    let src = look.src;
+fn open_declaration(t: &mut Tale, row: usize, names: usize) -> bool {
+    let src = t.src;
     let end = src.count(row);
     if let Some(becomes) = src.find(row, names, ":=") {
         let words = (
@@ -228,24 +277,19 @@ fn open_declaration(look: Look, row: usize, names: usize) -> Told {
             ":",
             "end it with :, and write % := % below it",
         );
-        let value = P::B(src.between(row, becomes.saturating_add(1), end));
-        return at_tok(
-            look,
-            (row, becomes),
-            words,
-            &[P::B(src.text_of(row, names)), value],
-        );
+        let value = P::Toks(row, becomes.saturating_add(1), end);
+        return at(t, row, becomes, words, &[P::Tok(row, names), value]);
     }
-    if let Some(told) = declared_names(look, row, names, end) {
-        return told;
+    if declared_names(t, row, names, end) {
+        return true;
     }
     let words = ("this declaration has no : behind it", ": ", "write %:");
-    at_tok(look, (row, end), words, &[P::B(src.between(row, 0, end))])
+    at(t, row, end, words, &[P::Toks(row, 0, end)])
 }
 
 /// The names of a declaration between two tokens.
-fn declared_names(look: Look, row: usize, from: usize, to: usize) -> Option<Told> {
-    let src = look.src;
+fn declared_names(t: &mut Tale, row: usize, from: usize, to: usize) -> bool {
+    let src = t.src;
     let mut wants_name = true;
     let mut next = from;
     for i in from..to {
@@ -254,59 +298,53 @@ fn declared_names(look: Look, row: usize, from: usize, to: usize) -> Option<Told
         }
         if !wants_name {
             if !src.is(row, i, ",") {
-                return Some(unfit_behind(look, row, i));
+                return unfit_behind(t, row, i);
             }
             wants_name = true;
             continue;
         }
-        if !matches!(src.tok(row, i).kind, TokKind::Name) {
-            return Some(no_name(look, row, i));
+        if !src.is_name(row, i) {
+            return no_name(t, row, i);
         }
-        next = i.saturating_add(if src.is(row, i.saturating_add(1), "[") {
-            4
-        } else {
-            1
-        });
+        let indexed = src.is(row, i.saturating_add(1), "[");
+        next = i.saturating_add(if indexed { 4 } else { 1 });
         wants_name = false;
     }
-    if wants_name {
-        return Some(no_name(look, row, to));
-    }
-    None
+    wants_name && no_name(t, row, to)
 }
 
-fn no_name(look: Look, row: usize, i: usize) -> Told {
-    at_tok(
-        look,
-        (row, i),
-        ("a declaration lacks a name", "a name", ""),
-        &[],
-    )
+fn no_name(t: &mut Tale, row: usize, i: usize) -> bool {
+    at(t, row, i, ("a declaration lacks a name", "a name", ""), &[])
 }
 
-fn unfit_behind(look: Look, row: usize, i: usize) -> Told {
-    let hint = if matches!(look.src.text_of(row, i), b"?" | b"!") {
+fn unfit_behind(t: &mut Tale, row: usize, i: usize) -> bool {
+    let hint = if t.src.is_one(row, i, "? !") {
         "a mark stands behind parameters alone: take it away"
     } else {
         ""
     };
-    let words = ("this can't stand behind a declared name", ", or :", hint);
-    at_tok(look, (row, i), words, &[])
+    at(
+        t,
+        row,
+        i,
+        ("this can't stand behind a declared name", ", or :", hint),
+        &[],
+    )
 }
 
 /// An item that fills the tokens between two places.
-fn item(look: Look, row: usize, from: usize, to: usize, what: &str) -> Option<Told> {
-    if from >= to || !matches!(look.src.tok(row, from).kind, TokKind::Name) {
-        return Some(at_tok(look, (row, from), ("% is missing", what, ""), &[P::T(what)]));
+fn item(t: &mut Tale, row: usize, from: usize, to: usize, what: &'static str) -> bool {
+    if from >= to || !t.src.is_name(row, from) {
+        return at(t, row, from, ("% is missing", what, ""), &[P::T(what)]);
     }
-    match item_end(look, row, from) {
-        Ok(end) if end == to => None,
+    match item_end(t.src, row, from) {
+        Ok(end) if end == to => false,
         Ok(end) if end < to => {
             let words = ("this can't stand behind %", "nothing more", "");
-            Some(at_tok(look, (row, end), words, &[P::T(what)]))
+            at(t, row, end, words, &[P::T(what)])
         }
-        Ok(_) => Some(index_fault(look, row, to)),
-        Err(at) => Some(index_fault(look, row, at)),
+        Ok(_) => index_fault(t, row, to),
+        Err(place) => index_fault(t, row, place),
     }
 }
 
@@ -315,85 +353,122 @@ pub const INDEX: &str =
     "an index is a numeral, a replicator's name, or that PLUS or MINUS a numeral";
 
 /// An index that has none of the forms.
-pub fn index_fault(look: Look, row: usize, at: usize) -> Told {
+pub fn index_fault(t: &mut Tale, row: usize, i: usize) -> bool {
     let words = (
         "this index has none of the forms",
         "PLUS, MINUS, a numeral or ]",
         INDEX,
     );
-    at_tok(look, (row, at), words, &[])
+    at(t, row, i, words, &[])
+}
+
+/// An expression between two tokens of a row.
+fn expression(t: &mut Tale, row: usize, from: usize, to: usize) -> bool {
+    let expr = read(t.alloc, t.src, row, from, to);
+    if expr.lost {
+        t.lose();
+        return true;
+    }
+    match expr.bad {
+        Some(bad) => bad_expression(t, row, to, bad),
+        None => false,
+    }
 }
 
 /// The number of groups between commas.
-fn groups(look: Look, row: usize, from: usize, to: usize) -> usize {
-    (from..to)
-        .filter(|i| look.src.is(row, *i, ","))
-        .count()
-        .saturating_add(1)
+fn groups(src: &Source, row: usize, from: usize, to: usize) -> usize {
+    let mut count: usize = 1;
+    for i in from..to {
+        if src.is(row, i, ",") {
+            count = count.saturating_add(1);
+        }
+    }
+    count
 }
 
 /// An assignment.
-fn assignment(look: Look, row: usize) -> Option<Told> {
-    let end = look.src.count(row);
-    let becomes = look.src.find(row, 0, ":=").unwrap_or(end);
-    if let Some(told) = each(look, row, (0, becomes), true) {
-        return Some(told);
-    }
+fn assignment(t: &mut Tale, row: usize) -> bool {
+    let src = t.src;
+    let end = src.count(row);
+    let becomes = src.find(row, 0, ":=").unwrap_or(end);
     let right = becomes.saturating_add(1);
-    if let Some(told) = each(look, row, (right, end), false) {
-        return Some(told);
+    if each(t, row, 0, becomes, true) || each(t, row, right, end, false) {
+        return true;
     }
-    let names = groups(look, row, 0, becomes);
-    let values = groups(look, row, right, end);
+    let names = groups(src, row, 0, becomes);
+    let values = groups(src, row, right, end);
     if names == values {
-        return same_name(look, row, becomes);
+        return same_name(t, row, becomes);
     }
-    Some(counts(look, row, becomes, names, values))
+    counts(t, row, becomes, names, values)
 }
 
-/// One name twice on the left.
-fn same_name(look: Look, row: usize, becomes: usize) -> Option<Told> {
-    let src = look.src;
-    let mut seen: IndexSet<Vec<u8>> = IndexSet::new(look.alloc);
-    for i in 0..becomes {
+/// The first name between two tokens that stands there before, with the place of the name before it: of the first one in a list with
+/// commas where `in_list`, else of any. It tells nothing.
+pub fn name_twice(
+    t: &mut Tale,
+    row: usize,
+    from: usize,
+    to: usize,
+    in_list: bool,
+) -> Option<(usize, usize)> {
+    let src = t.src;
+    let mut seen: IndexSet<Vec<u8>> = IndexSet::new(t.alloc);
+    let mut places: Vec<usize> = Vec::new(t.alloc);
+    for i in from..to {
         let begins = i == 0 || src.is(row, i.saturating_sub(1), ",");
-        if !begins || src.is(row, i.saturating_add(1), "[") {
+        let element = src.is(row, i.saturating_add(1), "[");
+        let counts = if in_list {
+            begins && !element
+        } else {
+            src.is_name(row, i)
+        };
+        if !counts {
             continue;
         }
-        let word = src.text_of(row, i);
-        if seen.get_index_of(word).is_some() {
-            let words = (
-                "% stands twice on the left",
-                "another variable",
-                "all values are assigned at once: each name takes one",
-            );
-            return Some(at_tok(look, (row, i), words, &[P::B(word)]));
+        let text = src.text_of(row, i);
+        if let Some(place) = seen.get_index_of(text) {
+            return Some((i, places.get(place).copied().unwrap_or(i)));
         }
-        let Ok(copy) = Vec::from_slice(look.alloc, word) else {
-            return Some(look.lost(row));
+        let Ok(copy) = Vec::from_slice(t.alloc, text) else {
+            t.lose();
+            return None;
         };
-        if seen.insert_full(copy).is_err() {
-            return Some(look.lost(row));
+        if seen.insert_full(copy).is_err() || places.push(i).is_err() {
+            t.lose();
+            return None;
         }
     }
     None
 }
 
+/// One name twice on the left.
+fn same_name(t: &mut Tale, row: usize, becomes: usize) -> bool {
+    let words = (
+        "% stands twice on the left",
+        "another variable",
+        "all values are assigned at once: each name takes one",
+    );
+    match name_twice(t, row, 0, becomes, true) {
+        Some((i, _)) => at(t, row, i, words, &[P::Tok(row, i)]),
+        None => false,
+    }
+}
+
 /// A number in words.
-fn count_word(count: usize) -> &'static str {
-    match count {
+fn count_word(count: usize) -> P<'static> {
+    P::T(match count {
         1 => "one",
         2 => "two",
         3 => "three",
         4 => "four",
         _ => "many",
-    }
+    })
 }
 
 /// Other numbers of names and of values.
-fn counts(look: Look, row: usize, becomes: usize, names: usize, values: usize) -> Told {
-    let src = look.src;
-    let end = src.count(row);
+fn counts(t: &mut Tale, row: usize, becomes: usize, names: usize, values: usize) -> bool {
+    let end = t.src.count(row);
     let right = becomes.saturating_add(1);
     let (name, expected, it) = if names == 1 {
         ("name", "expected % expression, found %", "it")
@@ -407,133 +482,140 @@ fn counts(look: Look, row: usize, becomes: usize, names: usize, values: usize) -
         "each name takes the value at its place",
     );
     let pieces = [
-        P::T(count_word(names)),
+        count_word(names),
         P::T(name),
-        P::T(count_word(values)),
+        count_word(values),
         P::T(value_word),
         P::T(it),
         P::N(names),
         P::N(values),
     ];
-    let mut told = look.whole(look.toks(row, right, end), "Form", words, &pieces);
-    told.mark(
-        look.toks(row, 0, becomes),
-        "% %",
-        &[P::N(names), P::T(name)],
-    );
+    form_at(t, At::Toks(row, right, end), words, &pieces);
+    t.mark(At::Toks(row, 0, becomes), "% %", &[P::N(names), P::T(name)]);
     if values == 1 && names < 8 {
-        let value = P::B(src.between(row, right, end));
-        told.hint(": % := %", &[P::B(src.between(row, 0, becomes)), value]);
+        let value = P::Toks(row, right, end);
+        t.hint(": % := %", &[P::Toks(row, 0, becomes), value]);
         for _ in 1..names {
-            told.hint(", %", &[value]);
+            t.hint(", %", &[value]);
         }
     }
-    told
+    true
 }
 
 /// Each group between commas as an item, or as an expression.
-fn each(look: Look, row: usize, span: (usize, usize), items: bool) -> Option<Told> {
-    let (from, to) = span;
+fn each(t: &mut Tale, row: usize, from: usize, to: usize, items: bool) -> bool {
+    let src = t.src;
     let mut start = from;
     for i in from..to.saturating_add(1) {
-        if i < to && !look.src.is(row, i, ",") {
+        if i < to && !src.is(row, i, ",") {
             continue;
         }
-        let fault = if items {
-            item(look, row, start, i, "a variable")
+        let told = if items {
+            item(t, row, start, i, "a variable")
         } else {
-            expression(look, row, start, i)
+            expression(t, row, start, i)
         };
-        if fault.is_some() {
-            return fault;
+        if told {
+            return true;
         }
         start = i.saturating_add(1);
     }
-    None
+    false
+}
+
+/// The mark of a communication, and whether it is that of an input.
+pub fn mark_of(src: &Source, row: usize, from: usize) -> Option<(usize, bool)> {
+    if let Some(query) = src.find(row, from, "?") {
+        return Some((query, true));
+    }
+    match src.find(row, from, "!") {
+        Some(mark) => Some((mark, false)),
+        None => None,
+    }
 }
 
 /// An input or an output that begins at a token.
-fn message(look: Look, row: usize, from: usize) -> Option<Told> {
-    let src = look.src;
-    let end = src.count(row);
-    let query = src.find(row, from, "?");
-    let Some(mark) = query.or_else(|| src.find(row, from, "!")) else {
+fn message(t: &mut Tale, row: usize, from: usize) -> bool {
+    let src = t.src;
+    let Some((mark, input)) = mark_of(src, row, from) else {
         let words = (
             "this guard waits for nothing",
             "an input, an output or SKIP",
             "write c ? x, c ! e or SKIP behind &",
         );
-        return Some(at_tok(look, (row, from), words, &[]));
+        return at(t, row, from, words, &[]);
     };
-    if let Some(told) = item(look, row, from, mark, "a channel") {
-        return Some(told);
-    }
-    if query.is_some() {
-        item(look, row, mark.saturating_add(1), end, "a variable")
+    let (next, end) = (mark.saturating_add(1), src.count(row));
+    if item(t, row, from, mark, "a channel") {
+        true
+    } else if input {
+        item(t, row, next, end, "a variable")
     } else {
-        expression(look, row, mark.saturating_add(1), end)
+        expression(t, row, next, end)
     }
 }
 
 /// A guard with its condition.
-fn guard(look: Look, row: usize) -> Option<Told> {
-    let and = look.src.find(row, 0, "&").unwrap_or(look.src.count(row));
-    if let Some(told) = expression(look, row, 0, and) {
-        return Some(told);
+fn guard(t: &mut Tale, row: usize) -> bool {
+    let src = t.src;
+    let and = src.find(row, 0, "&").unwrap_or(src.count(row));
+    if expression(t, row, 0, and) {
+        return true;
     }
     let next = and.saturating_add(1);
-    if look.src.is(row, next, "SKIP") {
-        nothing_more(look, row, next.saturating_add(1))
+    if src.is(row, next, "SKIP") {
+        nothing_more(t, row, next.saturating_add(1))
     } else {
-        message(look, row, next)
+        message(t, row, next)
     }
 }
 
 /// A row that is an expression alone: a condition, where its place has one.
-fn condition(look: Look, row: usize) -> Option<Told> {
-    let src = look.src;
-    let is_slot = wanted(look, row) == "a process";
-    let named = matches!(src.tok(row, 0).kind, TokKind::Name);
-    if is_slot && named {
-        if let Some(told) = half_process(look, row) {
-            return Some(told);
-        }
+fn condition(t: &mut Tale, row: usize) -> bool {
+    let src = t.src;
+    let slot = is_slot(src, row);
+    let named = src.is_name(row, 0);
+    if (slot && named && half_process(t, row)) || expression(t, row, 0, src.count(row)) {
+        return true;
     }
-    let bad = expression(look, row, 0, src.count(row));
-    if bad.is_some() || !is_slot {
-        return bad;
+    if !slot {
+        return false;
     }
     let hint = if named && src.count(row) == 1 {
         "nothing is called: write the body of % here"
     } else {
         ""
     };
-    let words = ("no process begins so", "a process", hint);
-    Some(at_tok(look, (row, 0), words, &[P::B(src.text_of(row, 0))]))
+    at(
+        t,
+        row,
+        0,
+        ("no process begins so", "a process", hint),
+        &[P::Tok(row, 0)],
+    )
 }
 
 /// A name in front, where a process should stand: a call, a comparison that is meant to assign, or a declaration without its type.
-fn half_process(look: Look, row: usize) -> Option<Told> {
-    let src = look.src;
-    let name = P::B(src.text_of(row, 0));
+fn half_process(t: &mut Tale, row: usize) -> bool {
+    let src = t.src;
+    let name = P::Tok(row, 0);
     if src.is(row, 1, "(") {
         let words = (
             "a call isn't in this language",
             "expected a process, found a name with (",
             "nothing is called: write the body of % here",
         );
-        return Some(look.whole(look.all(row), "Form", words, &[name]));
+        return form_at(t, At::All(row), words, &[name]);
     }
-    let end = item_end(look, row, 0).unwrap_or(1);
+    let end = end_of(src, row, 0);
     if src.is(row, end, "=") {
         let words = (
             "= compares, and doesn't assign",
             "expected := , ? or ! behind the name, found =",
             "write % := %",
         );
-        let value = P::B(src.between(row, end.saturating_add(1), src.count(row)));
-        let pieces = [P::B(src.between(row, 0, end)), value];
-        return Some(look.whole(look.tok(row, end), "Form", words, &pieces));
+        let value = P::Toks(row, end.saturating_add(1), src.count(row));
+        return form_at(t, At::Tok(row, end), words, &[P::Toks(row, 0, end), value]);
     }
     if src.is(row, end, ":") {
         let words = (
@@ -541,7 +623,7 @@ fn half_process(look: Look, row: usize) -> Option<Told> {
             "a process or a declaration",
             "write WORD4 %: for values from 0 to 15",
         );
-        return Some(at_tok(look, (row, 0), words, &[name]));
+        return at(t, row, 0, words, &[name]);
     }
-    None
+    false
 }

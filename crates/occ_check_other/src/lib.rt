@@ -1,16 +1,16 @@
-//! What is told beside a refused program's errors: warnings of an accepted one, and the other texts that are refused.
+//! What is told beside the errors of a refused program: of an accepted program what surely was meant otherwise, and of a text of another
+//! kind why it is refused.
 #![tactic(auto)]
 
 mod choices;
-mod explain;
 mod lines;
 mod told;
 mod uses;
 mod values;
 mod warn;
 
-pub use explain::explained;
 pub use occ_check_find::{
-    Lead, Look, Piece, Put, Refused, Source, errors, refusal_text, said_of, write_all,
+    Lead, Memory, Refused, Said, Source, Tale, errors, refusal_text, said_of,
 };
-pub use warn::{count_parts, warnings};
+pub use told::explained;
+pub use warn::accepted;

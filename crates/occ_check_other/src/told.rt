@@ -2,61 +2,98 @@
 
 use crate::lines::wanted_line;
 use occ_check_find::{
-    Fault, Limit, Look, Memory, Piece as P, Refused, Source, TextKind, Told, errors, words_fault,
+    At, Fault, Lead, Limit, Memory, Piece as P, Refused, Said, Source, Tale, TextKind, errors,
+    first_word, refusal_text, said_of, words_fault,
 };
+use std::alloc::Global;
+
+/// The number that decimal digits write.
+fn number_in(digits: &[u8]) -> u32 {
+    let mut number: u32 = 0;
+    for digit in digits {
+        let value = u32::from(digit.saturating_sub(b'0'));
+        number = number.saturating_mul(10).saturating_add(value);
+    }
+    number
+}
+
+/// What is told of a text in a file of that name, which was refused: its refusal, explained. That is given by the kind of text that was
+/// wanted, the line and the words for the fault, as `script 3 Form`.
+pub fn explained(alloc: Global, name: &str, refusal: &str, text: &[u8]) -> Result<Vec<u8>, Memory> {
+    let file = name.as_bytes();
+    let (kind, rest) = first_word(refusal.as_bytes());
+    let (number, words) = first_word(rest);
+    let line = number_in(number);
+    let said = other_error(
+        alloc,
+        file,
+        text,
+        TextKind::named(kind),
+        Refused::on(line, words),
+        line,
+    )?;
+    refusal_text(alloc, file, Lead { line, words }, &said)
+}
 
 /// What is told of a text that is refused, where a text of that kind is wanted. Programs inside scripts are explained as
 /// programs.
-pub(crate) fn other_error(
-    look: Look,
+fn other_error(
+    alloc: Global,
+    file: &[u8],
     text: &[u8],
     wanted: TextKind,
     refused: Refused,
-) -> Result<Vec<Told>, Memory> {
-    let kind = TextKind::of(look.src);
-    let first = look.first().unwrap_or(0);
-    let mut all = Vec::new(look.alloc);
-    if refused.row == 0 && matches!(refused.fault, Fault::Over(Limit::Bytes)) {
-        all.push(too_long(look, wanted, refused))?;
-        return Ok(all);
-    }
-    if kind != wanted && refused.row <= first {
-        all.push(of_another_kind(look, first, (kind, wanted), refused))?;
-        return Ok(all);
-    }
-    if matches!(wanted, TextKind::Script) {
-        if let Some((from, to)) = program_around(look, refused.row) {
-            let part = Source::read_part(look.alloc, text, from, to)?;
-            let inner = Look {
-                alloc: look.alloc,
-                src: &part,
-            };
-            return errors(inner, refused);
+    line: u32,
+) -> Result<Said, Memory> {
+    let source = Source::read(alloc, text)?;
+    let mut tale = Tale::new(alloc, &source);
+    if !is_another(&mut tale, wanted, refused) {
+        if wanted.is("script") {
+            if let Some((from, to)) = program_around(&source, refused.row) {
+                let part = Source::read_part(alloc, text, from, to)?;
+                let mut inner = Tale::new(alloc, &part);
+                let lead = errors(&mut inner, refused)?;
+                return said_of(&inner, file, lead, line);
+            }
         }
+        tell_line(&mut tale, wanted, refused);
     }
-    let formless = matches!(refused.fault, Fault::Form) && look.src.level(refused.row) > 0;
-    let told = if formless {
-        words_fault(look, refused.row)
-    } else {
-        None
-    };
-    all.push(match told {
-        Some(told) => told,
-        None => of_line(look, wanted, refused),
-    })?;
-    Ok(all)
+    said_of(&tale, file, 0, line)
+}
+
+/// A file that is too long, or of another kind than the one that is wanted. Whether it was told.
+fn is_another(t: &mut Tale, wanted: TextKind, refused: Refused) -> bool {
+    if refused.row == 0 && matches!(refused.fault, Fault::Over(Limit::Bytes)) {
+        too_long(t, wanted, refused);
+        return true;
+    }
+    let kind = TextKind::of(t.src);
+    let first = t.src.first().unwrap_or(0);
+    let other = !kind.is(wanted.name) && refused.row <= first;
+    if other {
+        of_another_kind(t, first, kind, wanted, refused);
+    }
+    other
+}
+
+/// What is told of a line.
+fn tell_line(t: &mut Tale, wanted: TextKind, refused: Refused) {
+    let formless = matches!(refused.fault, Fault::Form) && t.src.level(refused.row) > 0;
+    if !formless || !words_fault(t, refused.row) {
+        of_line(t, wanted, refused);
+    }
 }
 
 /// The rows of the program of a script in which a row stands.
-fn program_around(look: Look, row: usize) -> Option<(usize, usize)> {
+fn program_around(src: &Source, row: usize) -> Option<(usize, usize)> {
     let mut from = None;
-    let mut to = look.src.rows();
-    for r in 0..look.src.rows() {
-        if look.src.level(r) > 0 || look.src.is_blank(r) {
+    let mut to = src.rows();
+    for r in 0..src.rows() {
+        if src.level(r) > 0 || src.is_blank(r) {
             continue;
         }
-        let opens = matches!(look.src.text_of(r, 0), b"FROM" | b"TO") && look.src.count(r) == 1;
-        let ends = opens || look.src.is(r, 0, "STEP");
+        let opens = src.count(r) == 1 && src.is_one(r, 0, "FROM TO");
+        let ends = opens || src.is(r, 0, "STEP");
         if r > row && ends {
             to = r;
             break;
@@ -69,88 +106,100 @@ fn program_around(look: Look, row: usize) -> Option<(usize, usize)> {
             };
         }
     }
-    from.map(|found| (found, to))
+    match from {
+        Some(found) => Some((found, to)),
+        None => None,
+    }
 }
 
 /// A file that is too long.
-fn too_long(look: Look, kind: TextKind, refused: Refused) -> Told {
-    let most = match kind {
-        TextKind::Normal => 67_108_864,
-        TextKind::Script | TextKind::Orders => 4_194_304,
-        _ => 65_536,
+fn too_long(t: &mut Tale, kind: TextKind, refused: Refused) {
+    let most = if kind.is("normal") {
+        67_108_864
+    } else if kind.is("script") || kind.is("orders") {
+        4_194_304
+    } else {
+        65_536
     };
-    let mut told = Told::new(look.alloc, look.tok(0, 0), refused.words);
-    told.say("the file is too long", &[]);
-    told.here("expected at most % bytes", &[P::N(most)]);
-    told
+    t.error(At::Tok(0, 0), refused.words);
+    t.say("the file is too long", &[]);
+    t.here("expected at most % bytes", &[P::N(most)]);
 }
 
 /// A file of another kind than the one that is wanted.
-fn of_another_kind(look: Look, row: usize, kinds: (TextKind, TextKind), refused: Refused) -> Told {
-    let (kind, wanted) = kinds;
-    let mut told = Told::new(look.alloc, look.all(row), refused.words);
-    if matches!(kind, TextKind::Unknown) {
-        told.say("this isn't %", &[P::T(wanted.word())]);
-        told.here("expected %", &[P::T(wanted_line(look, wanted, 0))]);
-        return told;
+fn of_another_kind(t: &mut Tale, row: usize, kind: TextKind, wanted: TextKind, refused: Refused) {
+    t.error(At::All(row), refused.words);
+    if kind.is("unknown") {
+        let first = wanted_line(t.src, wanted, 0);
+        t.say("this isn't %", &[P::T(wanted.word)]);
+        return t.here("expected %", &[P::T(first)]);
     }
-    let (found, asked) = (P::T(kind.word()), P::T(wanted.word()));
-    told.say("this is %, and not %", &[found, asked]);
-    let (begins, begun) = (P::T(wanted.begins()), P::T(kind.begins()));
-    told.here("expected %, found %", &[begins, begun]);
-    told.hint("it is for the command %", &[P::T(kind.taken_by())]);
-    told
+    t.say(
+        "this is %, and not %",
+        &[P::T(kind.word), P::T(wanted.word)],
+    );
+    t.here(
+        "expected %, found %",
+        &[P::T(wanted.begins), P::T(kind.begins)],
+    );
+    t.hint("it is for the command %", &[P::T(kind.taken_by)]);
 }
 
 /// A line of a format.
-fn of_line(look: Look, kind: TextKind, refused: Refused) -> Told {
-    let mut told = Told::new(look.alloc, look.all(refused.row), refused.words);
-    match refused.words {
-        b"Version" => {
-            told.say("this text is of version 1", &[]);
-            told.here("expected %", &[P::T(kind.begins())]);
-            told.hint(
-                "make it again, or write its paths and laws by version 2 (docs/FORMATS.md)",
-                &[],
-            );
-        }
-        b"Order" => {
-            told.say("this line isn't in order", &[]);
-            told.here("expected a line behind the one before it", &[]);
-            told.hint(
-                "states go by their values from the left, events by the order of the parameters and then by value",
-                &[],
-            );
-        }
-        b"NotLeast" => {
-            told.say("this set isn't a least one", &[]);
-            told.here(
-                "expected a set within the row's offers that contains no other set of the row",
-                &[],
-            );
-        }
-        _ => plain_line(look, kind, refused.row, &mut told),
+fn of_line(t: &mut Tale, kind: TextKind, refused: Refused) {
+    t.error(At::All(refused.row), refused.words);
+    if refused.words == b"Version".as_slice() {
+        t.say("this text is of version 1", &[]);
+        t.here("expected %", &[P::T(kind.begins)]);
+        t.hint(
+            "make it again, or write its paths and laws by version 2 (docs/FORMATS.md)",
+            &[],
+        );
+    } else if refused.words == b"Order".as_slice() {
+        t.say("this line isn't in order", &[]);
+        t.here("expected a line behind the one before it", &[]);
+        t.hint(
+            "states go by their values from the left, events by the order of the parameters and then by value",
+            &[],
+        );
+    } else if refused.words == b"NotLeast".as_slice() {
+        t.say("this set isn't a least one", &[]);
+        t.here(
+            "expected a set within the row's offers that contains no other set of the row",
+            &[],
+        );
+    } else {
+        plain_line(t, kind, refused.row);
     }
-    told
 }
 
-fn plain_line(look: Look, kind: TextKind, row: usize, told: &mut Told) {
-    let wanted = wanted_line(look, kind, row);
-    told.here("expected %", &[P::T(wanted)]);
-    let first = look.src.text_of(row, 0);
+/// What is told of lines of a format by their first words.
+const HINTS: [(&str, &str); 3] = [
+    (
+        "REFUSES ACCEPT",
+        "a set has its events in the order of the program's parameters, and then by value, each once",
+    ),
+    (
+        "STATE ENDS END",
+        "a state has a value for each parameter variable, in order: FALSE is 0, TRUE is 1",
+    ),
+    (
+        "TRACE",
+        "an event is a channel parameter, its mark and a value of its type, as in?0",
+    ),
+];
+
+fn plain_line(t: &mut Tale, kind: TextKind, row: usize) {
+    let wanted = wanted_line(t.src, kind, row);
+    t.here("expected %", &[P::T(wanted)]);
+    let first = t.src.text_of(row, 0);
     if first.is_empty() || !wanted.as_bytes().starts_with(first) {
-        return told.say("another line is wanted here", &[]);
+        return t.say("another line is wanted here", &[]);
     }
-    told.say("this line isn't as its first word asks", &[]);
-    let hint = match first {
-        b"REFUSES" | b"ACCEPT" => {
-            "a set has its events in the order of the program's parameters, and then by value, each once"
+    t.say("this line isn't as its first word asks", &[]);
+    for (words, hint) in &HINTS {
+        if t.src.is_one(row, 0, words) {
+            t.hint(hint, &[]);
         }
-        b"STATE" | b"ENDS" | b"END" => {
-            "a state has a value for each parameter variable, in order: FALSE is 0, TRUE is 1"
-        }
-        b"TRACE" => "an event is a channel parameter, its mark and a value of its type, as in?0",
-        _ => "",
-    };
-    told.hint(hint, &[]);
+    }
 }

@@ -1,9 +1,8 @@
 //! Variables and channels whose uses are odd.
 
-use crate::choices::warning;
 use occ_check_find::{
-    Decl, Does, Form, Look, Memory, Piece as P, Put, Sort, Span, Told, Use, is_array, parts,
-    width_word,
+    At, Decl, Does, Form, Memory, Piece as P, Sort, Source, Tale, Use, declares, form_of, line,
+    parts, repeats, width,
 };
 
 /// The most rows around one that are looked at: there are levels for fewer.
@@ -11,7 +10,7 @@ const MOST_AROUND: usize = 100;
 
 /// What was seen of a declaration: its first use, its first output and input as a channel, and whether both ends stand in
 /// parts that run at once.
-#[derive(Clone, Copy, Debug)]
+#[derive(Clone, Copy)]
 pub struct Seen {
     first: Option<Use>,
     output: Option<Use>,
@@ -29,7 +28,7 @@ pub const UNSEEN: Seen = Seen {
 
 impl Seen {
     /// Sees one more use.
-    pub fn see(&mut self, look: Look, found: Use) {
+    pub fn see(&mut self, src: &Source, found: Use) {
         let other = match found.does {
             Does::InputsOn => {
                 self.input = self.input.or(Some(found));
@@ -42,46 +41,50 @@ impl Seen {
             _ => None,
         };
         if let Some(end) = other {
-            self.apart = self.apart || are_apart(look, end.row, found.row);
+            self.apart = self.apart || are_apart(src, end.row, found.row);
         }
-        if self.first.is_none_or(|before| is_before(found, before)) {
+        let sooner = match self.first {
+            // what stands on the right of an assignment is read first
+            Some(before) => {
+                before.row == found.row
+                    && before.does.changes()
+                    && matches!(found.does, Does::Reads)
+            }
+            None => true,
+        };
+        if sooner {
             self.first = Some(found);
         }
     }
 }
 
-/// Whether a use comes before one that stands in front of it: what stands on the right of an assignment is read first.
-fn is_before(found: Use, other: Use) -> bool {
-    other.row == found.row && other.does.changes() && matches!(found.does, Does::Reads)
-}
-
 /// The nearest row that two rows stand below, or one of them.
-fn around_both(look: Look, one: usize, two: usize) -> Option<usize> {
+fn around_both(src: &Source, one: usize, two: usize) -> Option<usize> {
     let (mut a, mut b) = (one, two);
-    for _ in 0..MOST_AROUND.saturating_mul(2) {
+    for _ in 0..200 {
         if a == b {
             break;
         }
-        if look.src.level(a) >= look.src.level(b) {
-            a = look.parent(a)?;
+        if src.level(a) >= src.level(b) {
+            a = src.parent(a)?;
         } else {
-            b = look.parent(b)?;
+            b = src.parent(b)?;
         }
     }
     Some(a)
 }
 
 /// Whether two rows stand in two parts of one PAR, or in copies of one.
-fn are_apart(look: Look, one: usize, two: usize) -> bool {
-    let Some(both) = around_both(look, one, two) else {
+fn are_apart(src: &Source, one: usize, two: usize) -> bool {
+    let Some(both) = around_both(src, one, two) else {
         return false;
     };
     let mut row = both;
     for _ in 0..MOST_AROUND {
-        if matches!(look.form(row), Form::Par) && (row == both || look.repeats(row)) {
+        if src.is(row, 0, "PAR") && (row == both || repeats(src, row)) {
             return true;
         }
-        match look.parent(row) {
+        match src.parent(row) {
             Some(up) => row = up,
             None => break,
         }
@@ -90,75 +93,68 @@ fn are_apart(look: Look, one: usize, two: usize) -> bool {
 }
 
 /// What is told of a declaration behind all of its uses.
-pub fn about(look: Look, decl: Decl, seen: Seen) -> Result<Option<Told>, Memory> {
-    if decl.is_param || matches!(decl.sort, Sort::Counter { .. }) {
-        return Ok(None);
+pub fn about(t: &mut Tale, decl: Decl, seen: Seen) -> Result<(), Memory> {
+    if decl.is_param || matches!(decl.sort, Sort::Counter(_, _)) {
+        return Ok(());
     }
     let Some(first) = seen.first else {
-        return Ok(Some(unused(look, decl)));
+        unused(t, decl);
+        return Ok(());
     };
-    if is_array(decl) {
-        return Ok(None);
+    if decl.is_array() {
+        return Ok(());
     }
-    Ok(match (decl.sort, seen.input, seen.output) {
+    match (decl.sort, seen.input, seen.output) {
         (Sort::Chan(_, _), Some(found), None) | (Sort::Chan(_, _), None, Some(found)) => {
-            Some(one_end(look, decl, found)?)
+            return one_end(t, decl, found);
         }
         (Sort::Chan(_, _), Some(input), Some(output)) if !seen.apart => {
-            Some(self_end(look, decl, input, output))
+            self_end(t, decl, input, output)
         }
         (Sort::Var(bits), _, _) if matches!(first.does, Does::Reads) => {
-            Some(read_first(look, decl, first, bits))
+            read_first(t, decl, first, bits)
         }
-        _ => None,
-    })
+        _ => {}
+    }
+    Ok(())
 }
 
 /// The name of a declaration.
-fn name_of<'a>(look: Look<'a>, decl: Decl) -> P<'a> {
-    P::B(look.src.text_of(decl.row, decl.tok))
-}
-
-/// The place of a declaration's name.
-fn place_of(look: Look, decl: Decl) -> Span {
-    look.tok(decl.row, decl.tok)
-}
-
-/// A warning at a place; its name is words and pieces.
-fn named(look: Look, place: Span, words: &str, pieces: &[P]) -> Told {
-    let mut told = warning(Told::new(look.alloc, place, b""));
-    told.fault.say(words, pieces);
-    told
+fn name_of(decl: Decl) -> P<'static> {
+    P::Tok(decl.row, decl.tok)
 }
 
 /// A declaration that isn't used.
-fn unused(look: Look, decl: Decl) -> Told {
-    let name = name_of(look, decl);
-    let mut told = named(look, place_of(look, decl), "Unused %", &[name]);
-    told.say("% is never used", &[name]);
-    told.here("declared here", &[]);
-    told.hint("take the declaration away", &[]);
+fn unused(t: &mut Tale, decl: Decl) {
+    let name = name_of(decl);
+    t.warning(At::Tok(decl.row, decl.tok), "Unused %", &[name]);
+    t.say("% is never used", &[name]);
+    t.here("declared here", &[]);
+    t.hint("take the declaration away", &[]);
     if let Sort::Var(bits) = decl.sort {
         let all = usize::from(bits.max(1)).saturating_mul(decl.count.max(1));
-        told.hint(
+        t.hint(
             ": it is % of the 24 bits that may be in scope",
             &[P::N(all)],
         );
     }
-    told
 }
 
 /// The nearest PAR around a row, and the place of the part in it that has the row.
-fn part_of(look: Look, row: usize) -> Result<Option<(usize, usize)>, Memory> {
+fn part_of(t: &Tale, row: usize) -> Result<Option<(usize, usize)>, Memory> {
     let mut at = row;
     for _ in 0..MOST_AROUND {
-        let Some(up) = look.parent(at) else {
+        let Some(up) = t.src.parent(at) else {
             return Ok(None);
         };
-        if matches!(look.form(up), Form::Par) {
-            let all = parts(look, up)?;
-            let before = all.iter().take_while(|part| part.last < row).count();
-            return Ok(Some((up, before)));
+        if t.src.is(up, 0, "PAR") {
+            let mut number = 0;
+            for (i, part) in parts(t, up)?.as_slice().iter().enumerate() {
+                if part.first <= row {
+                    number = i;
+                }
+            }
+            return Ok(Some((up, number)));
         }
         at = up;
     }
@@ -166,64 +162,62 @@ fn part_of(look: Look, row: usize) -> Result<Option<(usize, usize)>, Memory> {
 }
 
 /// A declared channel of which one end isn't used.
-fn one_end(look: Look, decl: Decl, found: Use) -> Result<Told, Memory> {
-    let name = name_of(look, decl);
+fn one_end(t: &mut Tale, decl: Decl, found: Use) -> Result<(), Memory> {
+    let src = t.src;
+    let name = name_of(decl);
     let (mark, said, does, own) = if matches!(found.does, Does::OutputsOn) {
-        ("?", "nothing inputs from ", " input from ", "output")
+        ("?", "nothing inputs from %", " input from ", "output")
     } else {
-        ("!", "nothing outputs on ", " output on ", "input")
+        ("!", "nothing outputs on %", " output on ", "input")
     };
-    let part = part_of(look, found.row)?;
-    let place = place_of(look, decl);
-    let mut told = named(look, place, "OneEnd % %", &[name, P::T(mark)]);
-    told.say("%%", &[P::T(said), name]);
-    told.here("% is declared here", &[name]);
-    let guard = look.src.find(found.row, 0, "&").is_some()
-        || look.last_below(found.row) > found.row;
-    let mut who = Put::new(look.alloc);
-    match part {
-        _ if guard => who.say("this guard is never ready", &[]),
-        Some((_, k)) => who.say("P% waits here for ever", &[P::N(k.saturating_add(1))]),
-        None => who.say("the program waits here for ever", &[]),
-    }
-    told.mark(look.all(found.row), "%", &[P::W(&who)]);
+    t.warning(
+        At::Tok(decl.row, decl.tok),
+        "OneEnd % %",
+        &[name, P::T(mark)],
+    );
+    t.say(said, &[name]);
+    t.here("% is declared here", &[name]);
+    let guard = src.find(found.row, 0, "&").is_some() || src.last_below(found.row) > found.row;
+    let part = part_of(t, found.row)?;
+    let (words, number) = match part {
+        _ if guard => ("this guard is never ready", 0),
+        Some((_, k)) => ("P% waits here for ever", k),
+        None => ("the program waits here for ever", 0),
+    };
+    t.mark(At::All(found.row), words, &[line(number)]);
     match part {
         Some((par, _)) => {
-            let line = P::N(par.saturating_add(1));
-            told.hint(
-                "let another part of the PAR on line %%%",
-                &[line, P::T(does), name],
-            );
+            let pieces = [line(par), P::T(does), name];
+            t.hint("let another part of the PAR on line %%%", &pieces);
         }
-        None => told.hint("let another part of a PAR%%", &[P::T(does), name]),
+        None => t.hint("let another part of a PAR%%", &[P::T(does), name]),
     }
-    told.hint(", or take the % away", &[P::T(own)]);
-    Ok(told)
+    t.hint(", or take the % away", &[P::T(own)]);
+    Ok(())
 }
 
 /// A declared channel whose both ends stand in one part.
-fn self_end(look: Look, decl: Decl, input: Use, output: Use) -> Told {
-    let name = name_of(look, decl);
-    let one = input.row.min(output.row);
-    let two = input.row.max(output.row);
-    let mut told = named(look, look.all(one), "SelfEnd %", &[name]);
-    told.say("both ends of % stand in one part", &[name]);
-    told.here("the program waits here for ever", &[]);
-    told.mark(look.all(two), "the other end is behind it", &[]);
-    told.hint(
-        "a communication takes two parts that run at once: PAR in place of SEQ",
+fn self_end(t: &mut Tale, decl: Decl, input: Use, output: Use) {
+    let name = name_of(decl);
+    t.warning(At::All(input.row.min(output.row)), "SelfEnd %", &[name]);
+    t.say("both ends of % stand in one part", &[name]);
+    t.here("the program waits here for ever", &[]);
+    t.mark(
+        At::All(input.row.max(output.row)),
+        "the other end is behind it",
         &[],
     );
-    told
+    let hint = "a communication takes two parts that run at once: PAR in place of SEQ";
+    t.hint(hint, &[]);
 }
 
 /// The process that a declaration governs.
-fn governed(look: Look, decl: Decl) -> usize {
+fn governed(src: &Source, decl: Decl) -> usize {
     let mut row = decl.row;
-    for r in decl.row.saturating_add(1)..look.src.rows() {
-        if !look.src.is_blank(r) {
+    for r in decl.row.saturating_add(1)..src.rows() {
+        if !src.is_blank(r) {
             row = r;
-            if !matches!(look.form(r), Form::Declare) {
+            if !declares(src, r) {
                 break;
             }
         }
@@ -232,14 +226,14 @@ fn governed(look: Look, decl: Decl) -> usize {
 }
 
 /// The row in front of which a variable would be set: that of the part of the governed SEQ that reads it.
-fn set_before(look: Look, decl: Decl, read: usize) -> usize {
-    let process = governed(look, decl);
-    if !matches!(look.form(process), Form::Seq) || look.repeats(process) {
+fn set_before(src: &Source, decl: Decl, read: usize) -> usize {
+    let process = governed(src, decl);
+    if !matches!(form_of(src, process), Form::Seq) || repeats(src, process) {
         return process;
     }
     let mut row = read;
     for _ in 0..MOST_AROUND {
-        match look.parent(row) {
+        match src.parent(row) {
             Some(up) if up == process => return row,
             Some(up) => row = up,
             None => break,
@@ -249,44 +243,42 @@ fn set_before(look: Look, decl: Decl, read: usize) -> usize {
 }
 
 /// The replicator around a read below the row in front of which the variable would be set.
-fn repeated(look: Look, row: usize, outer: usize) -> Option<usize> {
+fn repeated(src: &Source, row: usize, outer: usize) -> Option<usize> {
     let mut at = row;
     let mut found = None;
     for _ in 0..MOST_AROUND {
-        if look.repeats(at) {
+        if repeats(src, at) {
             found = Some(at);
         }
         if at == outer {
             break;
         }
-        at = look.parent(at)?;
+        at = src.parent(at)?;
     }
     found
 }
 
 /// A variable that is read before it is set.
-fn read_first(look: Look, decl: Decl, read: Use, bits: u8) -> Told {
-    let name = name_of(look, decl);
-    let mut told = named(
-        look,
-        look.tok(read.row, read.tok),
-        "ReadBeforeSet %",
-        &[name],
+fn read_first(t: &mut Tale, decl: Decl, read: Use, bits: u8) {
+    let name = name_of(decl);
+    t.warning(At::Tok(read.row, read.tok), "ReadBeforeSet %", &[name]);
+    t.say("% is read before it is set", &[name]);
+    t.mark(
+        At::Tok(decl.row, decl.tok),
+        "begins with any value of %",
+        &[width(bits)],
     );
-    told.say("% is read before it is set", &[name]);
-    let width = P::T(width_word(bits));
-    told.mark(place_of(look, decl), "begins with any value of %", &[width]);
-    let outer = set_before(look, decl, read.row);
-    match repeated(look, read.row, outer) {
+    let outer = set_before(t.src, decl, read.row);
+    match repeated(t.src, read.row, outer) {
         Some(row) => {
-            let counter = P::B(look.src.text_of(row, 1));
-            let base = P::B(look.src.text_of(row, 3));
-            told.here("read here first, where % = %", &[counter, base]);
+            let pieces = [P::Tok(row, 1), P::Tok(row, 3)];
+            t.here("read here first, where % = %", &pieces);
         }
-        None => told.here("read here first", &[]),
+        None => t.here("read here first", &[]),
     }
     let value = P::T(if bits == 0 { "FALSE" } else { "0" });
-    let line = P::N(outer.saturating_add(1));
-    told.hint("write % := % in front of line %", &[name, value, line]);
-    told
+    t.hint(
+        "write % := % in front of line %",
+        &[name, value, line(outer)],
+    );
 }

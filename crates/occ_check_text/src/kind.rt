@@ -2,83 +2,117 @@
 
 use crate::Source;
 
-/// A kind of text.
-#[derive(Clone, Copy, Debug, PartialEq, Eq)]
-pub enum TextKind {
-    Program,
-    Script,
-    Orders,
-    Normal,
-    Schedule,
-    Behaviour,
-    Unknown,
+/// A kind of text: the word that names it in a refusal, how the text begins, and what is said of it: the kind in words, the words with
+/// which such a text begins, and the command that takes it.
+#[derive(Clone, Copy)]
+pub struct TextKind {
+    pub name: &'static str,
+    opens: &'static str,
+    pub word: &'static str,
+    pub begins: &'static str,
+    pub taken_by: &'static str,
 }
+
+/// What is no text of the system.
+const UNKNOWN: TextKind = TextKind {
+    name: "unknown",
+    opens: "",
+    word: "no text of the system",
+    begins: "PROC",
+    taken_by: "check A",
+};
+
+/// A program.
+const PROGRAM: TextKind = TextKind {
+    name: "program",
+    opens: "PROC",
+    word: "a program",
+    begins: "PROC",
+    taken_by: "check A",
+};
+
+/// A behaviour.
+const BEHAVIOUR: TextKind = TextKind {
+    name: "behaviour",
+    opens: "STATE",
+    word: "a behaviour",
+    begins: "STATE",
+    taken_by: "belongs A T",
+};
+
+/// All kinds of text; a behaviour begins in two ways.
+const KINDS: [TextKind; 7] = [
+    TextKind {
+        name: "script",
+        opens: "occam-script",
+        word: "a script",
+        begins: "occam-script 2",
+        taken_by: "replay T",
+    },
+    TextKind {
+        name: "orders",
+        opens: "occam-orders",
+        word: "an orders text",
+        begins: "occam-orders 2",
+        taken_by: "transform A T",
+    },
+    TextKind {
+        name: "normal",
+        opens: "occam-normal",
+        word: "a normal text",
+        begins: "occam-normal 1",
+        taken_by: "normal T",
+    },
+    TextKind {
+        name: "schedule",
+        opens: "occam-schedule",
+        word: "a schedule",
+        begins: "occam-schedule 1",
+        taken_by: "run A T",
+    },
+    PROGRAM,
+    BEHAVIOUR,
+    TextKind {
+        name: "behaviour",
+        opens: "DIFFER",
+        word: "a behaviour",
+        begins: "STATE",
+        taken_by: "belongs A T",
+    },
+];
 
 impl TextKind {
     /// The kind of a text, by its first row that isn't blank.
     pub fn of(source: &Source) -> TextKind {
-        for row in 0..source.rows() {
-            if source.is_blank(row) {
-                continue;
-            }
-            let bytes = source.bytes(row, 0, source.row(row).code);
-            return TextKind::by_words(bytes, source.text_of(row, 0));
-        }
-        TextKind::Unknown
-    }
-
-    fn by_words(bytes: &[u8], first: &[u8]) -> TextKind {
-        if bytes.starts_with(b"occam-script") {
-            TextKind::Script
-        } else if bytes.starts_with(b"occam-orders") {
-            TextKind::Orders
-        } else if bytes.starts_with(b"occam-normal") {
-            TextKind::Normal
-        } else if bytes.starts_with(b"occam-schedule") {
-            TextKind::Schedule
-        } else {
-            match first {
-                b"PROC" => TextKind::Program,
-                b"STATE" | b"DIFFER" => TextKind::Behaviour,
-                _ => TextKind::Unknown,
+        let Some(row) = source.first() else {
+            return UNKNOWN;
+        };
+        let bytes = source.bytes(row, 0, source.row(row).code);
+        for (i, kind) in KINDS.iter().enumerate() {
+            let begins = if i < 4 {
+                bytes.starts_with(kind.opens.as_bytes())
+            } else {
+                source.is(row, 0, kind.opens)
+            };
+            if begins {
+                return *kind;
             }
         }
+        UNKNOWN
     }
 
-    /// The kind in words.
-    pub fn word(self) -> &'static str {
-        match self {
-            TextKind::Program => "a program",
-            TextKind::Script => "a script",
-            TextKind::Orders => "an orders text",
-            TextKind::Normal => "a normal text",
-            TextKind::Schedule => "a schedule",
-            TextKind::Behaviour => "a behaviour",
-            TextKind::Unknown => "no text of the system",
+    /// The kind that a word names; a program where it names none.
+    pub fn named(word: &[u8]) -> TextKind {
+        for kind in &KINDS {
+            if word == kind.name.as_bytes() {
+                return *kind;
+            }
         }
+        PROGRAM
     }
 
-    /// The words with which a text of that kind begins.
-    pub fn begins(self) -> &'static str {
-        match self {
-            TextKind::Program | TextKind::Unknown => "PROC",
-            TextKind::Script => "occam-script 2",
-            TextKind::Orders => "occam-orders 2",
-            TextKind::Normal => "occam-normal 1",
-            TextKind::Schedule => "occam-schedule 1",
-            TextKind::Behaviour => "STATE",
-        }
-    }
-
-    /// The command that takes a text of that kind, and its words.
-    pub fn taken_by(self) -> &'static str {
-        match self {
-            TextKind::Program | TextKind::Unknown => "check A",
-            TextKind::Script => "replay T",
-            TextKind::Orders => "transform A T",
-            TextKind::Normal => "normal T",
-            TextKind::Schedule => "run A T",
-            TextKind::Behaviour => "belongs A T",
-        }
+    /// Whether it is the kind of that name.
+    pub fn is(self, name: &str) -> bool {
+        self.name.as_bytes() == name.as_bytes()
     }
 }

@@ -3,13 +3,14 @@
 ghost use Rattle.std.specs.Prelude.{◌≡◌, ◌++◌, codes, decimal, replicate, [], IfOk, OnOk};
 ghost use Rattle.occ_check_text.specs.Lead.{Tells};
 
-use crate::told::{digits, write_body, write_marks, write_shown};
-use crate::{Piece as P, Put, Source, Told, write_all};
+use crate::Put;
+use crate::tale::{Slot, Tale};
+use crate::write::{digits, write_shown};
 use occ_lex::Memory;
 use std::alloc::Global;
 
 /// Why a text is refused: the line, counted from 1, and the words for the fault.
-#[derive(Clone, Copy, Debug)]
+#[derive(Clone, Copy)]
 pub struct Lead<'a> {
     pub line: u32,
     pub words: &'a [u8],
@@ -17,7 +18,7 @@ pub struct Lead<'a> {
 
 /// What is told behind the words of a refusal: its place, counted from 1, a sentence, the spaces in front of the number of the
 /// refusal's line where that is shown first, and all that stands behind them.
-#[derive(Debug, Drop)]
+#[derive(Drop)]
 pub struct Said {
     line: usize,
     column: usize,
@@ -26,58 +27,43 @@ pub struct Said {
     behind: Put,
 }
 
-/// What is told of all errors of a text that is refused on a line: the first of them is that of the refusal.
-pub fn said_of(
-    alloc: Global,
-    file: &[u8],
-    source: &Source,
-    all: &[Told],
-    line: u32,
-) -> Result<Said, Memory> {
-    let mut behind = Put::new(alloc);
-    let mut sentence = Put::new(alloc);
-    let (mut place, mut column, mut spaces) = (line as usize, 1, 1);
-    match all {
-        [first, rest @ ..] => {
-            place = first.place.row.saturating_add(1);
-            column = first.place.at.saturating_add(1);
-            sentence.join(&first.sentence);
-            if place == line as usize {
-                write_body(&mut behind, source, first, None);
-            } else {
-                let row = (line as usize).saturating_sub(1);
-                let width = digits(first.last_row().max(row).saturating_add(1));
-                spaces = width
-                    .saturating_sub(digits(line as usize))
-                    .saturating_add(1);
-                write_shown(&mut behind, source, row);
-                write_marks(&mut behind, source, first, row);
-                write_body(&mut behind, source, first, Some(row));
-            }
-            write_all(&mut behind, file, source, rest);
+impl Said {
+    /// Writes what stands behind the first line: the refusal's own line comes first.
+    fn write_behind(&mut self, tale: &Tale, of: usize, line: usize) {
+        if self.line == line {
+            return tale.write_body(&mut self.behind, of, None);
         }
-        [] => sentence.add(b"this line is refused"),
+        let row = line.saturating_sub(1);
+        let width = digits(tale.last_row(of).max(row).saturating_add(1));
+        self.spaces = width.saturating_sub(digits(line)).saturating_add(1);
+        write_shown(&mut self.behind, tale.src, row);
+        tale.write_marks(&mut self.behind, of, row);
+        tale.write_body(&mut self.behind, of, Some(row));
     }
-    let count = all.len().max(1);
-    behind.say(
-        "%%",
-        &[
-            P::N(count),
-            P::T(if count == 1 { " error: " } else { " errors: " }),
-        ],
-    );
-    behind.add(file);
-    behind.say(" is refused\n", &[]);
-    if sentence.lost || behind.lost {
+}
+
+/// What is told of all errors of a text that is refused on a line; the number of the one that is the refusal's is given.
+pub fn said_of(tale: &Tale, file: &[u8], of: usize, line: u32) -> Result<Said, Memory> {
+    let place = tale.told_of(of).place;
+    let mut said = Said {
+        line: place.row.saturating_add(1),
+        column: place.at.saturating_add(1),
+        sentence: Put::new(tale.alloc),
+        spaces: 1,
+        behind: Put::new(tale.alloc),
+    };
+    tale.write_words(&mut said.sentence, of, Slot::Sentence);
+    said.write_behind(tale, of, line as usize);
+    let count = tale.write(&mut said.behind, file, Some(of), tale.len());
+    said.behind.add_number(count.saturating_add(1));
+    let words = if count == 0 { " error: " } else { " errors: " };
+    said.behind.add(words.as_bytes());
+    said.behind.add(file);
+    said.behind.add(b" is refused\n");
+    if said.sentence.lost || said.behind.lost {
         return Err(Memory);
     }
-    Ok(Said {
-        line: place,
-        column,
-        sentence,
-        spaces,
-        behind,
-    })
+    Ok(said)
 }
 
 /// The first line of the text that tells a refusal.

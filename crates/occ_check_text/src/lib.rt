@@ -5,11 +5,12 @@ mod kind;
 mod lead;
 mod piece;
 mod source;
-mod told;
+mod tale;
+mod write;
 
 pub use kind::TextKind;
 pub use lead::{Lead, Said, refusal_text, said_of};
 pub use occ_lex::Memory;
-pub use piece::{Piece, Put};
-pub use source::{Row, Source, Tok, TokKind};
-pub use told::{Mark, Span, Told, write_all, write_told};
+pub use piece::Put;
+pub use source::{At, Row, Source, Span, Tok, TokKind, cut, is_among};
+pub use tale::{Piece, Tale, Words, behind};
