@@ -2,113 +2,79 @@
 
 use crate::Source;
 
-/// A kind of text: the word that names it in a refusal, how the text begins, and what is said of it: the kind in words, the words with
-/// which such a text begins, and the command that takes it.
+/// A kind of text: the word that names it in a refusal, the kind in words, the words with which such a text begins, and the command that
+/// takes it.
 #[derive(Clone, Copy)]
 pub struct TextKind {
     pub name: &'static str,
-    opens: &'static str,
     pub word: &'static str,
     pub begins: &'static str,
     pub taken_by: &'static str,
 }
 
-/// What is no text of the system.
-const UNKNOWN: TextKind = TextKind {
-    name: "unknown",
-    opens: "",
-    word: "no text of the system",
-    begins: "PROC",
-    taken_by: "check A",
-};
+/// How texts begin: where the words begin with `occam` the first line begins so, else that is the first token.
+const OPENS: [(&str, &str); 7] = [
+    ("occam-script", "script"),
+    ("occam-orders", "orders"),
+    ("occam-normal", "normal"),
+    ("occam-schedule", "schedule"),
+    ("PROC", "program"),
+    ("STATE", "behaviour"),
+    ("DIFFER", "behaviour"),
+];
 
-/// A program.
-const PROGRAM: TextKind = TextKind {
-    name: "program",
-    opens: "PROC",
-    word: "a program",
-    begins: "PROC",
-    taken_by: "check A",
-};
-
-/// A behaviour.
-const BEHAVIOUR: TextKind = TextKind {
-    name: "behaviour",
-    opens: "STATE",
-    word: "a behaviour",
-    begins: "STATE",
-    taken_by: "belongs A T",
-};
-
-/// All kinds of text; a behaviour begins in two ways.
-const KINDS: [TextKind; 7] = [
-    TextKind {
-        name: "script",
-        opens: "occam-script",
-        word: "a script",
-        begins: "occam-script 2",
-        taken_by: "replay T",
-    },
-    TextKind {
-        name: "orders",
-        opens: "occam-orders",
-        word: "an orders text",
-        begins: "occam-orders 2",
-        taken_by: "transform A T",
-    },
-    TextKind {
-        name: "normal",
-        opens: "occam-normal",
-        word: "a normal text",
-        begins: "occam-normal 1",
-        taken_by: "normal T",
-    },
-    TextKind {
-        name: "schedule",
-        opens: "occam-schedule",
-        word: "a schedule",
-        begins: "occam-schedule 1",
-        taken_by: "run A T",
-    },
-    PROGRAM,
-    BEHAVIOUR,
-    TextKind {
-        name: "behaviour",
-        opens: "DIFFER",
-        word: "a behaviour",
-        begins: "STATE",
-        taken_by: "belongs A T",
-    },
+/// All kinds of text: the name, the kind in words, how it begins, and its command.
+const KINDS: [(&str, &str, &str, &str); 6] = [
+    ("script", "a script", "occam-script 2", "replay T"),
+    (
+        "orders",
+        "an orders text",
+        "occam-orders 2",
+        "transform A T",
+    ),
+    ("normal", "a normal text", "occam-normal 1", "normal T"),
+    ("schedule", "a schedule", "occam-schedule 1", "run A T"),
+    ("behaviour", "a behaviour", "STATE", "belongs A T"),
+    ("unknown", "no text of the system", "PROC", "check A"),
 ];
 
 impl TextKind {
     /// The kind of a text, by its first row that isn't blank.
     pub fn of(source: &Source) -> TextKind {
-        let Some(row) = source.first() else {
-            return UNKNOWN;
-        };
+        let row = source.first().unwrap_or(source.rows());
         let bytes = source.bytes(row, 0, source.row(row).code);
-        for (i, kind) in KINDS.iter().enumerate() {
+        for (i, (opens, name)) in OPENS.iter().enumerate() {
             let begins = if i < 4 {
-                bytes.starts_with(kind.opens.as_bytes())
+                bytes.starts_with(opens.as_bytes())
             } else {
-                source.is(row, 0, kind.opens)
+                source.is(row, 0, opens)
             };
             if begins {
-                return *kind;
+                return TextKind::named(name.as_bytes());
             }
         }
-        UNKNOWN
+        TextKind::named(b"unknown")
     }
 
-    /// The kind that a word names; a program where it names none.
-    pub fn named(word: &[u8]) -> TextKind {
-        for kind in &KINDS {
-            if word == kind.name.as_bytes() {
-                return *kind;
+    /// The kind that a word names; a program where it names no other one.
+    pub fn named(named: &[u8]) -> TextKind {
+        let mut found = TextKind {
+            name: "program",
+            word: "a program",
+            begins: "PROC",
+            taken_by: "check A",
+        };
+        for (name, word, begins, taken_by) in &KINDS {
+            if named == name.as_bytes() {
+                found = TextKind {
+                    name,
+                    word,
+                    begins,
+                    taken_by,
+                };
             }
         }
-        PROGRAM
+        found
     }
 
     /// Whether it is the kind of that name.

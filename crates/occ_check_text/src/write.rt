@@ -1,5 +1,6 @@
 //! Writes what is told, with carets.
 
+use crate::source::cut;
 use crate::tale::{Item, Slot, Tale, Told};
 use crate::{Put, Source, Span};
 
@@ -75,7 +76,13 @@ fn write_wrapped(out: &mut Put, label: &str, words: &[u8]) {
     out.add(b"   ");
     out.add(label.as_bytes());
     let mut column = label.len().saturating_add(3);
-    for word in words.split(|byte| *byte == b' ') {
+    let mut start = 0;
+    for at in 0..words.len().saturating_add(1) {
+        if words.get(at).copied().unwrap_or(b' ') != b' ' {
+            continue;
+        }
+        let word = cut(words, start, at.saturating_sub(start));
+        start = at.saturating_add(1);
         let long = columns(word).saturating_add(1);
         if column.saturating_add(long) > MOST_COLUMNS && column > 9 {
             out.add(b"\n        ");
@@ -104,7 +111,7 @@ impl Tale<'_> {
         let mut found = None;
         for item in self.items.as_slice() {
             let row = item.span.row;
-            if self.is_mark(*item, of) && row >= from && found.is_none_or(|least| row < least) {
+            if row >= from && self.is_mark(*item, of) && row < found.unwrap_or(usize::MAX) {
                 found = Some(row);
             }
         }
@@ -133,7 +140,7 @@ impl Tale<'_> {
 
     fn write_item(&self, out: &mut Put, item: Item) {
         let len = item.to.saturating_sub(item.from);
-        out.add(crate::source::cut(self.text.bytes(), item.from, len));
+        out.add(cut(self.text.bytes(), item.from, len));
     }
 
     fn write_mark(&self, out: &mut Put, item: Item, width: usize) {
