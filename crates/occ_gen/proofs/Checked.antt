@@ -1,8 +1,8 @@
--- The lines of each chain are well laid out and have no fault, and its program has no fault of usage: by computing.
-use Rattle.std.proofs.Common.{◌≡◌, ℕ, ◌<◌, ◌+◌, ◌-◌, Bool, true, false, not, ◌&&◌, is_none, nat_le, nat_lt, List, length, Option, Some, ⊎_elim, refl, ap, ◌∙◌, arith}
+-- The lines of each chain are well laid out and within limits, and its program has no fault of usage: by computing.
+use Rattle.std.proofs.Common.{◌≡◌, ℕ, ◌<◌, Bool, true, false, not, ◌&&◌, is_none, nat_le, nat_lt, List, length, Option, Some, refl}
 use Rattle.std.specs.Fmt.{digits}
 use Rattle.std.specs.List.{list_all}
-use Rattle.std.proofs.lemmas.Bool.{agree_below_at, cases_lt}
+use Rattle.std.proofs.lemmas.Bool.{agree_below_at}
 use Rattle.occ_script.specs.occ_base.declared.names.Name.{Name}
 use Rattle.occ_gen.specs.Programs.{program}
 use Rattle.occ_gen.specs.declared.shape.Shape.{Shape as Kind}
@@ -18,7 +18,7 @@ use Rattle.occ_script.specs.occ_lex.Spelling.{is_name, is_numeral, is_reserved, 
 use Rattle.occ_print_back.specs.occ_parse_layout.declared.placed.Frame.TheVariants as frame
 use Rattle.occ_print_back.specs.occ_parse_layout.Layout.{least_bad}
 use Rattle.occ_print_back.specs.occ_parse.declared.bound.Bound.TheVariants as bound
-use Rattle.occ_print_back.specs.occ_parse.Drafts.{draft_fault, header_below, header_params}
+use Rattle.occ_print_back.specs.occ_parse.Drafts.{header_below, header_params}
 use Rattle.occ_print_back.specs.occ_parse_rules.Unrolled.{params_named, slot_process}
 use Rattle.occ_print_back.specs.occ_parse_rules.Programs.{param_scope}
 use Rattle.occ_print_back.specs.occ_parse_unroll.Elements.{with_elements}
@@ -42,11 +42,6 @@ params shape n = params_named (number_in (names shape n)) (header_params (chain 
 abbrev pub body : Kind → ℕ → Tree
 body shape n = slot_process (number_in (names shape n)) (param_scope (header_params (chain shape n))) (header_below (chain shape n))
 
--- a test that is passed below a, and at each of b numbers from there on
-in_parts : (test : ℕ → Bool) (a b n : ℕ) → ((k : ℕ) → k < a → test k ≡ true) → ((k : ℕ) → k < b → test (k + a) ≡ true) → n < a + b → test n ≡ true
-in_parts test a b n first later h =
-    ⊎_elim (first n) (λ ge. ap test (omega (arith, ge)) ∙ later (n - a) (omega (arith, h, ge))) (cases_lt n a)
-
 -- ---- tests
 
 abbrev pub names_are_good : Kind → ℕ → Bool
@@ -59,9 +54,6 @@ lines_are_good shape n =
 
 abbrev pub layout_is_good : Kind → ℕ → Bool
 layout_is_good shape n = is_none (least_bad frame.Program false (laid shape n))
-
-abbrev pub draft_is_good : Kind → ℕ → Bool
-draft_is_good shape n = is_none (draft_fault bound.Program (chain shape n))
 
 abbrev pub text_is_short : Kind → ℕ → Bool
 text_is_short shape n = not (nat_lt 65536 (bytes_in (program shape n)))
@@ -87,21 +79,6 @@ pub layout_good : (shape : Kind) (n : ℕ) → n < 49 → of_chains layout_is_go
 layout_good Buffers n h = agree_below_at (of_chains layout_is_good Buffers) always 49 n refl h
 layout_good Adders n h = agree_below_at (of_chains layout_is_good Adders) always 49 n refl h
 layout_good Muxes n h = agree_below_at (of_chains layout_is_good Muxes) always 49 n refl h
-
-drafts_short : (n : ℕ) → n < 32 → of_chains draft_is_good Muxes n ≡ true
-drafts_short n h = agree_below_at (of_chains draft_is_good Muxes) always 32 n refl h
-
-drafts_middle : (n : ℕ) → n < 10 → of_chains draft_is_good Muxes (n + 32) ≡ true
-drafts_middle n h = agree_below_at (λ k. of_chains draft_is_good Muxes (k + 32)) always 10 n refl h
-
-drafts_long : (n : ℕ) → n < 7 → of_chains draft_is_good Muxes (n + 42) ≡ true
-drafts_long n h = agree_below_at (λ k. of_chains draft_is_good Muxes (k + 42)) always 7 n refl h
-
-pub draft_good : (shape : Kind) (n : ℕ) → n < 49 → of_chains draft_is_good shape n ≡ true
-draft_good Buffers n h = agree_below_at (of_chains draft_is_good Buffers) always 49 n refl h
-draft_good Adders n h = agree_below_at (of_chains draft_is_good Adders) always 49 n refl h
-draft_good Muxes n h =
-    in_parts (of_chains draft_is_good Muxes) 42 7 n (λ k l. in_parts (of_chains draft_is_good Muxes) 32 10 k drafts_short drafts_middle l) drafts_long h
 
 pub text_short : (shape : Kind) (n : ℕ) → n < 49 → of_chains text_is_short shape n ≡ true
 unfolding digits

@@ -6,6 +6,7 @@ mod Tables
 mod AcceptedTexts
 mod Lists
 mod Usage
+mod Drafts
 mod Checked
 mod Read
 mod Judged

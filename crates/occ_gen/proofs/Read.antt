@@ -8,7 +8,8 @@ use Rattle.occ_gen.specs.Programs.{program, program_text}
 use Rattle.occ_gen.specs.declared.shape.Shape.{Shape as Kind}
 use Rattle.occ_gen.specs.Accepted.{IsTextOfAccepted}
 use Rattle.occ_gen.proofs.Chains.{chain, names}
-use Rattle.occ_gen.proofs.Checked.{body, draft_good, draft_is_good, elements_good, has_no_elements, is_good_name, is_name_kind, layout_good, layout_is_good, lines_are_good, lines_good, names_are_good, names_good, params, text_is_short, text_short, usage_good, usage_is_kept}
+use Rattle.occ_gen.proofs.Checked.{body, elements_good, has_no_elements, is_good_name, is_name_kind, layout_good, layout_is_good, lines_are_good, lines_good, names_are_good, names_good, params, text_is_short, text_short, usage_good, usage_is_kept}
+use Rattle.occ_gen.proofs.Drafts.{draft_good, draft_is_good}
 use Rattle.occ_gen.proofs.Lists.{at_number, forms_of, here, in_order, is_spoken, is_within, line_is_sayable, lines_sayable, none_is, none_stopped}
 use Rattle.occ_gen.proofs.Same.{bytes_are, bytes_in, same_lines-true, same_table-true}
 use Rattle.occ_gen.proofs.Tables.{all_words_distinct, by_all_words, with_all_words}
