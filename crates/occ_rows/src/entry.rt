@@ -1,6 +1,7 @@
 //! The entries of a table, and what the lines below them say.
 
 use occ_desk::Memory;
+use std::alloc::Global;
 
 /// A line that names something, and the bytes that the lines below it say.
 #[derive(Drop)]
@@ -43,8 +44,91 @@ pub(crate) fn is_known(head: &str) -> bool {
     false
 }
 
+/// The named text of that name.
+fn text_of<'a>(texts: &'a [Entry], name: &str) -> Option<&'a [u8]> {
+    for text in texts {
+        if text.head.as_str().strip_prefix("TEXT ") == Some(name) {
+            return Some(text.bytes.as_slice());
+        }
+    }
+    None
+}
+
+/// Adds an entry that has no bytes yet.
+pub(crate) fn push_entry(
+    entries: &mut Vec<Entry>,
+    alloc: Global,
+    head: &str,
+) -> Result<(), Memory> {
+    let head = String::from_str(alloc, head)?;
+    let bytes = Vec::new(alloc);
+    entries.push(Entry { head, bytes })?;
+    Ok(())
+}
+
+/// Adds the bytes that a line says by its mark. The answer is whether it has a mark, and names a text that is there.
+pub(crate) fn push_bytes(
+    into: &mut Vec<u8>,
+    line: &str,
+    texts: &[Entry],
+    written: &[u8],
+) -> Result<bool, Memory> {
+    match line.as_bytes() {
+        [b'|', text @ ..] => {
+            into.extend_from_slice(text)?;
+            into.push(b'\n')?;
+            Ok(true)
+        }
+        [b'.', text @ ..] => {
+            into.extend_from_slice(text)?;
+            Ok(true)
+        }
+        [b'<'] => {
+            into.extend_from_slice(written)?;
+            Ok(true)
+        }
+        _ => push_made(into, line, texts),
+    }
+}
+
+/// The same for the marks whose bytes don't stand in the line.
+fn push_made(into: &mut Vec<u8>, line: &str, texts: &[Entry]) -> Result<bool, Memory> {
+    if let Some(numbers) = line.strip_prefix('+') {
+        push_numbers(into, numbers)?;
+        return Ok(true);
+    }
+    if let Some(counted) = line.strip_prefix('*') {
+        push_many(into, counted)?;
+        return Ok(true);
+    }
+    match line.strip_prefix('@') {
+        Some(named) => push_named(into, named, texts),
+        None => Ok(false),
+    }
+}
+
+/// Adds a named text, or those of its lines whose numbers follow the name. The answer is whether there is such a text.
+fn push_named(into: &mut Vec<u8>, named: &str, texts: &[Entry]) -> Result<bool, Memory> {
+    let mut words = named.split_whitespace();
+    let Some(text) = text_of(texts, words.next().unwrap_or("")) else {
+        return Ok(false);
+    };
+    let first = number(words.next(), 1);
+    let last = number(words.next(), u64::MAX);
+    push_lines(into, text, first, last)?;
+    Ok(true)
+}
+
+/// The number that a word is, or another one where there is no such word.
+fn number(word: Option<&str>, other: u64) -> u64 {
+    match word {
+        Some(word) => word.parse::<u64>().unwrap_or(other),
+        None => other,
+    }
+}
+
 /// Adds bytes that are given by their numbers. A word that is no such number is left out.
-pub(crate) fn push_numbers(into: &mut Vec<u8>, numbers: &str) -> Result<(), Memory> {
+fn push_numbers(into: &mut Vec<u8>, numbers: &str) -> Result<(), Memory> {
     for word in numbers.split_whitespace() {
         if let Ok(byte) = word.parse::<u8>() {
             into.push(byte)?;
@@ -54,7 +138,7 @@ pub(crate) fn push_numbers(into: &mut Vec<u8>, numbers: &str) -> Result<(), Memo
 }
 
 /// Adds a text so many times as the number in front of it says.
-pub(crate) fn push_many(into: &mut Vec<u8>, counted: &str) -> Result<(), Memory> {
+fn push_many(into: &mut Vec<u8>, counted: &str) -> Result<(), Memory> {
     let Some((count, text)) = counted.split_once(' ') else {
         return Ok(());
     };
@@ -65,12 +149,7 @@ pub(crate) fn push_many(into: &mut Vec<u8>, counted: &str) -> Result<(), Memory>
 }
 
 /// Adds the lines of a text from the first to the last number.
-pub(crate) fn push_lines(
-    into: &mut Vec<u8>,
-    text: &[u8],
-    first: u64,
-    last: u64,
-) -> Result<(), Memory> {
+fn push_lines(into: &mut Vec<u8>, text: &[u8], first: u64, last: u64) -> Result<(), Memory> {
     let mut number = 1u64;
     for byte in text {
         if first <= number && number <= last {
