@@ -1,0 +1,73 @@
+-- How what is told of a behaviour is put together.
+use Rattle.std.proofs.Common.{ℕ, List, [], ◌∷◌, ◌++◌, ◌≡◌, ◌≤◌, ◌∙◌, Ok, Option, codes, ap, length, refl, subst, sym, append_assoc}
+use Rattle.std.proofs.lemmas.List.{same_from_push}
+use Rattle.std.specs.List.{flat_map}
+use Rattle.occ_behaviour.specs.Texts.{event_text, last_text, set_text, state_text, text_of_behaviour}
+use Rattle.occ_behaviour.specs.declared.behaviour.Behaviour.{Behaviour}
+use Rattle.occ_behaviour.specs.declared.behaviour.Last.{Last}
+use Rattle.occ_behaviour.specs.declared.behaviour.Last.TheVariants.{Refuses, Ends}
+use Rattle.occ_syntax.specs.occ_base.Names.{IsDistinct}
+use Rattle.occ_syntax.specs.occ_base.declared.names.Name.{Name}
+use Rattle.occ_syntax.specs.declared.scope.Kind.{Kind}
+use Rattle.occ_syntax.specs.declared.scope.Program.{Program}
+use Rattle.occ_tool_run.proofs.AsWritten.{BehavioursLaw}
+use Rattle.occ_tool_run.proofs.Judging.{accepted_file}
+use Rattle.occ_tool_run.specs.occ_call.Files.{IsLoaded, most_bytes}
+use Rattle.occ_tool_run.proofs.from_run_schedule.Inside.{claim_within}
+use Rattle.occ_tool_run.specs.Judged.{HasInterface, IsAcceptedFrom}
+use Rattle.occ_tool_run.specs.occ_behaviour_read.Claims.{claim_read}
+use Rattle.occ_tool_run.specs.occ_call.declared.loading.Loaded.{Loaded}
+use Rattle.occ_tool_run.specs.occ_run_schedule.Witnesses.{IsWithin}
+use Rattle.occ_why.specs.Told.{AreLinesOf, IsClaimOf, IsTold, set_in}
+
+-- ---- the lines of a behaviour
+
+last_ends : (names : List (List ℕ)) (l : Last) → (g : List ℕ) × (last_text names l ≡ g ++ codes "\n")
+last_ends names (Refuses events) = (codes "REFUSES " ++ set_text names events, refl)
+last_ends names (Ends state) = (codes "ENDS " ++ state_text state, refl)
+
+-- its text ends with a line's end
+pub behaviour_ends : (names : List (List ℕ)) (b : Behaviour) → (g : List ℕ) × (text_of_behaviour names b ≡ g ++ codes "\n")
+behaviour_ends names b =
+    let l = last_ends names b.last in
+    let f = codes "STATE " ++ state_text b.state ++ codes "\n" ++ codes "TRACE" ++ flat_map (λ e. 32 ∷ event_text names e) b.trace ++ codes "\n" in
+    (f ++ l.0, ap (λ t. f ++ t) l.1 ∙ sym (append_assoc f l.0 (codes "\n")))
+
+-- and without its last byte it is the lines
+pub lines_left : (names : List (List ℕ)) (b : Behaviour) (text left : List ℕ) (x : ℕ) → text ≡ text_of_behaviour names b → text ≡ left ++ x ∷ []
+    → AreLinesOf names b left
+lines_left names b text left x written popped =
+    let g = behaviour_ends names b in
+    let same = same_from_push left g.0 x 10 (sym popped ∙ written ∙ g.1) in
+    g.1 ∙ ap (λ k. k ++ codes "\n") (sym same.0)
+
+-- ---- a whole text
+
+pub told_in_turn : (word behind lines a b c d e : List ℕ) → a ≡ word → b ≡ a ++ behind
+    → c ≡ b ++ codes "\nAs a behaviour, for belongs and witness:\n\n  " → d ≡ c ++ flat_map set_in lines → e ≡ d ++ codes "\n" → IsTold word lines e
+told_in_turn word behind lines a b c d e p q r s t =
+    let head = codes "\nAs a behaviour, for belongs and witness:\n\n  " in
+    record {
+      behind = behind;
+      is = t ∙ ap (λ k. k ++ codes "\n") (s ∙ ap (λ k. k ++ flat_map set_in lines) (r ∙ ap (λ k. k ++ head) (q ∙ ap (λ k. k ++ behind) p)));
+    }
+
+-- ---- a program's file and the lines of a behaviour
+
+pub claim_of : BehavioursLaw → (loaded : Loaded) (lines : List ℕ) (names : List (List ℕ)) (params : List (Name × Kind)) (p : Program) (b : Behaviour) → params ≡ p.params
+    → length lines ≤ 65536 → IsDistinct names → HasInterface names p → IsAcceptedFrom loaded [] names p → claim_read names params lines ≡ Ok b
+    → (file : Option (List ℕ)) → IsLoaded most_bytes file loaded → IsClaimOf file lines p b
+claim_of law loaded lines names params p b e short d i accepted read = λ file h.
+    let P : List (Name × Kind) → Type 0 = λ ps. claim_read names ps lines ≡ Ok b in
+    record {
+      names = names;
+      accepted = accepted_file loaded file [] names p accepted h;
+      short = short;
+      written = (law names p.params lines b d i.interface i.params).0 (subst P e read);
+    }
+
+-- its events are of the interface
+pub claim_inside : (lines : List ℕ) (names : List (List ℕ)) (shown params : List (Name × Kind)) (b : Behaviour) → shown ≡ params → claim_read names shown lines ≡ Ok b
+    → IsWithin params b.last
+claim_inside lines names shown params b e read =
+    let P : List (Name × Kind) → Type 0 = λ ps. claim_read names ps lines ≡ Ok b in claim_within names params lines b (subst P e read)

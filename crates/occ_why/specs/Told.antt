@@ -1,0 +1,62 @@
+-- How what is told of a behaviour is written: a word, what stands behind it, and the lines of the behaviour; and which lines are chosen.
+use Rattle.std.specs.Prelude.{ℕ, ◌≡◌, ◌==◌, ◌⊎◌, ◌≤◌, ◌++◌, ◌∷◌, List, [], length, Option, codes, if◌then◌else◌}
+use Rattle.std.specs.List.{flat_map}
+use Rattle.occ_behaviour.specs.Texts.{text_of_behaviour}
+use Rattle.occ_behaviour.specs.declared.behaviour.Behaviour.{Behaviour}
+use Rattle.occ_tool_run.specs.Accepts.{IsAccepted}
+use Rattle.occ_tool_run.specs.Stored.{seen}
+use Rattle.occ_tool_run.specs.occ_behaviour_read.Behaviours.{IsBehaviourText}
+use Rattle.occ_tool_run.specs.occ_behaviour_read.Claims.{bare_lines}
+use Rattle.occ_tool_run.specs.occ_call.Files.{IsLoaded, most_bytes}
+use Rattle.occ_tool_run.specs.occ_call.declared.loading.Loaded.{Loaded}
+use Rattle.occ_tool_run.specs.occ_run_schedule.Witnesses.{HasIt}
+use Rattle.occ_tool_run.specs.occ_syntax.declared.scope.Program.{Program}
+
+-- a byte of lines that stand in two columns
+abbrev pub set_in : ℕ → List ℕ
+set_in b = if b == 10 then 10 ∷ 32 ∷ 32 ∷ [] else b ∷ []
+
+-- The text begins with the word, and ends with these lines, each with two spaces in front.
+pub record IsTold (word lines text : List ℕ) : Type 0 where
+  pub behind : List ℕ
+  pub is : text ≡ word ++ behind ++ codes "\nAs a behaviour, for belongs and witness:\n\n  " ++ flat_map set_in lines ++ codes "\n"
+
+-- the lines are those of the behaviour
+abbrev pub AreLinesOf : List (List ℕ) → Behaviour → List ℕ → Type 0
+AreLinesOf names b lines = text_of_behaviour names b ≡ lines ++ codes "\n"
+
+-- The file holds an accepted program, and the lines are a behaviour of its interface.
+pub record IsClaimOf (file : Option (List ℕ)) (lines : List ℕ) (p : Program) (b : Behaviour) : Type 0 where
+  pub names : List (List ℕ)
+  pub accepted : IsAccepted file [] names (seen p)
+  pub short : length lines ≤ 65536
+  pub written : IsBehaviourText names p.params b (bare_lines lines)
+
+-- the program in the file has the behaviour of the lines
+pub record HasClaim (file : Option (List ℕ)) (lines : List ℕ) : Type 0 where
+  pub program : Program
+  pub behaviour : Behaviour
+  pub claim : IsClaimOf file lines program behaviour
+  pub has : HasIt program behaviour
+
+-- the program in the file hasn't the behaviour of the lines
+pub record LacksClaim (file : Option (List ℕ)) (lines : List ℕ) : Type 0 where
+  pub program : Program
+  pub behaviour : Behaviour
+  pub claim : IsClaimOf file lines program behaviour
+  pub lacks : HasIt program behaviour → ⊥
+
+-- the one program has the behaviour of the lines, and the other hasn't
+abbrev pub AreTelling : Option (List ℕ) → Option (List ℕ) → List ℕ → Type 0
+AreTelling owner other lines = HasClaim owner lines × LacksClaim other lines
+
+-- The chosen lines are the given ones, or they tell the two files apart, as they were read.
+abbrev pub Choose : Loaded → Loaded → List ℕ → List ℕ → Type 0
+Choose owner other lines chosen = (chosen ≡ lines) ⊎ ((one two : Option (List ℕ)) → IsLoaded most_bytes one owner → IsLoaded most_bytes two other
+    → AreTelling one two chosen)
+
+-- The text begins with DIFFER, and ends with lines that were chosen so.
+pub record TellAlone (owner other : Loaded) (lines text : List ℕ) : Type 0 where
+  pub chosen : List ℕ
+  pub choose : Choose owner other lines chosen
+  pub told : IsTold (codes "DIFFER") chosen text

@@ -1,0 +1,163 @@
+//! Why a program has a behaviour, told.
+
+ghost use Rattle.std.specs.Prelude.{codes, IfOk};
+ghost use Rattle.occ_tool_run.specs.occ_call.Files.{IsShort, most_bytes};
+ghost use Rattle.occ_why.specs.Told.{Choose, IsTold, TellAlone};
+
+use crate::given::Given;
+use crate::reading::{Reading, read};
+use crate::shown::whole;
+use occ_tool_run::{Memory, Witness};
+use occ_why_text::{Case, look, page, refusing, smallest_refusal};
+use std::alloc::Global;
+
+/// The text about two programs that differ, of which the first alone has the behaviour of these lines.
+pub(crate) fn apart(
+    alloc: Global,
+    owner: Given,
+    other: Given,
+    lines: Vec<u8>,
+    is_turned: bool,
+) -> Result<Vec<u8>, Memory>
+    requires owner { IsShort most_bytes owner.entry.text.now }
+    requires other { IsShort most_bytes other.entry.text.now }
+    ensures { IfOk result (λ text. TellAlone owner.entry.text.now other.entry.text.now lines.entry.items text.items) }
+{
+    let first = Vec::from_slice(alloc, &lines)?;
+    let lines = telling(alloc, owner, other, lines)?;
+    let mut page = page_apart(alloc, owner, other, (&lines, &first), is_turned)?;
+    if page.is_empty() {
+        page = page_apart(alloc, owner, other, (&lines, &lines), is_turned)?;
+    }
+    whole(alloc, b"DIFFER", behind(&page), &lines)
+}
+
+/// The text about a program that gets stuck by the behaviour of these lines.
+pub(crate) fn stuck(alloc: Global, program: Given, lines: Vec<u8>) -> Result<Vec<u8>, Memory>
+    requires { IsShort most_bytes program.entry.text.now }
+    ensures { IfOk result (λ text. IsTold (codes "DEADLOCK") lines.entry.items text.items) }
+{
+    let page = page_stuck(alloc, program, &lines)?;
+    whole(alloc, b"DEADLOCK", behind(&page), &lines)
+}
+
+/// What stands behind the first word.
+fn behind(page: &[u8]) -> &[u8] {
+    match page {
+        [b'D', b'I', b'F', b'F', b'E', b'R', rest @ ..] => rest,
+        [b'D', b'E', b'A', b'D', b'L', b'O', b'C', b'K', rest @ ..] => rest,
+        _ => b"\n",
+    }
+}
+
+/// The lines of the behaviour with the smallest telling refusal, where it is found and tells the programs apart; else these lines.
+fn telling(alloc: Global, owner: Given, other: Given, lines: Vec<u8>) -> Result<Vec<u8>, Memory>
+    requires owner { IsShort most_bytes owner.entry.text.now }
+    requires other { IsShort most_bytes other.entry.text.now }
+    ensures { IfOk result (λ chosen. Choose owner.entry.text.now other.entry.text.now lines.entry.items chosen.items) }
+{
+    let Some(found) = smaller(alloc, owner, other, &lines)? else {
+        return Ok(lines);
+    };
+    if found.as_slice() == lines.as_slice() {
+        return Ok(lines);
+    }
+    let Some(own) = read(alloc, owner.text, &found)? else {
+        return Ok(lines);
+    };
+    let Some(others) = read(alloc, other.text, &found)? else {
+        return Ok(lines);
+    };
+    if own.has_it(alloc)? && !others.has_it(alloc)? {
+        Ok(found)
+    } else {
+        Ok(lines)
+    }
+}
+
+/// The lines of a behaviour that refuses less, if one was found.
+fn smaller(
+    alloc: Global,
+    owner: Given,
+    other: Given,
+    lines: &[u8],
+) -> Result<Option<Vec<u8>>, Memory>
+    requires owner { IsShort most_bytes owner.entry.text.now }
+    requires other { IsShort most_bytes other.entry.text.now }
+{
+    let Some(own) = read(alloc, owner.text, lines)? else {
+        return Ok(None);
+    };
+    let Some(others) = read(alloc, other.text, lines)? else {
+        return Ok(None);
+    };
+    let one = own.subject(owner.name);
+    let two = others.subject(other.name);
+    let own_look = look(&one, own.start()?)?;
+    let other_look = look(&two, others.start()?)?;
+    match smallest_refusal((&one, &own_look), (&two, &other_look))? {
+        Some(events) => Ok(Some(refusing(&one, lines, events.items())?)),
+        None => Ok(None),
+    }
+}
+
+/// The page about two programs and the behaviour of the first lines, by the schedule that shows the behaviour of the second lines; an empty
+/// one where it can't be made, or that schedule doesn't show the first behaviour.
+fn page_apart(
+    alloc: Global,
+    owner: Given,
+    other: Given,
+    lines: (&[u8], &[u8]),
+    is_turned: bool,
+) -> Result<Vec<u8>, Memory>
+    requires owner { IsShort most_bytes owner.entry.text.now }
+    requires other { IsShort most_bytes other.entry.text.now }
+{
+    let Some(own) = read(alloc, owner.text, lines.0)? else {
+        return Ok(Vec::new(alloc));
+    };
+    let Some(others) = read(alloc, other.text, lines.0)? else {
+        return Ok(Vec::new(alloc));
+    };
+    let Some(shown) = read(alloc, owner.text, lines.1)? else {
+        return Ok(Vec::new(alloc));
+    };
+    let Witness::Schedule(schedule) = shown.witness(alloc)? else {
+        return Ok(Vec::new(alloc));
+    };
+    let two = others.subject(other.name);
+    let other_look = look(&two, others.start()?)?;
+    let case = Case {
+        owner: own.subject(owner.name),
+        other: Some((two, other_look)),
+        schedule: schedule.as_slice(),
+        is_turned,
+    };
+    paged(alloc, &case, &own)
+}
+
+/// The page about a program that gets stuck; an empty one where it can't be made.
+fn page_stuck(alloc: Global, program: Given, lines: &[u8]) -> Result<Vec<u8>, Memory>
+    requires { IsShort most_bytes program.entry.text.now }
+{
+    let Some(own) = read(alloc, program.text, lines)? else {
+        return Ok(Vec::new(alloc));
+    };
+    let Witness::Schedule(schedule) = own.witness(alloc)? else {
+        return Ok(Vec::new(alloc));
+    };
+    let case = Case {
+        owner: own.subject(program.name),
+        other: None,
+        schedule: schedule.as_slice(),
+        is_turned: false,
+    };
+    paged(alloc, &case, &own)
+}
+
+fn paged<'p>(alloc: Global, case: &Case<'p>, own: &'p Reading) -> Result<Vec<u8>, Memory> {
+    match page(case, own.start()?)? {
+        Some(page) => Ok(page),
+        None => Ok(Vec::new(alloc)),
+    }
+}

@@ -1,0 +1,23 @@
+//! Why two programs differ, and why a program gets stuck, in words: how a program comes to a behaviour, how its parts stand then and whom
+//! they wait for, what another program does there, and the smallest refusal that tells them apart.
+#![tactic(auto)]
+
+mod begins;
+mod behind;
+mod look;
+mod others;
+mod page;
+mod parts;
+mod phrases;
+mod ring;
+mod route;
+mod shape;
+mod subject;
+mod telling;
+mod verdict;
+mod waiting;
+
+pub use look::{Look, look};
+pub use page::{Case, page};
+pub use subject::Subject;
+pub use telling::{refusing, smallest_refusal};
