@@ -2,3 +2,4 @@ pub mod Moves
 pub mod Texts
 pub mod Steps
 pub mod Answers
+pub mod Traces

@@ -3,12 +3,14 @@
 #![tactic(auto)]
 
 mod command;
+mod comparing;
 mod graph;
 mod law;
 mod state;
 mod text;
 
 pub use command::{aut, promela};
+pub use comparing::traces;
 pub use graph::{Graph, Label, Move, graph_of};
 pub use law::steps_are_those_of_rows;
 pub use text::graph_text;

@@ -1,0 +1,12 @@
+//! Whether each trace of a second program is one of a first program's: by the rows of a world, and said of behaviours alone.
+#![tactic(auto)]
+
+mod look;
+mod made;
+mod marks;
+mod programs;
+mod roots;
+mod walk;
+
+pub use programs::traced;
+pub use roots::trace_refines;
