@@ -3,3 +3,4 @@ pub mod Texts
 pub mod Steps
 pub mod Answers
 pub mod Traces
+pub mod Determined

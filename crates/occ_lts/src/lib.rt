@@ -4,6 +4,7 @@
 
 mod command;
 mod comparing;
+mod determining;
 mod graph;
 mod law;
 mod state;
@@ -11,6 +12,7 @@ mod text;
 
 pub use command::{aut, promela};
 pub use comparing::traces;
+pub use determining::deterministic;
 pub use graph::{Graph, Label, Move, graph_of};
 pub use law::steps_are_those_of_rows;
 pub use text::graph_text;

@@ -16,12 +16,13 @@ mod stuck;
 mod verdict;
 mod walk;
 
+pub use ends::least_extra;
 pub use law::{one_verdict, refined_both_ways};
 pub use near::{distances, near_at, shortest};
 pub use pairs::Pair;
 pub use refine::{deadlocked, refined};
 pub use roots::{pair_at, refines};
 pub use step::stand;
-pub use stuck::deadlock;
+pub use stuck::{deadlock, node_at};
 pub use verdict::decide;
 pub use walk::Frame;
