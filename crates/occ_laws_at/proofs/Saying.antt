@@ -1,0 +1,2 @@
+-- What is said of laws, one after the other.
+use Rattle.std.proofs.Common.{◌≡◌}

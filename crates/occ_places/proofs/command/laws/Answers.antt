@@ -1,0 +1,17 @@
+use Rattle.std.proofs.Common.{IfOk, subst}
+use Rattle.occ_tool_run.proofs.Engine.{names_from}
+use Rattle.occ_places.specs.Answers.{IsLawsOf}
+use Rattle.occ_tool_run.specs.Stored.{seen}
+use Rattle.occ_places.proofs.Answering.{accepted_answer, refused_answer}
+use Rattle.occ_places.proofs.command.laws.Goals as goal
+
+pub write_laws-requires : goal.write_laws-requires
+write_laws-requires c = names_from c.read_programs_have_known_names.ensures c.args.program.now _ _ c.in-Ok.accepted.program c.in-Ok.ensures.accepted
+
+pub returns-in-Ok-clause-answers : goal.returns-in-Ok-clause-answers
+returns-in-Ok-clause-answers c =
+    accepted_answer (IsLawsOf c.args.path.now) c.write_laws.result c.args.program.now _ c.in-Ok.accepted.program c.in-Ok.ensures.accepted c.write_laws.ensures.text
+
+pub returns-in-Err-clause-answers : goal.returns-in-Err-clause-answers
+returns-in-Err-clause-answers c =
+    refused_answer (IsLawsOf c.args.path.now) c.refuse.result c.args.program.now _ c.in-Err.refusal c.in-Err.ensures.refused c.refuse.ensures.refusal
