@@ -5,7 +5,7 @@ use std::alloc::Global;
 use std::test::Fail;
 
 const USAGE: &str =
-    "USAGE check A, draw T, aut A, promela A, prove A B, witness A T, explain T REFUSAL\n";
+    "USAGE check A, steps A, steps A T, why A, why A B, draw T, aut A, promela A, paths A, deterministic A, prove A B, traces A B, witness A T, laws A PATH, explain T REFUSAL\n";
 
 // The status and the desk after the words of a command line over the files A and B, by the workshop.
 fn made(
