@@ -6,4 +6,8 @@ mod command;
 mod others;
 
 pub use command::check;
+pub use occ_tool_run::{
+    ClaimFault, Loaded, MOST_BYTES, Reply, Witness, accept, answer, behaviour_read_read as read,
+    behaviours_are_read_as_written, find_witness, judge, stuck,
+};
 pub use others::explain;

@@ -23,7 +23,6 @@ pub use cells::{
 pub use doing::{Act, Deed, Told, tell};
 pub use listing::{Listing, list_steps, told_at};
 pub use marking::End;
-pub use occ_run::{Offer, Point};
 pub use places::{Marked, Places};
 pub use row::Row;
 pub use rows::push_rows;

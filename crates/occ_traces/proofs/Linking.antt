@@ -7,25 +7,25 @@ use Rattle.occ_syntax.specs.Tree.{Tree}
 use Rattle.occ_syntax.specs.occ_base.declared.memory.Memory.{Memory}
 use Rattle.occ_syntax.specs.occ_base.declared.names.Name.{Name}
 use Rattle.occ_syntax.specs.declared.scope.Kind.{Kind}
-use Rattle.occ_norm.specs.Root.{IsRoot}
-use Rattle.occ_norm.specs.occ_behaviour.States.{is_state, state_less}
-use Rattle.occ_norm.specs.occ_behaviour.declared.behaviour.Behaviour.{Behaviour}
-use Rattle.occ_norm.specs.occ_behaviour.declared.behaviour.Last.{Last}
-use Rattle.occ_norm.specs.occ_behaviour.declared.behaviour.Last.TheVariants.{Refuses, Ends}
-use Rattle.occ_norm.specs.occ_compare.Interface.{IsOfInterface as IsOfNamesAt, IsWithin as IsOfNames}
-use Rattle.occ_norm.specs.occ_compare.Places.{state_at}
-use Rattle.occ_norm.specs.occ_compare.Programs.{LastIsWithin, behaviours_of}
-use Rattle.occ_norm.specs.occ_compare.Views.{AreAlike, Behaviours, HasTrace, Values}
-use Rattle.occ_norm.specs.occ_compare.declared.refined.Refined.{Refined}
-use Rattle.occ_norm.specs.occ_compare.declared.refined.Refined.TheVariants.{Yes, No}
-use Rattle.occ_norm.specs.occ_mdd.Maps.{value}
-use Rattle.occ_norm.specs.occ_mdd.declared.map.MapId.{MapId}
-use Rattle.occ_norm.specs.occ_node.declared.node.NodeId.{NodeId}
-use Rattle.occ_norm.specs.occ_node.declared.root.Root.{Root}
-use Rattle.occ_norm.specs.occ_node.declared.world.World.{World}
-use Rattle.occ_norm.proofs.Rooted.{listed_fits}
-use Rattle.occ_norm.proofs.from_compare.Alike.{turned}
-use Rattle.occ_norm.proofs.from_compare.Found.{small_start}
+use Rattle.occ_refine.specs.occ_norm.Root.{IsRoot}
+use Rattle.occ_refine.specs.occ_behaviour.States.{is_state, state_less}
+use Rattle.occ_refine.specs.occ_behaviour.declared.behaviour.Behaviour.{Behaviour}
+use Rattle.occ_refine.specs.occ_behaviour.declared.behaviour.Last.{Last}
+use Rattle.occ_refine.specs.occ_behaviour.declared.behaviour.Last.TheVariants.{Refuses, Ends}
+use Rattle.occ_refine.specs.occ_compare.Interface.{IsOfInterface as IsOfNamesAt, IsWithin as IsOfNames}
+use Rattle.occ_refine.specs.occ_compare.Places.{state_at}
+use Rattle.occ_refine.specs.occ_compare.Programs.{LastIsWithin, behaviours_of}
+use Rattle.occ_refine.specs.occ_compare.Views.{AreAlike, Behaviours, HasTrace, Values}
+use Rattle.occ_refine.specs.occ_compare.declared.refined.Refined.{Refined}
+use Rattle.occ_refine.specs.occ_compare.declared.refined.Refined.TheVariants.{Yes, No}
+use Rattle.occ_refine.specs.occ_mdd.Maps.{value}
+use Rattle.occ_refine.specs.occ_mdd.declared.map.MapId.{MapId}
+use Rattle.occ_refine.specs.occ_node.declared.node.NodeId.{NodeId}
+use Rattle.occ_refine.specs.occ_node.declared.root.Root.{Root}
+use Rattle.occ_refine.specs.occ_node.declared.world.World.{World}
+use Rattle.occ_refine.proofs.from_norm.Rooted.{listed_fits}
+use Rattle.occ_refine.proofs.from_compare.Alike.{turned}
+use Rattle.occ_refine.proofs.from_compare.Found.{small_start}
 use Rattle.occ_refine.specs.Nodes.{behaviours_at}
 use Rattle.occ_refine.proofs.Outside.{alike, assignment_there}
 use Rattle.occ_refine.proofs.Rooting.{has_events}

@@ -4,7 +4,7 @@ ghost use Rattle.occ_refine.specs.Roots.{RefinedIsNamed};
 ghost use Rattle.occ_traces.specs.Traces.{IsTraceAnswer};
 
 use crate::trace_refines;
-use occ_norm::{Accepted, Refined, World, normalise};
+use occ_refine::{Accepted, CompareRefined as Refined, World, normalise};
 use occ_syntax::Memory;
 use std::alloc::Global;
 

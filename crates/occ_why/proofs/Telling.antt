@@ -2,22 +2,22 @@
 use Rattle.std.proofs.Common.{ℕ, List, [], ◌∷◌, ◌++◌, ◌≡◌, ◌≤◌, ◌∙◌, Ok, Option, codes, ap, length, refl, subst, sym, append_assoc}
 use Rattle.std.proofs.lemmas.List.{same_from_push}
 use Rattle.std.specs.List.{flat_map}
-use Rattle.occ_behaviour.specs.Texts.{event_text, last_text, set_text, state_text, text_of_behaviour}
-use Rattle.occ_behaviour.specs.declared.behaviour.Behaviour.{Behaviour}
-use Rattle.occ_behaviour.specs.declared.behaviour.Last.{Last}
-use Rattle.occ_behaviour.specs.declared.behaviour.Last.TheVariants.{Refuses, Ends}
-use Rattle.occ_syntax.specs.occ_base.Names.{IsDistinct}
-use Rattle.occ_syntax.specs.occ_base.declared.names.Name.{Name}
-use Rattle.occ_syntax.specs.declared.scope.Kind.{Kind}
-use Rattle.occ_syntax.specs.declared.scope.Program.{Program}
-use Rattle.occ_tool_run.proofs.AsWritten.{BehavioursLaw}
-use Rattle.occ_tool_run.proofs.Judging.{accepted_file}
-use Rattle.occ_tool_run.specs.occ_call.Files.{IsLoaded, most_bytes}
-use Rattle.occ_tool_run.proofs.from_run_schedule.Inside.{claim_within}
-use Rattle.occ_tool_run.specs.Judged.{HasInterface, IsAcceptedFrom}
-use Rattle.occ_tool_run.specs.occ_behaviour_read.Claims.{claim_read}
-use Rattle.occ_tool_run.specs.occ_call.declared.loading.Loaded.{Loaded}
-use Rattle.occ_tool_run.specs.occ_run_schedule.Witnesses.{IsWithin}
+use Rattle.occ_why_text.specs.occ_behaviour.Texts.{event_text, last_text, set_text, state_text, text_of_behaviour}
+use Rattle.occ_why_text.specs.occ_behaviour.declared.behaviour.Behaviour.{Behaviour}
+use Rattle.occ_why_text.specs.occ_behaviour.declared.behaviour.Last.{Last}
+use Rattle.occ_why_text.specs.occ_behaviour.declared.behaviour.Last.TheVariants.{Refuses, Ends}
+use Rattle.occ_why_text.specs.occ_base.Names.{IsDistinct}
+use Rattle.occ_why_text.specs.occ_base.declared.names.Name.{Name}
+use Rattle.occ_why_text.specs.occ_syntax.declared.scope.Kind.{Kind}
+use Rattle.occ_why_text.specs.occ_syntax.declared.scope.Program.{Program}
+use Rattle.occ_check.proofs.from_tool_run.AsWritten.{BehavioursLaw}
+use Rattle.occ_check.proofs.from_tool_run.Judging.{accepted_file}
+use Rattle.occ_check.specs.occ_call.Files.{IsLoaded, most_bytes}
+use Rattle.occ_check.proofs.from_run_schedule.Inside.{claim_within}
+use Rattle.occ_check.specs.occ_tool_run.Judged.{HasInterface, IsAcceptedFrom}
+use Rattle.occ_check.specs.occ_behaviour_read.Claims.{claim_read}
+use Rattle.occ_check.specs.occ_call.declared.loading.Loaded.{Loaded}
+use Rattle.occ_check.specs.occ_run_schedule.Witnesses.{IsWithin}
 use Rattle.occ_why.specs.Told.{AreLinesOf, IsClaimOf, IsTold, set_in}
 
 -- ---- the lines of a behaviour

@@ -1,17 +1,17 @@
 -- What files are answered with by `why`.
 use Rattle.std.specs.Prelude.{ℕ, ◌≡◌, ◌⊎◌, List, Option, Some, codes}
-use Rattle.occ_behaviour.specs.declared.behaviour.Behaviour.{Behaviour}
-use Rattle.occ_behaviour.specs.declared.behaviour.Side.{Side}
-use Rattle.occ_behaviour.specs.declared.behaviour.Side.TheVariants.{First, Second}
-use Rattle.occ_behaviour.specs.declared.behaviour.Verdict.TheVariants.{Differ}
+use Rattle.occ_why_text.specs.occ_behaviour.declared.behaviour.Behaviour.{Behaviour}
+use Rattle.occ_why_text.specs.occ_behaviour.declared.behaviour.Side.{Side}
+use Rattle.occ_why_text.specs.occ_behaviour.declared.behaviour.Side.TheVariants.{First, Second}
+use Rattle.occ_why_text.specs.occ_behaviour.declared.behaviour.Verdict.TheVariants.{Differ}
 use Rattle.occ_check.specs.Answers.{Answers as Checked}
-use Rattle.occ_tool_run.specs.Answers.{Seeks, Settles}
-use Rattle.occ_tool_run.specs.Texts.{status_of, text_of}
-use Rattle.occ_tool_run.specs.occ_call.Files.{IsLoaded, most_bytes}
-use Rattle.occ_tool_run.specs.occ_call.declared.loading.Loaded.{Loaded}
-use Rattle.occ_tool_run.specs.declared.answer.Answer.{Answer}
-use Rattle.occ_tool_run.specs.declared.answer.Answer.TheVariants.{Compared, Sought}
-use Rattle.occ_tool_run.specs.declared.judge.Question.TheVariants.{WhetherSame}
+use Rattle.occ_check.specs.occ_tool_run.Answers.{Seeks, Settles}
+use Rattle.occ_check.specs.occ_tool_run.Texts.{status_of, text_of}
+use Rattle.occ_check.specs.occ_call.Files.{IsLoaded, most_bytes}
+use Rattle.occ_check.specs.occ_call.declared.loading.Loaded.{Loaded}
+use Rattle.occ_check.specs.occ_tool_run.declared.answer.Answer.{Answer}
+use Rattle.occ_check.specs.occ_tool_run.declared.answer.Answer.TheVariants.{Compared, Sought}
+use Rattle.occ_check.specs.occ_tool_run.declared.judge.Question.TheVariants.{WhetherSame}
 use Rattle.occ_why.specs.Told.{AreLinesOf, AreTelling, IsTold}
 
 -- the text is what `check` says of the file of that name

@@ -1,19 +1,19 @@
 //! The answers to the command.
 
 ghost use Rattle.std.specs.Prelude.{◌≡◌, ◌≢◌, ◌⊎◌, ℕ, List, Option, IfOk};
-ghost use Rattle.occ_tool_run.specs.Texts.{IsPrintable, status_of, text_of};
-ghost use Rattle.occ_tool_run.specs.occ_call.Files.{IsLoaded, IsShort, most_bytes};
-ghost use Rattle.occ_tool_run.specs.occ_call.Ran.{IsOwnStatus};
+ghost use Rattle.occ_check.specs.occ_tool_run.Texts.{IsPrintable, status_of, text_of};
+ghost use Rattle.occ_check.specs.occ_call.Files.{IsLoaded, IsShort, most_bytes};
+ghost use Rattle.occ_check.specs.occ_call.Ran.{IsOwnStatus};
 ghost use Rattle.occ_why.specs.Answers.{Answers, AnswersApart, IsCheckedOf};
 
 use crate::explaining::{apart, stuck};
 use crate::given::Given;
 use crate::shown::lines_of;
-use occ_check::check;
-use occ_tool_run::answer::{Answer, status, text};
-use occ_tool_run::judge::{Question, judge};
-use occ_tool_run::stuck::seek;
-use occ_tool_run::{Memory, Reply, Side, Verdict};
+use occ_check::answer::{Answer, status, text};
+use occ_check::judge::{Question, judge};
+use occ_check::stuck::seek;
+use occ_check::{Reply, check};
+use occ_why_text::{Memory, Side, Verdict};
 use std::alloc::Global;
 
 /// The reply to two files of programs: why they differ, and what tells them apart.

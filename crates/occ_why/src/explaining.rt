@@ -1,14 +1,14 @@
 //! Why a program has a behaviour, told.
 
 ghost use Rattle.std.specs.Prelude.{codes, IfOk};
-ghost use Rattle.occ_tool_run.specs.occ_call.Files.{IsShort, most_bytes};
+ghost use Rattle.occ_check.specs.occ_call.Files.{IsShort, most_bytes};
 ghost use Rattle.occ_why.specs.Told.{Choose, IsTold, TellAlone};
 
 use crate::given::Given;
 use crate::reading::{Reading, read};
 use crate::shown::whole;
-use occ_tool_run::{Memory, Witness};
-use occ_why_text::{Case, look, page, refusing, smallest_refusal};
+use occ_check::Witness;
+use occ_why_text::{Case, Memory, look, page, refusing, smallest_refusal};
 use std::alloc::Global;
 
 /// The text about two programs that differ, of which the first alone has the behaviour of these lines.

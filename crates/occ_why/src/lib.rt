@@ -9,3 +9,4 @@ mod shown;
 
 pub use command::{why, why_apart};
 pub use given::Given;
+pub use occ_check::{check, explain};

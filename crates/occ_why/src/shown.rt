@@ -2,11 +2,10 @@
 
 ghost use Rattle.std.specs.Prelude.{◌≡◌, ◌++◌, IfOk, OnOk};
 ghost use Rattle.std.specs.List.{flat_map};
-ghost use Rattle.occ_behaviour.specs.Members.{IsNamed};
+ghost use Rattle.occ_why_text.specs.occ_behaviour.Members.{IsNamed};
 ghost use Rattle.occ_why.specs.Told.{AreLinesOf, IsTold, set_in};
 
-use occ_behaviour::{Behaviour, behaviour_text};
-use occ_tool_run::{Memory, Names};
+use occ_why_text::{Behaviour, Memory, Names, behaviour_text};
 use std::alloc::Global;
 
 /// The lines of a behaviour, without the end of the last one.

@@ -2,7 +2,7 @@ ghost use Rattle.std.specs.Prelude.{◌≡◌, map};
 ghost use Rattle.occ_run.specs.Effects.{seen_offers};
 ghost use Rattle.occ_run.specs.Machines.{step_at, steps_at};
 
-use occ_place::{Offer, Point};
+use occ_run::{Offer, Point};
 use occ_syntax::Memory;
 
 /// Where the step of a number leads, by all steps of a configuration; None where there is no such step.

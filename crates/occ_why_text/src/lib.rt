@@ -18,6 +18,9 @@ mod verdict;
 mod waiting;
 
 pub use look::{Look, look};
+pub use occ_place::Places;
+pub use occ_run::{Accepted, Behaviour, Point, Side, Verdict, behaviour_text};
+pub use occ_syntax::{Memory, Names};
 pub use page::{Case, page};
 pub use subject::Subject;
 pub use telling::{refusing, smallest_refusal};

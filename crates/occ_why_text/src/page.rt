@@ -7,8 +7,8 @@ use crate::subject::Subject;
 use crate::verdict::{push_deadlock, push_difference};
 use crate::waiting::{push_waits, ring_of, waits_of};
 use occ_member::{has_ended, refuses};
-use occ_place::{Point, Told, push_stands, stands};
-use occ_run::{Last, held, is_over};
+use occ_place::{Told, push_stands, stands};
+use occ_run::{Last, Point, held, is_over};
 use occ_syntax::{Kind, Memory, Name, push_number};
 
 /// What is told of: the program that has a behaviour, the schedule that leads it there, and the other one, looked through along the events

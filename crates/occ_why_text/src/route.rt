@@ -1,9 +1,10 @@
 use crate::begins::{Begin, begin_of, push_pieces};
 use crate::behind::behind;
 use occ_place::{
-    Columns, Line, Places, Point, Told, event_cell, line_cell, push_table, statement_cell, tell,
+    Columns, Line, Places, Told, event_cell, line_cell, push_table, statement_cell, tell,
     values_cell, who_cell,
 };
+use occ_run::Point;
 use occ_syntax::{Memory, push_number};
 use std::alloc::Global;
 

@@ -1,5 +1,5 @@
-use occ_place::{Offer, Places, Point};
-use occ_run::Behaviour;
+use occ_place::Places;
+use occ_run::{Behaviour, Offer, Point};
 use occ_syntax::{Dir, Event, Kind, Memory, Name};
 
 /// A program of which is told: the name of its file, its places, its parameters, and a behaviour.

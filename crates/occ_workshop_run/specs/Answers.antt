@@ -5,7 +5,7 @@ use Rattle.occ_witness.specs.occ_call.declared.loading.Wanted.{Wanted}
 use Rattle.occ_witness.specs.occ_call.declared.loading.Wanted.TheVariants.{Nothing, One, Two}
 use Rattle.occ_witness.specs.occ_call.declared.replying.Reply.{Reply}
 use Rattle.occ_witness.specs.occ_call.Files.{AreLoaded, Files, most_bytes, most_table_bytes}
-use Rattle.occ_check.specs.Answers.{Answers as AnswersCheck}
+use Rattle.occ_why.specs.occ_check.Answers.{Answers as AnswersCheck}
 use Rattle.occ_draw.specs.Answers.{Answers as AnswersDraw}
 use Rattle.occ_lts.specs.Answers.{AnswersAut, AnswersPromela}
 use Rattle.occ_prove.specs.Answers.{Answers as AnswersProve}

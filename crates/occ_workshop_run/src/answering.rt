@@ -7,13 +7,12 @@ ghost use Rattle.occ_workshop_run.specs.Answers.{IsReplyTo, wanted_of};
 ghost use Rattle.occ_workshop_run.specs.Words.{AskForTwoPrograms, job, usage_text};
 
 use crate::words::Command;
-use occ_check::{check, explain};
 use occ_draw::{Memory, draw};
 use occ_lts::{aut, deterministic, promela, traces};
 use occ_places::{laws, paths};
 use occ_prove::prove;
 use occ_steps::{steps, steps_at_start};
-use occ_why::{Given, why, why_apart};
+use occ_why::{Given, check, explain, why, why_apart};
 use occ_witness::{Contents, MOST_BYTES, MOST_TABLE_BYTES, Named, Reply, Wanted, witness};
 use std::alloc::Global;
 

@@ -3,8 +3,8 @@ use Rattle.occ_syntax.specs.Scopes.{environment}
 use Rattle.occ_syntax.specs.Types.{types_kept}
 use Rattle.occ_syntax.specs.View.{tree}
 use Rattle.std.proofs.lemmas.Result.{IfOk-weaker}
-use Rattle.occ_norm.specs.Root.{IsRoot}
-use Rattle.occ_norm.proofs.Rooted.{root-extends}
+use Rattle.occ_refine.specs.occ_norm.Root.{IsRoot}
+use Rattle.occ_refine.proofs.from_norm.Rooted.{root-extends}
 use Rattle.occ_refine.specs.Roots.{RefinedIsNamed}
 use Rattle.occ_refine.proofs.Link.{comparable}
 use Rattle.occ_refine.proofs.Outside.{root_within}
