@@ -1,1 +1,1 @@
-pub mod Margins
+mod Lining

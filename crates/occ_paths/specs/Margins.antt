@@ -1,5 +1,5 @@
 -- What stands in front of the lines of a printed program: the path of the part that begins on the line.
-use Rattle.std.specs.Prelude.{ℕ, ◌+◌, ◌-◌, ◌==◌, Bool, true, false, max, min, List, [], ◌∷◌, ◌++◌, length, replicate, codes, decimal, Option, Some, None, slice_get, unwrap_or}
+use Rattle.std.specs.Prelude.{ℕ, ◌+◌, ◌-◌, ◌==◌, Bool, true, max, min, List, [], ◌∷◌, ◌++◌, length, replicate, codes, decimal, Option, Some, None, slice_get, unwrap_or, if◌then◌else◌}
 use Rattle.std.specs.List.{flat_map}
 use Rattle.occ_syntax.specs.Tree.{Tree, skip, stop, assign, receive, send, seq, par, select, alt, declare, connect, Trees, no_tree, and_tree, Cases, no_case, and_case, Branches, no_branch, and_branch}
 
@@ -75,8 +75,8 @@ margin_at ms line = unwrap_or (slice_get ms line) None
 -- The bytes of a text with each line behind its margin: where a line begins, it is the line of that number.
 abbrev pub beside : ℕ → List (Option Path) → Bool → ℕ → List ℕ → List ℕ
 beside column ms begins line [] = []
-beside column ms true line (byte ∷ text) = padded column (margin_at ms line) ++ byte ∷ beside column ms (byte == 10) (line + 1) text
-beside column ms false line (byte ∷ text) = byte ∷ beside column ms (byte == 10) line text
+beside column ms begins line (byte ∷ text) =
+    (if begins then padded column (margin_at ms line) else []) ++ byte ∷ beside column ms (byte == 10) (if begins then line + 1 else line) text
 
 -- the text of a program with this body, with its paths
 abbrev pub with_paths : Tree → List ℕ → List ℕ

@@ -1,7 +1,7 @@
 //! The lines of a program, each behind the path of the part that begins on it.
 
-ghost use Rattle.std.specs.Prelude.{◌≡◌, ◌-◌, ◌++◌, IfOk, OnOk, replicate, true};
-ghost use Rattle.occ_paths.specs.Margins.{beside, margin_at, padded, with_paths};
+ghost use Rattle.std.specs.Prelude.{◌≡◌, ◌<◌, ◌+◌, ◌-◌, ◌^◌, ◌++◌, [], IfOk, OnOk, if◌then◌else◌, replicate, true};
+ghost use Rattle.occ_paths.specs.Margins.{beside, margin_at, margin_text, padded, with_paths};
 ghost use Rattle.occ_print.specs.Known.{ProgramIsKnown};
 ghost use Rattle.occ_print.specs.Spelled.{program_text};
 ghost use Rattle.occ_syntax.specs.View.{tree};
@@ -14,16 +14,26 @@ use occ_syntax::{Memory, Names};
 use occ_usage::Accepted;
 use std::alloc::Global;
 
-fn push_spaces(text: &mut Vec<u8>, from: usize, to: usize) -> Result<(), Memory>
-    ensures { OnOk result (text.new.items ≡ text.old.items ++ replicate (to - from) 32) }
+fn push_spaces(text: &mut Vec<u8>, count: usize) -> Result<(), Memory>
+    ensures { OnOk result (text.new.items ≡ text.old.items ++ replicate count 32) }
 {
-    for _ in from..to {
+    for _n in 0..count {
         text.extend_from_slice(b" ")?;
     }
     Ok(())
 }
 
-/// Adds what stands in front of a line: the path, if a part begins there, and spaces up to the column and two more.
+/// The path in front of the line of that number, where a part begins on it.
+fn path_at(alloc: Global, margins: &[Option<Route>], line: usize) -> Result<Vec<u8>, Memory>
+    ensures { IfOk result (λ text. text.items ≡ margin_text (margin_at margins.now line)) }
+{
+    match margins.get(line) {
+        Some(margin) => margin_text(alloc, margin),
+        None => Ok(Vec::new(alloc)),
+    }
+}
+
+/// Adds what stands in front of the line of that number: the path, and spaces up to the column and two more.
 fn push_margin(
     alloc: Global,
     text: &mut Vec<u8>,
@@ -33,15 +43,31 @@ fn push_margin(
 ) -> Result<(), Memory>
     ensures { OnOk result (text.new.items ≡ text.old.items ++ padded column (margin_at margins.now line)) }
 {
-    let mut len: usize = 0;
-    if line < margins.len() {
-        let path = margin_text(alloc, &margins[line])?;
-        text.extend_from_slice(path.as_slice())?;
-        len = path.len();
-    }
-    push_spaces(text, len, column)?;
+    let path = path_at(alloc, margins, line)?;
+    text.extend_from_slice(path.as_slice())?;
+    push_spaces(text, column.saturating_sub(path.len()))?;
     text.extend_from_slice(b"  ")?;
     Ok(())
+}
+
+/// The same where a line begins, and nothing elsewhere. The number of the next line.
+fn push_front(
+    alloc: Global,
+    text: &mut Vec<u8>,
+    margins: &[Option<Route>],
+    line: usize,
+    column: usize,
+    begins: bool,
+) -> Result<usize, Memory>
+    requires { line < 2 ^ 64 - 1 }
+    ensures text { OnOk result (text.new.items ≡ text.old.items ++ (if begins then padded column (margin_at margins.now line) else [])) }
+    ensures next { IfOk result (λ next. next ≡ (if begins then line + 1 else line)) }
+{
+    if !begins {
+        return Ok(line);
+    }
+    push_margin(alloc, text, margins, line, column)?;
+    Ok(line + 1)
 }
 
 /// A text with each line behind its margin.
@@ -57,10 +83,7 @@ fn beside(
     let mut line: usize = 0;
     let mut begins = true;
     for byte in text {
-        if begins {
-            push_margin(alloc, &mut made, margins, line, column)?;
-            line += 1;
-        }
+        line = push_front(alloc, &mut made, margins, line, column, begins)?;
         made.push(*byte)?;
         begins = *byte == b'\n';
     }

@@ -20,18 +20,31 @@ abbrev pub decreases-push_alternatives : goal.decreases-push_alternatives
 decreases-push_alternatives l = 2 * weight_of_branches (branches l.alternatives.now)
 
 -- what is found, and the margins of the rest
-abbrev pub invariant-push_part-loop-here : goal.invariant-push_part-loop-here
-invariant-push_part-loop-here l = record {
-  whole : l.found ++ margins l.here (tree l.rest) ≡ l.initial.found ++ margins l.path (tree l.part);
+abbrev pub invariant-push_part-loop-body : goal.invariant-push_part-loop-body
+invariant-push_part-loop-body l = record {
+  whole : l.found ++ margins l.here (tree l.rest) ≡ l.fn.found ++ margins l.path (tree l.part);
   left : weight (tree l.rest) ≤ weight (tree l.part);
 }
 
-abbrev pub decreases-push_part-loop-here : goal.decreases-push_part-loop-here
-decreases-push_part-loop-here l = weight (tree l.rest)
+abbrev pub decreases-push_part-loop-body : goal.decreases-push_part-loop-body
+decreases-push_part-loop-body l = weight (tree l.rest)
 
 -- the parts that are left
 abbrev pub invariant-push_parts-loop-part : goal.invariant-push_parts-loop-part
 invariant-push_parts-loop-part l = record {
   at : l.place ≡ l.part-index;
   whole : l.found ++ all_margins l.path l.place (trees (drop l.part-index l.parts)) ≡ l.initial.found ++ all_margins l.path 0 (trees l.parts);
+}
+
+abbrev pub invariant-push_choices-loop-part : goal.invariant-push_choices-loop-part
+invariant-push_choices-loop-part l = record {
+  at : l.place ≡ l.part-index;
+  whole : l.found ++ case_margins l.path l.place (cases (drop l.part-index l.choices)) ≡ l.initial.found ++ case_margins l.path 0 (cases l.choices);
+}
+
+abbrev pub invariant-push_alternatives-loop-part : goal.invariant-push_alternatives-loop-part
+invariant-push_alternatives-loop-part l = record {
+  at : l.place ≡ l.part-index;
+  whole : l.found ++ branch_margins l.path l.place (branches (drop l.part-index l.alternatives))
+      ≡ l.initial.found ++ branch_margins l.path 0 (branches l.alternatives);
 }
