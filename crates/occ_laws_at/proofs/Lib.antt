@@ -1,3 +1,3 @@
 mod Followed
 mod Once
-mod Saying
+mod Standing

@@ -1,11 +1,11 @@
 -- What is said is one text.
 use Rattle.std.proofs.Common.{◌≡◌, ◌∙◌, ℕ, ◌+◌, List, [], ◌∷◌, ◌++◌, Option, Some, codes, ap, refl, subst, sym, arith}
 use Rattle.occ_laws_at.specs.Said.{AreAllSaid, AreSaid, IsSaid, alone, and_law_said, made, made_text, no_law_said, stopped}
-use Rattle.occ_order.specs.Form.{kind}
-use Rattle.occ_order.specs.Telling.{lack_text}
-use Rattle.occ_order.specs.occ_law.declared.table.LawId.{LawId}
-use Rattle.occ_order.specs.occ_replay_rules.Moves.{Move}
-use Rattle.occ_order.specs.occ_replay_rules.Orders.{Follows, Lack, Order, Stops}
+use Rattle.occ_laws_at.specs.Form.{kind}
+use Rattle.occ_laws_at.specs.Telling.{lack_text}
+use Rattle.occ_script.specs.occ_law.declared.table.LawId.{LawId}
+use Rattle.occ_replay_rules.specs.Moves.{Move}
+use Rattle.occ_replay_rules.specs.Orders.{Follows, Lack, Order, Stops}
 use Rattle.occ_paths.specs.occ_meaning.Context.{part_at}
 use Rattle.occ_syntax.specs.Tree.{Tree}
 use Rattle.occ_syntax.specs.declared.scope.Kind.{Kind}

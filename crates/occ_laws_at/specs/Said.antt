@@ -4,16 +4,16 @@ use Rattle.std.specs.declared.alloc.Global.{Global}
 use Rattle.occ_engine_known.specs.occ_engine.declared.fault.EngineFault.{EngineFault}
 use Rattle.occ_engine_known.specs.occ_engine.declared.fault.EngineFault.TheVariants as engine
 use Rattle.occ_engine_known.specs.occ_engine.Moved.{orders_of}
-use Rattle.occ_order.specs.occ_law.declared.table.LawId.{LawId}
-use Rattle.occ_order.specs.occ_replay_rules.Moves.{Move}
-use Rattle.occ_order.specs.occ_replay_rules.Orders.{Follows, Lack, Order, Stops}
-use Rattle.occ_order.specs.Form.{kind}
-use Rattle.occ_order.specs.Order.{forward_order, order_words}
-use Rattle.occ_order.specs.Telling.{barred_text, lack_text, wish_text}
+use Rattle.occ_script.specs.occ_law.declared.table.LawId.{LawId}
+use Rattle.occ_replay_rules.specs.Moves.{Move}
+use Rattle.occ_replay_rules.specs.Orders.{Follows, Lack, Order, Stops}
+use Rattle.occ_laws_at.specs.Form.{kind}
+use Rattle.occ_laws_at.specs.Order.{forward_order, order_words}
+use Rattle.occ_laws_at.specs.Telling.{barred_text, lack_text, wish_text}
 use Rattle.occ_paths.specs.occ_meaning.Context.{part_at}
 use Rattle.occ_paths.specs.occ_print.Spelled.{part_text}
 use Rattle.occ_syntax.specs.declared.scope.Kind.{Kind}
-use Rattle.occ_order.specs.occ_script_lines.Texts.{path_of}
+use Rattle.occ_script.specs.occ_script_lines.Texts.{path_of}
 use Rattle.occ_syntax.specs.occ_base.declared.names.Name.{Name}
 use Rattle.occ_syntax.specs.Tree.{Tree}
 

@@ -7,11 +7,14 @@ ghost use Rattle.occ_laws_at.specs.Said.{IsSaid, IsToldOf, made_text};
 ghost use Rattle.occ_paths.specs.occ_print.Known.{PartIsKnown};
 ghost use Rattle.occ_syntax.specs.View.{tree};
 
+use crate::law::scopes_are_kept;
+use crate::order::{forward, push_order};
+use crate::telling::{barred, wish};
 use occ_engine_known::{
     EngineFault, direct_results_declare_no_new_names, kept_parts_have_known_names, transform,
 };
-use occ_order::{Lacking, LawId, Path, forward, push_order, scopes_are_kept, told};
 use occ_paths::{Accepted, push_part};
+use occ_script::{LawId, Path};
 use occ_syntax::{Memory, Names, Proc};
 use std::alloc::Global;
 
@@ -56,12 +59,8 @@ fn stopped(
     ensures { IfOk result (λ text. IsToldOf law.0 place.word.now place.kind fault text.items) }
 {
     match fault {
-        EngineFault::NotApplicable { .. } => {
-            told(alloc, law, place.word, place.kind, Lacking::NotApplicable)
-        }
-        EngineFault::NotAccepted { .. } => {
-            told(alloc, law, place.word, place.kind, Lacking::NotAccepted)
-        }
+        EngineFault::NotApplicable { .. } => wish(alloc, law, place.word, place.kind),
+        EngineFault::NotAccepted { .. } => barred(alloc, law, place.word),
         EngineFault::NoLaw { .. } | EngineFault::NoPath { .. } => Ok(Vec::new(alloc)),
         EngineFault::NotPar => unreachable!(),
         EngineFault::Memory => Err(Memory),

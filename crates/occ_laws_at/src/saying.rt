@@ -5,9 +5,10 @@ ghost use Rattle.occ_engine_known.specs.Known.{NamesAreBelow};
 ghost use Rattle.occ_laws_at.specs.Said.{AreSaid, IsListed};
 ghost use Rattle.occ_syntax.specs.View.{tree};
 
+use crate::form::kind;
 use crate::said::{Place, said};
-use occ_order::{LawId, at, kind, script_lines_path as path};
 use occ_paths::Accepted;
+use occ_script::{LawId, at, script_lines_path as path};
 use occ_syntax::{Memory, Names};
 use std::alloc::Global;
 
@@ -23,8 +24,8 @@ fn listed(
         place.word.now place.path.now place.kind 63 text.items) }
 {
     let mut text = Vec::new(alloc);
-    for law in 1..64u8 {
-        let said = said(alloc, names, accepted, LawId(law), place)?;
+    for before in 0..63u8 {
+        let said = said(alloc, names, accepted, LawId(before + 1), place)?;
         text.extend_from_slice(said.as_slice())?;
     }
     Ok(text)

@@ -8,7 +8,7 @@ ghost use Rattle.occ_syntax.specs.View.{tree};
 
 use crate::Route;
 use crate::margins::margins;
-use crate::path::{column, margin_text};
+use crate::path::{column, push_margin_text};
 use occ_print::print;
 use occ_syntax::{Memory, Names};
 use occ_usage::Accepted;
@@ -23,19 +23,18 @@ fn push_spaces(text: &mut Vec<u8>, count: usize) -> Result<(), Memory>
     Ok(())
 }
 
-/// The path in front of the line of that number, where a part begins on it.
-fn path_at(alloc: Global, margins: &[Option<Route>], line: usize) -> Result<Vec<u8>, Memory>
-    ensures { IfOk result (λ text. text.items ≡ margin_text (margin_at margins.now line)) }
+/// Adds the path in front of the line of that number, where a part begins on it.
+fn push_path_at(text: &mut Vec<u8>, margins: &[Option<Route>], line: usize) -> Result<(), Memory>
+    ensures { OnOk result (text.new.items ≡ text.old.items ++ margin_text (margin_at margins.now line)) }
 {
     match margins.get(line) {
-        Some(margin) => margin_text(alloc, margin),
-        None => Ok(Vec::new(alloc)),
+        Some(margin) => push_margin_text(text, margin),
+        None => Ok(()),
     }
 }
 
-/// Adds what stands in front of the line of that number: the path, and spaces up to the column and two more.
+/// Adds what stands in front of the line of that number: the path, spaces up to the column, and two more.
 fn push_margin(
-    alloc: Global,
     text: &mut Vec<u8>,
     margins: &[Option<Route>],
     line: usize,
@@ -43,16 +42,15 @@ fn push_margin(
 ) -> Result<(), Memory>
     ensures { OnOk result (text.new.items ≡ text.old.items ++ padded column (margin_at margins.now line)) }
 {
-    let path = path_at(alloc, margins, line)?;
-    text.extend_from_slice(path.as_slice())?;
-    push_spaces(text, column.saturating_sub(path.len()))?;
+    let from = text.len();
+    push_path_at(text, margins, line)?;
+    push_spaces(text, column.saturating_sub(text.len() - from))?;
     text.extend_from_slice(b"  ")?;
     Ok(())
 }
 
 /// The same where a line begins, and nothing elsewhere. The number of the next line.
 fn push_front(
-    alloc: Global,
     text: &mut Vec<u8>,
     margins: &[Option<Route>],
     line: usize,
@@ -66,7 +64,7 @@ fn push_front(
     if !begins {
         return Ok(line);
     }
-    push_margin(alloc, text, margins, line, column)?;
+    push_margin(text, margins, line, column)?;
     Ok(line + 1)
 }
 
@@ -83,7 +81,7 @@ fn beside(
     let mut line: usize = 0;
     let mut begins = true;
     for byte in text {
-        line = push_front(alloc, &mut made, margins, line, column, begins)?;
+        line = push_front(&mut made, margins, line, column, begins)?;
         made.push(*byte)?;
         begins = *byte == b'\n';
     }

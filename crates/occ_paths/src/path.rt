@@ -1,6 +1,6 @@
 //! The texts of paths, and how wide they are.
 
-ghost use Rattle.std.specs.Prelude.{◌≡◌, ◌++◌, IfOk, OnOk};
+ghost use Rattle.std.specs.Prelude.{◌≡◌, ◌++◌, IfOk, OnOk, length};
 ghost use Rattle.occ_paths.specs.Margins.{column_of, margin_text, numbers_text, path_text};
 
 use crate::Route;
@@ -30,15 +30,22 @@ fn push_path(text: &mut Vec<u8>, path: &Route) -> Result<(), Memory>
     }
 }
 
-/// The path in front of a line, where a part begins on it.
-pub(crate) fn margin_text(alloc: Global, margin: &Option<Route>) -> Result<Vec<u8>, Memory>
-    ensures { IfOk result (λ text. text.items ≡ margin_text margin.now) }
+/// Adds the path in front of a line, where a part begins on it.
+pub(crate) fn push_margin_text(text: &mut Vec<u8>, margin: &Option<Route>) -> Result<(), Memory>
+    ensures { OnOk result (text.new.items ≡ text.old.items ++ margin_text margin.now) }
+{
+    match margin {
+        Some(path) => push_path(text, path),
+        None => Ok(()),
+    }
+}
+
+fn width(alloc: Global, margin: &Option<Route>) -> Result<usize, Memory>
+    ensures { IfOk result (λ width. width ≡ length (margin_text margin.now)) }
 {
     let mut text = Vec::new(alloc);
-    if let Some(path) = margin {
-        push_path(&mut text, path)?;
-    }
-    Ok(text)
+    push_margin_text(&mut text, margin)?;
+    Ok(text.len())
 }
 
 /// How many bytes the paths in front of lines take, 32 at most.
@@ -47,7 +54,7 @@ pub(crate) fn column(alloc: Global, margins: &[Option<Route>]) -> Result<usize, 
 {
     let mut most: usize = 0;
     for margin in margins {
-        most = most.max(margin_text(alloc, margin)?.len());
+        most = most.max(width(alloc, margin)?);
     }
     Ok(most.min(32))
 }

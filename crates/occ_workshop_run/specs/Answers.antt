@@ -12,7 +12,7 @@ use Rattle.occ_prove.specs.Answers.{Answers as AnswersProve}
 use Rattle.occ_steps.specs.Answers.{AnswersAtStart, Answers as AnswersSteps}
 use Rattle.occ_why.specs.Answers.{Answers as AnswersWhy, AnswersApart}
 use Rattle.occ_lts.specs.Traces.{AnswersTraces, AnswersDeterministic}
-use Rattle.occ_places.specs.Answers.{AnswersPaths, AnswersLaws}
+use Rattle.occ_workbench.specs.Answers.{AnswersPaths, AnswersLaws}
 use Rattle.occ_witness.specs.Answers.{Answers as AnswersWitness}
 use Rattle.occ_workshop_run.specs.declared.words.Command.{Command}
 use Rattle.occ_workshop_run.specs.declared.words.Command.TheVariants.{Usage, Check, Draw, Explain, Prove, Witness, Aut, Promela, Steps, StepsAfter, Why, WhyApart, Traces, Deterministic, Paths, Laws}

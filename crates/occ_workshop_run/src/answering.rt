@@ -9,7 +9,7 @@ ghost use Rattle.occ_workshop_run.specs.Words.{AskForTwoPrograms, job, usage_tex
 use crate::words::Command;
 use occ_draw::{Memory, draw};
 use occ_lts::{aut, deterministic, promela, traces};
-use occ_places::{laws, paths};
+use occ_workbench::{laws, paths};
 use occ_prove::prove;
 use occ_steps::{steps, steps_at_start};
 use occ_why::{Given, check, explain, why, why_apart};

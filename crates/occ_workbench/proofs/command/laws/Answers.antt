@@ -1,9 +1,9 @@
 use Rattle.std.proofs.Common.{IfOk, subst}
 use Rattle.occ_tool_run.proofs.Engine.{names_from}
-use Rattle.occ_places.specs.Answers.{IsLawsOf}
+use Rattle.occ_workbench.specs.Answers.{IsLawsOf}
 use Rattle.occ_tool_run.specs.Stored.{seen}
-use Rattle.occ_places.proofs.Answering.{accepted_answer, refused_answer}
-use Rattle.occ_places.proofs.command.laws.Goals as goal
+use Rattle.occ_workbench.proofs.Answering.{accepted_answer, refused_answer}
+use Rattle.occ_workbench.proofs.command.laws.Goals as goal
 
 pub write_laws-requires : goal.write_laws-requires
 write_laws-requires c = names_from c.read_programs_have_known_names.ensures c.args.program.now _ _ c.in-Ok.accepted.program c.in-Ok.ensures.accepted

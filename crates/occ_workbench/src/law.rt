@@ -1,7 +1,7 @@
 //! That there is one answer.
 
 ghost use Rattle.std.specs.Prelude.{◌≡◌, ℕ, List, Option};
-ghost use Rattle.occ_places.specs.Answers.{AnswersLaws, AnswersPaths};
+ghost use Rattle.occ_workbench.specs.Answers.{AnswersLaws, AnswersPaths};
 
 use occ_laws_at::one_said;
 use occ_tool_run::one_reading;

@@ -15,7 +15,7 @@ use Rattle.occ_tool_run.specs.declared.accept.Refusal.{Refusal}
 use Rattle.occ_tool_run.specs.declared.accept.Refusal.TheVariants as refusal
 use Rattle.occ_tool_run.specs.declared.answer.Answer.{Answer}
 use Rattle.occ_tool_run.proofs.Judging.{accepted_file, refusal_taken}
-use Rattle.occ_places.specs.Answers.{AnswersBy, IsRefusal, accepted, refused}
+use Rattle.occ_workbench.specs.Answers.{AnswersBy, IsRefusal, accepted, refused}
 
 abbrev Rest : Type 1
 Rest = List (List ℕ) → Program → ℕ → List ℕ → Type 0

@@ -1,7 +1,7 @@
 use Rattle.occ_tool_run.proofs.Engine.{names_from}
-use Rattle.occ_places.specs.Answers.{IsPathsOf}
-use Rattle.occ_places.proofs.Answering.{accepted_answer, refused_answer}
-use Rattle.occ_places.proofs.command.paths.Goals as goal
+use Rattle.occ_workbench.specs.Answers.{IsPathsOf}
+use Rattle.occ_workbench.proofs.Answering.{accepted_answer, refused_answer}
+use Rattle.occ_workbench.proofs.command.paths.Goals as goal
 
 pub write_paths-requires : goal.write_paths-requires
 write_paths-requires c = names_from c.read_programs_have_known_names.ensures c.args.program.now _ _ c.in-Ok.accepted.program c.in-Ok.ensures.accepted

@@ -5,7 +5,7 @@ ghost use Rattle.occ_tool_run.specs.occ_call.Files.{IsLoaded, IsShort, most_byte
 ghost use Rattle.occ_tool_run.specs.Judged.{IsSayable};
 ghost use Rattle.occ_tool_run.specs.Stored.{seen};
 ghost use Rattle.occ_tool_run.specs.Transformed.{HasKnownNames};
-ghost use Rattle.occ_places.specs.Answers.{AnswersLaws, AnswersPaths, IsLawsOf, IsPathsOf, IsRefusal};
+ghost use Rattle.occ_workbench.specs.Answers.{AnswersLaws, AnswersPaths, IsLawsOf, IsPathsOf, IsRefusal};
 
 use occ_laws_at::{Memory, Names, laws_at, with_paths};
 use occ_tool_run::accept::{Refusal, accept_first, refused};

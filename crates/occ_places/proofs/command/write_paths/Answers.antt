@@ -1,8 +1,0 @@
-use Rattle.occ_tool_run.proofs.from_usage.Law.{faultless_keeps}
-use Rattle.occ_places.proofs.Known.{program_known}
-use Rattle.occ_places.proofs.command.write_paths.Goals as goal
-
-pub with_paths-requires : goal.with_paths-requires
-with_paths-requires c =
-    let p = c.args.accepted.now.program in
-    program_known c.kept_parts_have_known_names.ensures c.args.names.now p (faultless_keeps p c.args.accepted.now.kept) c.requires
