@@ -1,14 +1,17 @@
 -- The one step of one order with no part given: its part, whose names are known.
-use Rattle.std.proofs.Common.{◌≡◌, ◌∙◌, ℕ, Bool, true, List, [], ◌∷◌, length, map, Option, None, Some, Result, Ok, Err, IfOk, ap, refl, subst, sym}
+use Rattle.std.proofs.Common.{◌≡◌, ◌∙◌, ℕ, suc, Bool, true, List, [], ◌∷◌, length, get_or, map, Option, None, Some, ap, refl, subst, sym, arith}
 use Rattle.occ_engine_known.proofs.Putting.{part_pass, scope_pass}
 use Rattle.occ_engine_known.specs.Known.{IsKnownPart, NamesAreBelow}
 use Rattle.occ_engine_known.specs.occ_engine.Moved.{move_of, moves_of, orders_of}
+use Rattle.occ_engine_known.specs.occ_engine.Outcomes.{AreStopped}
+use Rattle.occ_engine_known.specs.occ_engine.declared.fault.EngineFault.{EngineFault}
+use Rattle.occ_engine_known.specs.occ_engine.declared.fault.EngineFault.TheVariants as engine
 use Rattle.occ_laws_at.specs.Order.{forward_order}
-use Rattle.occ_laws_at.specs.Said.{IsSaid, alone, made, made_text}
+use Rattle.occ_laws_at.specs.Said.{IsSaid, IsToldOf, made, made_text, stopped}
 use Rattle.occ_paths.specs.occ_print.Known.{PartIsKnown}
 use Rattle.occ_replay_rules.specs.Moves.{IsApplied, Move}
 use Rattle.occ_replay_rules.specs.occ_meaning.Context.{put}
-use Rattle.occ_replay_rules.specs.Orders.{Follows, IsFollowed, IsGiven, Order, and_order, no_order, none_given, part_given}
+use Rattle.occ_replay_rules.specs.Orders.{Follows, IsFollowed, IsGiven, Lack, Order, Stops, and_order, no_law, no_order, no_path, none_given, not_accepted, not_applicable, part_given}
 use Rattle.occ_script.specs.declared.script.Order.{Order as Read}
 use Rattle.occ_script.specs.occ_law.RuleTable.{IsDirect}
 use Rattle.occ_script.specs.occ_law.declared.table.LawId.{LawId}
@@ -20,6 +23,7 @@ use Rattle.occ_script.specs.occ_script_lines.declared.direction.Direction.TheVar
 use Rattle.occ_engine_known.specs.occ_script_write.declared.writing.Done.{Done}
 use Rattle.occ_syntax.specs.occ_base.declared.names.Name.{Name}
 use Rattle.occ_syntax.specs.declared.scope.Kind.{Kind}
+use Rattle.occ_syntax.specs.declared.scope.Program.{Program}
 use Rattle.occ_syntax.specs.Scopes.{environment}
 use Rattle.occ_syntax.specs.Tree.{Tree}
 use Rattle.occ_syntax.specs.Types.{scope_kept, types_kept}
@@ -39,6 +43,17 @@ pub one_step : (S : List (Name × Kind)) (p q : Tree) (law : LawId) (path : List
     → orders ≡ forward_order law path ∷ [] → Follows S p (orders_of orders) (moves_of steps) q → length steps ≡ 1
 one_step S p q law path orders steps e f =
     sym (length_of_moves steps) ∙ as_many S p q (orders_of orders) (moves_of steps) f ∙ ap (λ os. length (orders_of os)) e
+
+-- the only item
+only_item : {X : Type 0} (xs : List X) (x : X) → length xs ≡ 1 → xs ≡ get_or xs 0 x ∷ []
+only_item [] x h = absurd (omega (arith, h))
+only_item (y ∷ []) x h = refl
+only_item (y ∷ z ∷ ys) x h = absurd (omega (arith, h))
+
+pub this_step : (S : List (Name × Kind)) (p q : Tree) (law : LawId) (path : List ℕ) (orders : List Read) (steps seen : List Done) (done : Done)
+    → orders ≡ forward_order law path ∷ [] → Follows S p (orders_of orders) (moves_of steps) q → seen ≡ steps → steps ≡ get_or seen 0 done ∷ []
+this_step S p q law path orders steps seen done e f s =
+    only_item steps done (one_step S p q law path orders steps e f) ∙ ap (λ ds. get_or ds 0 done ∷ []) (sym s)
 
 -- ---- its part
 
@@ -86,3 +101,21 @@ pub step_said : (names : List (List ℕ)) (S : List (Name × Kind)) (p q : Tree)
     → text ≡ made_text names law.0 word (tree done.part) → IsSaid names S p word path k law text
 step_said names S p q word path k law orders steps done text e s f t =
     made (move_of done) q (subst (λ os. Follows S p (orders_of os) (move_of done ∷ []) q) e (subst (λ ds. Follows S p (orders_of orders) (moves_of ds) q) s f)) t
+
+-- or of what stops the order
+pub stop_said : (names : List (List ℕ)) (program : Program) (word path : List ℕ) (k : ℕ) (law : LawId) (orders : List Read) (fault : EngineFault) (text : List ℕ)
+    → orders ≡ forward_order law path ∷ [] → AreStopped program (orders_of orders) fault → IsToldOf law.0 word k fault text
+    → IsSaid names program.params (tree program.body) word path k law text
+stop_said names program word path k law orders fault text e = by fault
+  where
+    alone_stops : (number : ℕ) (lack : Lack) → Stops program.params (tree program.body) (orders_of orders) number lack
+        → Stops program.params (tree program.body) (orders_of (forward_order law path ∷ [])) number lack
+    alone_stops number lack s = subst (λ os. Stops program.params (tree program.body) (orders_of os) number lack) e s
+    by : (fault : EngineFault) → AreStopped program (orders_of orders) fault → IsToldOf law.0 word k fault text
+        → IsSaid names program.params (tree program.body) word path k law text
+    by (engine.NoLaw i) s t = stopped i no_law (alone_stops i no_law s) t
+    by (engine.NoPath i) s t = stopped i no_path (alone_stops i no_path s) t
+    by (engine.NotAccepted i) s t = stopped i not_accepted (alone_stops i not_accepted s) t
+    by (engine.NotApplicable i) s t = stopped i not_applicable (alone_stops i not_applicable s) t
+    by engine.NotPar s t = absurd s
+    by engine.Memory s t = absurd t

@@ -1,3 +1,4 @@
 mod Followed
 mod Once
 mod Standing
+mod Listing

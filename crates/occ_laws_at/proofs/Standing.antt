@@ -63,11 +63,11 @@ input_stands Γ ks l r (var_alt_input z w gs hs b c x p h0 h1 h2 h3 h4 h5) = ref
 
 one_of : (P : ℕ → Type 0) (n : ℕ) (ns : List ℕ) → is_in ns n ≡ true → AllByRecursion P ns → P n
 one_of P n [] h all = absurd cc
-one_of P n (m ∷ ns) h all = at (n == m) refl h
+one_of P n (m ∷ ns) h all = at (n == m) refl (λ k. one_of P n ns k all.1) h
   where
-    at : (b : Bool) → (n == m) ≡ b → (b || is_in ns n) ≡ true → P n
-    at true e k = subst P (sym (eqb-true n m e)) all.0
-    at false e k = one_of P n ns k all.1
+    at : (b : Bool) → (n == m) ≡ b → (is_in ns n ≡ true → P n) → (b || is_in ns n) ≡ true → P n
+    at true e further k = subst P (sym (eqb-true n m e)) all.0
+    at false e further k = further k
 
 not_not : (b : Bool) → not b ≡ false → b ≡ true
 not_not true h = refl
@@ -77,15 +77,8 @@ abbrev Stands : ℕ → Type 0
 Stands n = (S : List (Name × Kind)) (ks : List ℕ) (l r : Tree) → SIDES n S ks l r → can_stand n (kind l) ≡ true
 
 pub all_stand : (n : ℕ) (S : List (Name × Kind)) (ks : List ℕ) (l r : Tree) → has_direct n ≡ false → SIDES n S ks l r → can_stand n (kind l) ≡ true
-all_stand n S ks l r h s = one_of Stands n (7 ∷ 8 ∷ 14 ∷ 24 ∷ 25 ∷ 27 ∷ 40 ∷ 47 ∷ 58 ∷ []) (not_not _ h) (
-  λ S ks l r s. assign_order_stands ks l r s,
-  λ S ks l r s. assign_pad_stands ks l r s,
-  λ S ks l r s. expr_stands S ks l r s,
-  λ S ks l r s. refl,
-  λ S ks l r s. if_under_stands S ks l r s,
-  λ S ks l r s. alt_order_stands ks l r s,
-  λ S ks l r s. par_order_stands ks l r s,
-  λ S ks l r s. var_rename_stands _ ks l r s,
-  λ S ks l r s. chan_rename_stands _ ks l r s,
-  tt,
-) S ks l r s
+all_stand n S ks l r h s = one_of Stands n (7 ∷ 8 ∷ 14 ∷ 24 ∷ 25 ∷ 27 ∷ 40 ∷ 47 ∷ 58 ∷ []) (not_not _ h)
+    (λ S ks l r s. assign_order_stands ks l r s, (λ S ks l r s. assign_pad_stands ks l r s, (λ S ks l r s. expr_stands S ks l r s,
+    (λ S ks l r s. refl, (λ S ks l r s. if_under_stands S ks l r s, (λ S ks l r s. alt_order_stands ks l r s,
+    (λ S ks l r s. par_order_stands ks l r s, (λ S ks l r s. var_rename_stands _ ks l r s, (λ S ks l r s. chan_rename_stands _ ks l r s, tt)))))))))
+    S ks l r s

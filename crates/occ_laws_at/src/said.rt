@@ -19,7 +19,7 @@ use occ_syntax::{Memory, Names, Proc};
 use std::alloc::Global;
 
 /// A place in a program at which laws are tried: the text of its path, its path, and what the part there is outermost.
-#[derive(Clone, Copy)]
+#[derive(Drop)]
 pub(crate) struct Place<'a> {
     pub(crate) word: &'a [u8],
     pub(crate) path: &'a Path,
@@ -50,17 +50,18 @@ fn made(
 fn stopped(
     alloc: Global,
     law: LawId,
-    place: Place<'_>,
+    word: &[u8],
+    kind: u8,
     fault: EngineFault,
 ) -> Result<Vec<u8>, Memory>
     requires low { 1 ≤ law.0 }
     requires high { law.0 ≤ 63 }
     requires par { fault ≢ engine.NotPar }
-    ensures { IfOk result (λ text. IsToldOf law.0 place.word.now place.kind fault text.items) }
+    ensures { IfOk result (λ text. IsToldOf law.0 word.now kind fault text.items) }
 {
     match fault {
-        EngineFault::NotApplicable { .. } => wish(alloc, law, place.word, place.kind),
-        EngineFault::NotAccepted { .. } => barred(alloc, law, place.word),
+        EngineFault::NotApplicable { .. } => wish(alloc, law, word, kind),
+        EngineFault::NotAccepted { .. } => barred(alloc, law, word),
         EngineFault::NoLaw { .. } | EngineFault::NoPath { .. } => Ok(Vec::new(alloc)),
         EngineFault::NotPar => unreachable!(),
         EngineFault::Memory => Err(Memory),
@@ -73,23 +74,24 @@ pub(crate) fn said(
     names: &Names,
     accepted: &Accepted,
     law: LawId,
-    place: Place<'_>,
+    place: &Place<'_>,
 ) -> Result<Vec<u8>, Memory>
     requires low { 1 ≤ law.0 }
     requires high { law.0 ≤ 63 }
     requires known { NamesAreBelow (length names.now) accepted.now.program.params (tree accepted.now.program.body) }
     ensures { IfOk result (λ text. IsSaid names.now accepted.now.program.params (tree accepted.now.program.body)
-        place.word.now place.path.now place.kind law text.items) }
+        place.now.word.now place.now.path.now place.now.kind law text.items) }
 {
     direct_results_declare_no_new_names();
     kept_parts_have_known_names();
     scopes_are_kept();
     let orders = forward(alloc, law, place.path)?;
     match transform(alloc, accepted, orders.items()) {
-        Ok(outcome) => match outcome.steps.items() {
-            [done] => made(alloc, names, law, place.word, &done.part),
-            _ => unreachable!(),
-        },
-        Err(fault) => stopped(alloc, law, place, fault),
+        Ok(outcome) => {
+            // one order is followed by one step
+            let steps = outcome.steps.items();
+            made(alloc, names, law, place.word, &steps[0].part)
+        }
+        Err(fault) => stopped(alloc, law, place.word, place.kind, fault),
     }
 }

@@ -17,11 +17,11 @@ fn listed(
     alloc: Global,
     names: &Names,
     accepted: &Accepted,
-    place: Place<'_>,
+    place: &Place<'_>,
 ) -> Result<Vec<u8>, Memory>
     requires { NamesAreBelow (length names.now) accepted.now.program.params (tree accepted.now.program.body) }
     ensures { IfOk result (λ text. AreSaid names.now accepted.now.program.params (tree accepted.now.program.body)
-        place.word.now place.path.now place.kind 63 text.items) }
+        place.now.word.now place.now.path.now place.now.kind 63 text.items) }
 {
     let mut text = Vec::new(alloc);
     for before in 0..63u8 {
@@ -54,7 +54,7 @@ pub fn laws_at(
         path: &path,
         kind: kind(part),
     };
-    let laws = listed(alloc, names, accepted, place)?;
+    let laws = listed(alloc, names, accepted, &place)?;
     let mut text = Vec::from_slice(alloc, b"occam-orders 2\n")?;
     text.extend_from_slice(laws.as_slice())?;
     Ok(Some(text))
