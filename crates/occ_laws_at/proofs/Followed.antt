@@ -1,5 +1,5 @@
 -- The one step of one order with no part given: its part, whose names are known.
-use Rattle.std.proofs.Common.{◌≡◌, ◌∙◌, ℕ, suc, Bool, true, List, [], ◌∷◌, length, get_or, map, Option, None, Some, ap, refl, subst, sym, arith}
+use Rattle.std.proofs.Common.{◌≡◌, ◌∙◌, ℕ, suc, Bool, true, List, [], ◌∷◌, length, get_or, Option, None, ap, refl, subst, sym, arith}
 use Rattle.occ_engine_known.proofs.Putting.{part_pass, scope_pass}
 use Rattle.occ_engine_known.specs.Known.{IsKnownPart, NamesAreBelow}
 use Rattle.occ_engine_known.specs.occ_engine.Moved.{move_of, moves_of, orders_of}

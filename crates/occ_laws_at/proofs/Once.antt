@@ -1,5 +1,5 @@
 -- What is said is one text.
-use Rattle.std.proofs.Common.{◌≡◌, ◌∙◌, ℕ, ◌+◌, List, [], ◌∷◌, ◌++◌, Option, Some, codes, ap, refl, subst, sym, arith}
+use Rattle.std.proofs.Common.{◌≡◌, ◌∙◌, ℕ, List, [], ◌∷◌, ◌++◌, Some, codes, ap, refl, subst, sym, arith}
 use Rattle.occ_laws_at.specs.Said.{AreAllSaid, AreSaid, IsSaid, alone, and_law_said, made, made_text, no_law_said, stopped}
 use Rattle.occ_laws_at.specs.Form.{kind}
 use Rattle.occ_laws_at.specs.Telling.{lack_text}

@@ -1,5 +1,5 @@
 -- The laws whose left side doesn't tell the right one stand on those parts alone of which that is said.
-use Rattle.std.proofs.Common.{◌≡◌, ◌∙◌, ℕ, ◌==◌, ◌||◌, Bool, true, false, not, List, [], ◌∷◌, eqb, refl, subst, sym}
+use Rattle.std.proofs.Common.{◌≡◌, ℕ, ◌==◌, ◌||◌, Bool, true, false, not, List, [], ◌∷◌, refl, subst, sym}
 use Rattle.std.proofs.lemmas.Bool.{eqb-true}
 use Rattle.std.specs.List.{AllByRecursion}
 use Rattle.occ_laws_at.specs.Form.{can_stand, kind, kind_of_scope}
