@@ -72,12 +72,11 @@ direct_of T given wanted n dir old new e d none_given a = subst (λ z. IsApplied
 direct_of T given wanted n dir old new e d (part_given part f) a = absurd cc
 
 module _ (direct_pass : (n : ℕ) (S : List (Name × Kind)) (l r : Tree) (test : ℕ → Bool) → IsDirect n S l r → declares test l ≡ true → declares test r ≡ true)
-  (kept_known : (n : ℕ) (S : List (Name × Kind)) (p : Tree) → scope_kept S ≡ true → types_kept p (environment S) ≡ true → NamesAreBelow n S p
+    (kept_known : (n : ℕ) (S : List (Name × Kind)) (p : Tree) → scope_kept S ≡ true → types_kept p (environment S) ≡ true → NamesAreBelow n S p
     → IsKnownPart n S p)
-  (scopes : (path : List ℕ) (S : List (Name × Kind)) (p : Tree) → scope_kept S ≡ true → types_kept p (environment S) ≡ true
+    (scopes : (path : List ℕ) (S : List (Name × Kind)) (p : Tree) → scope_kept S ≡ true → types_kept p (environment S) ≡ true
     → scope_kept (scope_list path S p) ≡ true)
-  (n : ℕ) (S : List (Name × Kind)) (p : Tree) (kept : scope_kept S ≡ true) (types : types_kept p (environment S) ≡ true) (names : NamesAreBelow n S p) where
-
+    (n : ℕ) (S : List (Name × Kind)) (p : Tree) (kept : scope_kept S ≡ true) (types : types_kept p (environment S) ≡ true) (names : NamesAreBelow n S p) where
   followed_known : (order : Order) (move : Move) → order.part ≡ None → order.dir ≡ Forward → IsFollowed S p order move → PartIsKnown n move.part
   followed_known order move e forward f =
       let T = scope_list order.path S p in
@@ -111,6 +110,7 @@ stop_said names program word path k law orders fault text e = by fault
     alone_stops : (number : ℕ) (lack : Lack) → Stops program.params (tree program.body) (orders_of orders) number lack
         → Stops program.params (tree program.body) (orders_of (forward_order law path ∷ [])) number lack
     alone_stops number lack s = subst (λ os. Stops program.params (tree program.body) (orders_of os) number lack) e s
+
     by : (fault : EngineFault) → AreStopped program (orders_of orders) fault → IsToldOf law.0 word k fault text
         → IsSaid names program.params (tree program.body) word path k law text
     by (engine.NoLaw i) s t = stopped i no_law (alone_stops i no_law s) t

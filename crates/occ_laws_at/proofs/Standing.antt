@@ -77,8 +77,23 @@ abbrev Stands : ℕ → Type 0
 Stands n = (S : List (Name × Kind)) (ks : List ℕ) (l r : Tree) → SIDES n S ks l r → can_stand n (kind l) ≡ true
 
 pub all_stand : (n : ℕ) (S : List (Name × Kind)) (ks : List ℕ) (l r : Tree) → has_direct n ≡ false → SIDES n S ks l r → can_stand n (kind l) ≡ true
-all_stand n S ks l r h s = one_of Stands n (7 ∷ 8 ∷ 14 ∷ 24 ∷ 25 ∷ 27 ∷ 40 ∷ 47 ∷ 58 ∷ []) (not_not _ h)
-    (λ S ks l r s. assign_order_stands ks l r s, (λ S ks l r s. assign_pad_stands ks l r s, (λ S ks l r s. expr_stands S ks l r s,
-    (λ S ks l r s. refl, (λ S ks l r s. if_under_stands S ks l r s, (λ S ks l r s. alt_order_stands ks l r s,
-    (λ S ks l r s. par_order_stands ks l r s, (λ S ks l r s. var_rename_stands _ ks l r s, (λ S ks l r s. chan_rename_stands _ ks l r s, tt)))))))))
+all_stand n S ks l r h s = one_of Stands n (7 ∷ 8 ∷ 14 ∷ 24 ∷ 25 ∷ 27 ∷ 40 ∷ 47 ∷ 58 ∷ []) (not_not _ h) (
+  λ S ks l r s. assign_order_stands ks l r s,
+  (
+    λ S ks l r s. assign_pad_stands ks l r s,
+    (
+      λ S ks l r s. expr_stands S ks l r s,
+      (
+        λ S ks l r s. refl,
+        (
+          λ S ks l r s. if_under_stands S ks l r s,
+          (
+            λ S ks l r s. alt_order_stands ks l r s,
+            (λ S ks l r s. par_order_stands ks l r s, (λ S ks l r s. var_rename_stands _ ks l r s, (λ S ks l r s. chan_rename_stands _ ks l r s, tt))),
+          ),
+        ),
+      ),
+    ),
+  ),
+)
     S ks l r s

@@ -44,9 +44,9 @@ pub case_found : (before now after : List (Option Path)) (path here : Path) (pla
 case_found before now after path here place cs i c h e n p a =
     let back = case_margins path (place + 1) (cases (drop (i + 1) cs)) in
     let next : case_margins path place (cases (drop i cs)) ≡ None ∷ (margins here (tree c.1) ++ back)
-        = at_drop_more (λ ds. case_margins path place (cases ds)) cs i c h
-        ∙ ap (λ (d : Expr × Proc). None ∷ (margins (path ++ place ∷ []) (tree d.1) ++ back)) (sym e)
-        ∙ ap (λ at. None ∷ (margins at (tree c.1) ++ back)) (sym p) in
+    = at_drop_more (λ ds. case_margins path place (cases ds)) cs i c h
+    ∙ ap (λ (d : Expr × Proc). None ∷ (margins (path ++ place ∷ []) (tree d.1) ++ back)) (sym e)
+    ∙ ap (λ at. None ∷ (margins at (tree c.1) ++ back)) (sym p) in
     row_found before now after (margins here (tree c.1)) back _ n a next
 
 pub branch_found : (before now after : List (Option Path)) (path here : Path) (place : ℕ) (bs : List (Guard × Proc)) (i : ℕ) (b : Guard × Proc) → i < length bs
@@ -55,7 +55,7 @@ pub branch_found : (before now after : List (Option Path)) (path here : Path) (p
 branch_found before now after path here place bs i b h e n p a =
     let back = branch_margins path (place + 1) (branches (drop (i + 1) bs)) in
     let next : branch_margins path place (branches (drop i bs)) ≡ None ∷ (margins here (tree b.1) ++ back)
-        = at_drop_more (λ ds. branch_margins path place (branches ds)) bs i b h
-        ∙ ap (λ (d : Guard × Proc). None ∷ (margins (path ++ place ∷ []) (tree d.1) ++ back)) (sym e)
-        ∙ ap (λ at. None ∷ (margins at (tree b.1) ++ back)) (sym p) in
+    = at_drop_more (λ ds. branch_margins path place (branches ds)) bs i b h
+    ∙ ap (λ (d : Guard × Proc). None ∷ (margins (path ++ place ∷ []) (tree d.1) ++ back)) (sym e)
+    ∙ ap (λ at. None ∷ (margins at (tree b.1) ++ back)) (sym p) in
     row_found before now after (margins here (tree b.1)) back _ n a next

@@ -1,3 +1,4 @@
+pub mod Begun
 pub mod Margins
 unfoldable pub use Rattle.occ_syntax.specs.View.{tree}
 pub use Rattle.occ_usage.specs.occ_meaning as occ_meaning
