@@ -9,11 +9,11 @@ ghost use Rattle.occ_workshop_run.specs.Words.{AskForTwoPrograms, job, usage_tex
 use crate::words::Command;
 use occ_draw::{Memory, draw};
 use occ_lts::{aut, deterministic, promela, traces};
-use occ_workbench::{laws, paths};
 use occ_prove::prove;
 use occ_steps::{steps, steps_at_start};
 use occ_why::{Given, check, explain, why, why_apart};
 use occ_witness::{Contents, MOST_BYTES, MOST_TABLE_BYTES, Named, Reply, Wanted, witness};
+use occ_workbench::{laws, paths};
 use std::alloc::Global;
 
 /// The files that a command reads, and how many bytes each may have.
