@@ -1,5 +1,5 @@
 -- A file is answered with one status and one text, where an accepted program is.
-use Rattle.std.proofs.Common.{◌≡◌, ◌∙◌, ℕ, List, [], Option, None, Some, subst, sym}
+use Rattle.std.proofs.Common.{◌≡◌, ◌∙◌, ℕ, List, [], Option, subst, sym}
 use Rattle.occ_laws_at.specs.Said.{AreAllSaid, IsNoPath}
 use Rattle.occ_laws_at.specs.occ_syntax.Tree.{Tree}
 use Rattle.occ_laws_at.specs.occ_syntax.declared.scope.Kind.{Kind}
@@ -27,8 +27,8 @@ same_program : (p q : Program) (m n : List (List ℕ)) → AreOne m n p q → p 
 same_program p q m n d = λ i. record { name = d.name i; params = d.params i; body = d.body i }
 
 module _ (once : IsOnce) (rest : Rest)
-  (rest_once : (names : List (List ℕ)) (p : Program) (s t : ℕ) (a b : List ℕ) → rest names p s a → rest names p t b → AreTheSame s t a b)
-  (file : Option (List ℕ)) where
+    (rest_once : (names : List (List ℕ)) (p : Program) (s t : ℕ) (a b : List ℕ) → rest names p s a → rest names p t b → AreTheSame s t a b)
+    (file : Option (List ℕ)) where
   never_both : (names : List (List ℕ)) (p : Program) (answer : Answer) → Takes First file [] Nothing answer → IsAccepted file [] names p → ⊥
   never_both names p answer (taken.refused f r e) h = agree once file [] (as_refused f) (as_taken names p) r h
   never_both names p answer (taken.unusable m k f r e) h = agree once file [] (as_unusable m k f) (as_taken names p) r h

@@ -12,7 +12,7 @@ pub returns-in-Ok-clause-answers : goal.returns-in-Ok-clause-answers
 returns-in-Ok-clause-answers c =
     accepted_answer (IsLawsOf c.args.path.now) c.write_laws.result c.args.program.now _ c.in-Ok.accepted.program c.in-Ok.ensures.accepted
     (subst (λ word. IfOk c.write_laws.result (λ reply. IsLawsOf word c.accept_first.new.names (seen c.in-Ok.accepted.program) reply.status reply.text.items))
-      c.as_bytes.ensures.value c.write_laws.ensures.text)
+    c.as_bytes.ensures.value c.write_laws.ensures.text)
 
 pub returns-in-Err-clause-answers : goal.returns-in-Err-clause-answers
 returns-in-Err-clause-answers c =
