@@ -8,7 +8,7 @@ use crate::given::Given;
 use crate::reading::{Reading, read};
 use crate::shown::whole;
 use occ_check::Witness;
-use occ_why_text::{Case, Memory, look, page, refusing, smallest_refusal};
+use occ_why_text::{Case, Memory, look_along, page, refusing, smallest_refusal};
 use std::alloc::Global;
 
 /// The text about two programs that differ, of which the first alone has the behaviour of these lines.
@@ -93,8 +93,8 @@ fn smaller(
     };
     let one = own.subject(owner.name);
     let two = others.subject(other.name);
-    let own_look = look(&one, own.start()?)?;
-    let other_look = look(&two, others.start()?)?;
+    let own_look = look_along(&one, own.start()?)?;
+    let other_look = look_along(&two, others.start()?)?;
     match smallest_refusal((&one, &own_look), (&two, &other_look))? {
         Some(events) => Ok(Some(refusing(&one, lines, events.items())?)),
         None => Ok(None),
@@ -126,7 +126,7 @@ fn page_apart(
         return Ok(Vec::new(alloc));
     };
     let two = others.subject(other.name);
-    let other_look = look(&two, others.start()?)?;
+    let other_look = look_along(&two, others.start()?)?;
     let case = Case {
         owner: own.subject(owner.name),
         other: Some((two, other_look)),

@@ -4,9 +4,9 @@
 
 mod begins;
 mod behind;
+mod cases;
 mod look;
 mod others;
-mod page;
 mod parts;
 mod phrases;
 mod ring;
@@ -17,10 +17,11 @@ mod telling;
 mod verdict;
 mod waiting;
 
-pub use look::{Look, look};
+pub use cases::{Case, page};
+pub use look::{Look, look_along};
 pub use occ_place::Places;
 pub use occ_run::{Accepted, Behaviour, Point, Side, Verdict, behaviour_text};
 pub use occ_syntax::{Memory, Names};
-pub use page::{Case, page};
+pub use route::{Walk, walked};
 pub use subject::Subject;
 pub use telling::{refusing, smallest_refusal};

@@ -1,7 +1,7 @@
-use crate::look::{Entry, Look};
-use crate::page::{push_ended, push_offers, state_at};
+use crate::look::{Entry, Look, told_to};
+use crate::cases::{push_ended, push_offers, state_at};
 use crate::phrases::{push_paragraph, push_state, push_trace};
-use crate::route::{push_route, route};
+use crate::route::push_route;
 use crate::shape::shape;
 use crate::subject::Subject;
 use occ_place::{Stand, Way, push_stands, stands};
@@ -22,7 +22,7 @@ struct Stood {
 pub(crate) fn push_other<'p>(
     text: &mut Vec<u8>,
     other: &Subject<'p>,
-    look: &Look<'p>,
+    look: &'p Look<'p>,
 ) -> Result<(), Memory> {
     let stood = ways(other, look)?;
     let ended = ends(other, look)?;
@@ -111,7 +111,7 @@ fn is_last(look: &Look, entry: &Entry) -> bool {
 }
 
 /// The ways in which the parts of a program can stand behind as many events as it can do.
-fn ways<'p>(other: &Subject<'p>, look: &Look<'p>) -> Result<Vec<Stood>, Memory> {
+fn ways<'p>(other: &Subject<'p>, look: &'p Look<'p>) -> Result<Vec<Stood>, Memory> {
     let mut found: Vec<Stood> = Vec::new(other.places.alloc());
     let mut shapes: Vec<u64> = Vec::new(other.places.alloc());
     for (place, entry) in look.entries.iter().enumerate() {
@@ -173,7 +173,7 @@ fn plain(way: Way) -> Way {
 }
 
 /// The states in which a program can have ended behind as many events as it can do, each once.
-fn ends<'p>(other: &Subject<'p>, look: &Look<'p>) -> Result<Vec<Vec<(Name, u8)>>, Memory> {
+fn ends<'p>(other: &Subject<'p>, look: &'p Look<'p>) -> Result<Vec<Vec<(Name, u8)>>, Memory> {
     let mut found: Vec<Vec<(Name, u8)>> = Vec::new(other.places.alloc());
     for entry in &look.entries {
         if is_last(look, entry) && is_over(entry.point.control()) {
@@ -193,18 +193,13 @@ fn ends<'p>(other: &Subject<'p>, look: &Look<'p>) -> Result<Vec<Vec<(Name, u8)>>
 }
 
 /// Adds the shortest schedule with which a program ends.
-fn push_end<'p>(text: &mut Vec<u8>, other: &Subject<'p>, look: &Look<'p>) -> Result<(), Memory> {
+fn push_end<'p>(text: &mut Vec<u8>, other: &Subject<'p>, look: &'p Look<'p>) -> Result<(), Memory> {
     for (place, entry) in look.entries.iter().enumerate() {
         if is_last(look, entry) && is_over(entry.point.control()) {
-            let Some(steps) = look.steps_to(other, place)? else {
-                return Ok(());
-            };
-            let Some(first) = look.entries.first() else {
-                return Ok(());
-            };
-            if let Some(told) = route(other.places, &first.point, &steps)? {
+            let told = told_to(other.places, look, place)?;
+            if !told.is_empty() {
                 text.push(b'\n')?;
-                push_route(text, other.places, &told.0)?;
+                push_route(text, other.places, &told)?;
             }
             return push_ended(text, other, &entry.point);
         }

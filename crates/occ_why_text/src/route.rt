@@ -1,5 +1,6 @@
 use crate::begins::{Begin, begin_of, push_pieces};
 use crate::behind::behind;
+use occ_member::same_point;
 use occ_place::{
     Columns, Line, Places, Told, event_cell, line_cell, push_table, statement_cell, tell,
     values_cell, who_cell,
@@ -9,7 +10,7 @@ use occ_syntax::{Memory, push_number};
 use std::alloc::Global;
 
 /// The numbers of the steps that the text of a schedule names.
-pub(crate) fn steps_in(alloc: Global, schedule: &[u8]) -> Result<Vec<u32>, Memory> {
+fn steps_in(alloc: Global, schedule: &[u8]) -> Result<Vec<u32>, Memory> {
     let mut steps = Vec::new(alloc);
     let mut line: usize = 0;
     let mut number: u32 = 0;
@@ -29,45 +30,84 @@ pub(crate) fn steps_in(alloc: Global, schedule: &[u8]) -> Result<Vec<u32>, Memor
     Ok(steps)
 }
 
-/// The steps of a schedule as they are told, and where they lead; None where one isn't there.
-pub(crate) fn route<'p>(
-    places: &'p Places,
-    start: &Point<'p>,
-    steps: &[u32],
-) -> Result<Option<(Vec<Told>, Option<Point<'p>>)>, Memory> {
-    let mut rows = Vec::new(places.alloc());
-    let mut end: Option<Point<'p>> = None;
-    for step in steps {
-        let taken = match &end {
-            Some(point) => taken(places, point, *step)?,
-            None => taken(places, start, *step)?,
-        };
-        let Some((row, next)) = taken else {
-            return Ok(None);
-        };
-        rows.push(row)?;
-        end = Some(next);
-    }
-    Ok(Some((rows, end)))
+/// The steps of a schedule, by their numbers, and where a program stands in front of each and behind the last one.
+#[derive(Drop)]
+pub struct Walk<'p> {
+    steps: Vec<u32>,
+    pub(crate) points: Vec<Point<'p>>,
 }
 
-/// A step of a number as it is told, and where it leads.
-fn taken<'p>(
-    places: &'p Places,
-    point: &Point<'p>,
-    step: u32,
-) -> Result<Option<(Told, Point<'p>)>, Memory> {
+/// The walk of a program from where it stands, by the steps that the text of a schedule names; None where one isn't there.
+pub fn walked<'p>(
+    alloc: Global,
+    start: Point<'p>,
+    schedule: &[u8],
+) -> Result<Option<Walk<'p>>, Memory> {
+    let steps = steps_in(alloc, schedule)?;
+    let mut points = Vec::new(alloc);
+    points.push(start)?;
+    for step in &steps {
+        let Some(next) = next_point(&points, *step)? else {
+            return Ok(None);
+        };
+        points.push(next)?;
+    }
+    Ok(Some(Walk { steps, points }))
+}
+
+/// Where the step of a number leads from the last of some points.
+fn next_point<'p>(points: &[Point<'p>], step: u32) -> Result<Option<Point<'p>>, Memory> {
+    let Some(point) = points.last() else {
+        return Ok(None);
+    };
     let offers = point.offers()?;
-    let Some(offer) = offers.get(step as usize) else {
-        return Ok(None);
-    };
-    let Some(row) = tell(places, point, offer)? else {
-        return Ok(None);
-    };
-    match behind(point, &offers, step as usize)? {
-        Some(next) => Ok(Some((row, next))),
+    behind(point, &offers, step as usize)
+}
+
+/// The steps of a walk as they are told.
+pub(crate) fn told_along<'p>(
+    places: &'p Places,
+    walk: &'p Walk<'p>,
+) -> Result<Vec<Told>, Memory> {
+    let mut told = Vec::new(places.alloc());
+    for (order, step) in walk.steps.iter().enumerate() {
+        if let Some(point) = walk.points.get(order) {
+            if let Some(row) = told_step(places, point, *step)? {
+                told.push(row)?;
+            }
+        }
+    }
+    Ok(told)
+}
+
+/// The step of a number at a point, as it is told.
+fn told_step<'p>(
+    places: &'p Places,
+    point: &'p Point<'p>,
+    step: u32,
+) -> Result<Option<Told>, Memory> {
+    let offers = point.offers()?;
+    match offers.get(step as usize) {
+        Some(offer) => tell(places, point, offer),
         None => Ok(None),
     }
+}
+
+/// A step from one point to another, as it is told.
+pub(crate) fn told_between<'p>(
+    places: &'p Places,
+    one: &'p Point<'p>,
+    other: &Point,
+) -> Result<Option<Told>, Memory> {
+    let offers = one.offers()?;
+    for (number, offer) in offers.iter().enumerate() {
+        if let Some(next) = behind(one, &offers, number)? {
+            if same_point(&next, other) {
+                return tell(places, one, offer);
+            }
+        }
+    }
+    Ok(None)
 }
 
 /// A row of the table of steps: its cells, and for beginnings of variables what they begin.

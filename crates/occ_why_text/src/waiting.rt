@@ -208,15 +208,15 @@ pub(crate) fn push_waits(
     text: &mut Vec<u8>,
     places: &Places,
     stands: &[Stand],
-    waits: &[Wait],
 ) -> Result<(), Memory> {
     let alloc = places.alloc();
-    for wait in waits {
+    let waits = waits_of(places, stands)?;
+    for wait in &waits {
         let mut words = Vec::new(alloc);
         push_wait(&mut words, places, stands, wait)?;
         push_paragraph(alloc, text, &words, 2)?;
     }
-    let ring = ring_of(places, stands, waits)?;
+    let ring = ring_of(places, stands, &waits)?;
     if !ring.is_empty() {
         let mut words = Vec::from_slice(alloc, b"So ")?;
         push_ring(&mut words, places, stands, &ring)?;

@@ -2,44 +2,41 @@ use crate::look::Look;
 use crate::others::push_other;
 use crate::parts::push_parts;
 use crate::phrases::{push_paragraph, push_set, push_state};
-use crate::route::{push_route, route, steps_in};
+use crate::route::{Walk, push_route, told_along};
 use crate::subject::Subject;
 use crate::verdict::{push_deadlock, push_difference};
-use crate::waiting::{push_waits, ring_of, waits_of};
+use crate::waiting::push_waits;
 use occ_member::{has_ended, refuses};
-use occ_place::{Told, push_stands, stands};
+use occ_place::{Stand, Told, push_stands, stands};
 use occ_run::{Last, Point, held, is_over};
 use occ_syntax::{Kind, Memory, Name, push_number};
 
-/// What is told of: the program that has a behaviour, the schedule that leads it there, and the other one, looked through along the events
-/// of the behaviour; or none, where the program gets stuck.
+/// What is told of: the program that has a behaviour, the walk that leads it there, and the other one, looked through along the events of the
+/// behaviour; or none, where the program gets stuck.
 #[derive(Drop)]
 pub struct Case<'p> {
     pub owner: Subject<'p>,
     pub other: Option<(Subject<'p>, Look<'p>)>,
-    pub schedule: &'p [u8],
-    /// Whether what the other program does is told first.
-    pub is_turned: bool,
+    pub walk: Walk<'p>,
 }
 
-/// The text about a case; the program begins at that point. None where the schedule doesn't lead to the behaviour.
-pub fn page<'p>(case: &Case<'p>, start: Point<'p>) -> Result<Option<Vec<u8>>, Memory> {
+/// The text about a case. None where the walk doesn't lead to the behaviour.
+pub fn page<'p>(case: &'p Case<'p>) -> Result<Option<Vec<u8>>, Memory> {
     let owner = &case.owner;
     let places = owner.places;
-    let alloc = places.alloc();
-    let steps = steps_in(alloc, case.schedule)?;
-    let Some((told, end)) = route(places, &start, &steps)? else {
+    let Some(end) = case.walk.points.last() else {
         return Ok(None);
     };
-    let end = match end {
-        Some(end) => end,
-        None => start,
-    };
-    if !shows(owner, &end)? {
+    if !shows(owner, end)? {
         return Ok(None);
     }
-    let mut text = Vec::new(alloc);
-    push_owner(&mut text, case, &told, &end)?;
+    let told = told_along(places, &case.walk)?;
+    let stood = stands(places, end)?;
+    let mut text = Vec::new(places.alloc());
+    push_verdict(&mut text, case, &stood)?;
+    push_parts(&mut text, owner)?;
+    push_how(&mut text, owner, &told)?;
+    push_stood(&mut text, owner, &stood, end)?;
     if let Some((other, look)) = &case.other {
         push_other(&mut text, other, look)?;
         push_smallest(&mut text, owner, other)?;
@@ -47,20 +44,22 @@ pub fn page<'p>(case: &Case<'p>, start: Point<'p>) -> Result<Option<Vec<u8>>, Me
     Ok(Some(text))
 }
 
-/// Adds what is told of the program that has the behaviour: by which steps it comes to that end, and how it stands there.
-fn push_owner(text: &mut Vec<u8>, case: &Case, told: &[Told], end: &Point) -> Result<(), Memory> {
+/// Adds the first sentence.
+fn push_verdict(text: &mut Vec<u8>, case: &Case, stood: &[Stand]) -> Result<(), Memory> {
     let owner = &case.owner;
-    let places = owner.places;
-    let stood = stands(places, end)?;
-    let waits = waits_of(places, &stood)?;
-    if case.other.is_some() {
-        push_difference(text, case)?;
-    } else {
-        let ring = ring_of(places, &stood, &waits)?;
-        push_deadlock(text, owner, &stood, &waits, &ring)?;
+    match &case.other {
+        Some((_, look)) => push_difference(text, owner, look),
+        None => push_deadlock(text, owner, stood),
     }
-    push_parts(text, owner)?;
-    push_how(text, owner, told)?;
+}
+
+/// Adds how the program that has the behaviour stands at its end.
+fn push_stood(
+    text: &mut Vec<u8>,
+    owner: &Subject,
+    stood: &[Stand],
+    end: &Point,
+) -> Result<(), Memory> {
     if is_over(end.control()) {
         return push_ended(text, owner, end);
     }
@@ -69,9 +68,9 @@ fn push_owner(text: &mut Vec<u8>, case: &Case, told: &[Told], end: &Point) -> Re
     } else {
         b"\nThen it stands so:\n\n"
     })?;
-    push_stands(places, text, &stood)?;
+    push_stands(owner.places, text, stood)?;
     text.push(b'\n')?;
-    push_waits(text, places, &stood, &waits)?;
+    push_waits(text, owner.places, stood)?;
     push_offers(text, owner, end, true)
 }
 
