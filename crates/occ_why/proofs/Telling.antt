@@ -10,14 +10,14 @@ use Rattle.occ_why_text.specs.occ_base.Names.{IsDistinct}
 use Rattle.occ_why_text.specs.occ_base.declared.names.Name.{Name}
 use Rattle.occ_why_text.specs.occ_syntax.declared.scope.Kind.{Kind}
 use Rattle.occ_why_text.specs.occ_syntax.declared.scope.Program.{Program}
-use Rattle.occ_check.proofs.from_tool_run.AsWritten.{BehavioursLaw}
-use Rattle.occ_check.proofs.from_tool_run.Judging.{accepted_file}
-use Rattle.occ_check.specs.occ_call.Files.{IsLoaded, most_bytes}
-use Rattle.occ_check.proofs.from_run_schedule.Inside.{claim_within}
-use Rattle.occ_check.specs.occ_tool_run.Judged.{HasInterface, IsAcceptedFrom}
-use Rattle.occ_check.specs.occ_behaviour_read.Claims.{claim_read}
-use Rattle.occ_check.specs.occ_call.declared.loading.Loaded.{Loaded}
-use Rattle.occ_check.specs.occ_run_schedule.Witnesses.{IsWithin}
+use Rattle.occ_tool_run.proofs.AsWritten.{BehavioursLaw}
+use Rattle.occ_tool_run.proofs.Judging.{accepted_file}
+use Rattle.occ_tool_run.specs.occ_call.Files.{IsLoaded, most_bytes}
+use Rattle.occ_tool_run.proofs.from_run_schedule.Inside.{claim_within}
+use Rattle.occ_tool_run.specs.Judged.{HasInterface, IsAcceptedFrom}
+use Rattle.occ_tool_run.specs.occ_behaviour_read.Claims.{claim_read}
+use Rattle.occ_tool_run.specs.occ_call.declared.loading.Loaded.{Loaded}
+use Rattle.occ_tool_run.specs.occ_run_schedule.Witnesses.{IsWithin}
 use Rattle.occ_why.specs.Told.{AreLinesOf, IsClaimOf, IsTold, set_in}
 
 -- ---- the lines of a behaviour

@@ -3,13 +3,13 @@ use Rattle.std.specs.Prelude.{ℕ, ◌≡◌, ◌==◌, ◌⊎◌, ◌≤◌, �
 use Rattle.std.specs.List.{flat_map}
 use Rattle.occ_why_text.specs.occ_behaviour.Texts.{text_of_behaviour}
 use Rattle.occ_why_text.specs.occ_behaviour.declared.behaviour.Behaviour.{Behaviour}
-use Rattle.occ_check.specs.occ_tool_run.Accepts.{IsAccepted}
-use Rattle.occ_check.specs.occ_tool_run.Stored.{seen}
-use Rattle.occ_check.specs.occ_behaviour_read.Behaviours.{IsBehaviourText}
-use Rattle.occ_check.specs.occ_behaviour_read.Claims.{bare_lines}
-use Rattle.occ_check.specs.occ_call.Files.{IsLoaded, most_bytes}
-use Rattle.occ_check.specs.occ_call.declared.loading.Loaded.{Loaded}
-use Rattle.occ_check.specs.occ_run_schedule.Witnesses.{HasIt}
+use Rattle.occ_tool_run.specs.Accepts.{IsAccepted}
+use Rattle.occ_tool_run.specs.Stored.{seen}
+use Rattle.occ_tool_run.specs.occ_behaviour_read.Behaviours.{IsBehaviourText}
+use Rattle.occ_tool_run.specs.occ_behaviour_read.Claims.{bare_lines}
+use Rattle.occ_tool_run.specs.occ_call.Files.{IsLoaded, most_bytes}
+use Rattle.occ_tool_run.specs.occ_call.declared.loading.Loaded.{Loaded}
+use Rattle.occ_tool_run.specs.occ_run_schedule.Witnesses.{HasIt}
 use Rattle.occ_why_text.specs.occ_syntax.declared.scope.Program.{Program}
 
 -- a byte of lines that stand in two columns

@@ -1,14 +1,14 @@
 //! Why a program has a behaviour, told.
 
 ghost use Rattle.std.specs.Prelude.{codes, IfOk};
-ghost use Rattle.occ_check.specs.occ_call.Files.{IsShort, most_bytes};
+ghost use Rattle.occ_tool_run.specs.occ_call.Files.{IsShort, most_bytes};
 ghost use Rattle.occ_why.specs.Told.{Choose, IsTold, TellAlone};
 
 use crate::given::Given;
-use crate::reading::{Reading, read};
+use crate::reading::read;
 use crate::shown::whole;
-use occ_check::Witness;
-use occ_why_text::{Case, Memory, look_along, page, refusing, smallest_refusal};
+use occ_tool_run::Witness;
+use occ_why_text::{Case, Memory, look_along, page, refusing, smallest_refusal, walked};
 use std::alloc::Global;
 
 /// The text about two programs that differ, of which the first alone has the behaviour of these lines.
@@ -17,7 +17,6 @@ pub(crate) fn apart(
     owner: Given,
     other: Given,
     lines: Vec<u8>,
-    is_turned: bool,
 ) -> Result<Vec<u8>, Memory>
     requires owner { IsShort most_bytes owner.entry.text.now }
     requires other { IsShort most_bytes other.entry.text.now }
@@ -25,9 +24,9 @@ pub(crate) fn apart(
 {
     let first = Vec::from_slice(alloc, &lines)?;
     let lines = telling(alloc, owner, other, lines)?;
-    let mut page = page_apart(alloc, owner, other, (&lines, &first), is_turned)?;
+    let mut page = page_apart(alloc, owner, other, (&lines, &first))?;
     if page.is_empty() {
-        page = page_apart(alloc, owner, other, (&lines, &lines), is_turned)?;
+        page = page_apart(alloc, owner, other, (&lines, &lines))?;
     }
     whole(alloc, b"DIFFER", behind(&page), &lines)
 }
@@ -108,21 +107,23 @@ fn page_apart(
     owner: Given,
     other: Given,
     lines: (&[u8], &[u8]),
-    is_turned: bool,
 ) -> Result<Vec<u8>, Memory>
     requires owner { IsShort most_bytes owner.entry.text.now }
     requires other { IsShort most_bytes other.entry.text.now }
 {
+    let Some(shown) = read(alloc, owner.text, lines.1)? else {
+        return Ok(Vec::new(alloc));
+    };
+    let Witness::Schedule(schedule) = shown.witness(alloc)? else {
+        return Ok(Vec::new(alloc));
+    };
     let Some(own) = read(alloc, owner.text, lines.0)? else {
         return Ok(Vec::new(alloc));
     };
     let Some(others) = read(alloc, other.text, lines.0)? else {
         return Ok(Vec::new(alloc));
     };
-    let Some(shown) = read(alloc, owner.text, lines.1)? else {
-        return Ok(Vec::new(alloc));
-    };
-    let Witness::Schedule(schedule) = shown.witness(alloc)? else {
+    let Some(walk) = walked(alloc, own.start()?, &schedule)? else {
         return Ok(Vec::new(alloc));
     };
     let two = others.subject(other.name);
@@ -130,10 +131,12 @@ fn page_apart(
     let case = Case {
         owner: own.subject(owner.name),
         other: Some((two, other_look)),
-        schedule: schedule.as_slice(),
-        is_turned,
+        walk,
     };
-    paged(alloc, &case, &own)
+    match page(&case)? {
+        Some(page) => Ok(page),
+        None => Ok(Vec::new(alloc)),
+    }
 }
 
 /// The page about a program that gets stuck; an empty one where it can't be made.
@@ -146,17 +149,15 @@ fn page_stuck(alloc: Global, program: Given, lines: &[u8]) -> Result<Vec<u8>, Me
     let Witness::Schedule(schedule) = own.witness(alloc)? else {
         return Ok(Vec::new(alloc));
     };
+    let Some(walk) = walked(alloc, own.start()?, &schedule)? else {
+        return Ok(Vec::new(alloc));
+    };
     let case = Case {
         owner: own.subject(program.name),
         other: None,
-        schedule: schedule.as_slice(),
-        is_turned: false,
+        walk,
     };
-    paged(alloc, &case, &own)
-}
-
-fn paged<'p>(alloc: Global, case: &Case<'p>, own: &'p Reading) -> Result<Vec<u8>, Memory> {
-    match page(case, own.start()?)? {
+    match page(&case)? {
         Some(page) => Ok(page),
         None => Ok(Vec::new(alloc)),
     }

@@ -1,4 +1,4 @@
-use occ_check::Loaded;
+use occ_tool_run::Loaded;
 
 /// A file of a program: its name, and what was read of it.
 #[derive(Clone, Copy)]

@@ -9,4 +9,3 @@ mod shown;
 
 pub use command::{why, why_apart};
 pub use given::Given;
-pub use occ_check::{check, explain};

@@ -2,18 +2,18 @@
 
 ghost use Rattle.std.specs.Prelude.{◌≡◌, ◌≤◌, ◌↔◌, ℕ, List, [], length, Option, true, IfOk, IfSome, IsTrue};
 ghost use Rattle.occ_why_text.specs.occ_base.Names.{IsDistinct};
-ghost use Rattle.occ_check.specs.occ_behaviour_read.Claims.{IsOf};
-ghost use Rattle.occ_check.specs.occ_nform_table.Lines.{HaveWidths};
-ghost use Rattle.occ_check.specs.occ_run_schedule.Witnesses.{IsWithin};
+ghost use Rattle.occ_tool_run.specs.occ_behaviour_read.Claims.{IsOf};
+ghost use Rattle.occ_tool_run.specs.occ_nform_table.Lines.{HaveWidths};
+ghost use Rattle.occ_tool_run.specs.occ_run_schedule.Witnesses.{IsWithin};
 ghost use Rattle.occ_why_text.specs.occ_behaviour.States.{is_state};
-ghost use Rattle.occ_check.specs.occ_tool_run.Judged.{HasInterface, IsAcceptedFrom};
-ghost use Rattle.occ_check.specs.occ_call.Files.{IsLoaded, IsShort, most_bytes};
+ghost use Rattle.occ_tool_run.specs.Judged.{HasInterface, IsAcceptedFrom};
+ghost use Rattle.occ_tool_run.specs.occ_call.Files.{IsLoaded, IsShort, most_bytes};
 ghost use Rattle.occ_why.specs.Told.{IsClaimOf};
 
-use occ_check::accept::{Refusal, accept_first};
-use occ_check::{
-    ClaimFault, Loaded, MOST_BYTES, Witness, behaviours_are_read_as_written, find_witness,
-    read as read_claim,
+use occ_tool_run::accept::{Refusal, accept_first};
+use occ_tool_run::{
+    ClaimFault, Loaded, MOST_BYTES, Witness, behaviour_read_read as read_claim,
+    behaviours_are_read_as_written, find_witness,
 };
 use occ_why_text::{Accepted, Behaviour, Memory, Names, Places, Point, Subject};
 use std::alloc::Global;
@@ -24,14 +24,14 @@ pub(crate) struct Reading {
     accepted: Accepted,
     behaviour: Behaviour,
     places: Places,
-    ghost state: { is_state places.marked.program.params behaviour.state ≡ true },
+    ghost state: { is_state places.marked.accepted.program.params behaviour.state ≡ true },
     ghost wide: { ∥ HaveWidths accepted.program.params ∥₁ },
     ghost states: { ∥ IsOf accepted.program.params behaviour ∥₁ },
     ghost events: { ∥ IsWithin accepted.program.params behaviour.last ∥₁ },
 }
 
 impl Reading {
-    ghost use Rattle.occ_check.specs.occ_run_schedule.Witnesses.{HasIt, IsWitness};
+    ghost use Rattle.occ_tool_run.specs.occ_run_schedule.Witnesses.{HasIt, IsWitness};
 
     /// Whether the program has the behaviour, and a schedule that shows it.
     pub(crate) fn witness(&self, alloc: Global) -> Result<Witness, Memory>
