@@ -45,7 +45,7 @@ pub fn page<'p>(case: &'p Case<'p>) -> Result<Option<Vec<u8>>, Memory> {
 }
 
 /// Adds the first sentence.
-fn push_verdict(text: &mut Vec<u8>, case: &Case, stood: &[Stand]) -> Result<(), Memory> {
+pub(crate) fn push_verdict(text: &mut Vec<u8>, case: &Case, stood: &[Stand]) -> Result<(), Memory> {
     let owner = &case.owner;
     match &case.other {
         Some((_, look)) => push_difference(text, owner, look),
@@ -75,7 +75,7 @@ fn push_stood(
 }
 
 /// Whether a program stands as the last line of its behaviour says.
-fn shows(owner: &Subject, end: &Point) -> Result<bool, Memory> {
+pub(crate) fn shows(owner: &Subject, end: &Point) -> Result<bool, Memory> {
     match &owner.behaviour.last {
         Last::Refuses(events) => refuses(end, events.items()),
         Last::Ends(state) => Ok(has_ended(end, state.items())),
@@ -151,7 +151,11 @@ pub(crate) fn push_offers(
 }
 
 /// Adds the smallest telling refusal.
-fn push_smallest(text: &mut Vec<u8>, owner: &Subject, other: &Subject) -> Result<(), Memory> {
+pub(crate) fn push_smallest(
+    text: &mut Vec<u8>,
+    owner: &Subject,
+    other: &Subject,
+) -> Result<(), Memory> {
     let Last::Refuses(events) = &owner.behaviour.last else {
         return Ok(());
     };

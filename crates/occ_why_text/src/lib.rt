@@ -5,6 +5,7 @@
 mod begins;
 mod behind;
 mod cases;
+mod chart;
 mod look;
 mod others;
 mod parts;
@@ -13,11 +14,13 @@ mod ring;
 mod route;
 mod shape;
 mod subject;
+mod svg;
 mod telling;
 mod verdict;
 mod waiting;
 
 pub use cases::{Case, page};
+pub use chart::chart;
 pub use look::{Look, look_along};
 pub use occ_place::Places;
 pub use occ_run::{Accepted, Behaviour, Point, Side, Verdict, behaviour_text};

@@ -116,7 +116,8 @@ fn push_comment(text: &mut Vec<u8>, comment: &[u8]) -> Result<(), Memory> {
     Ok(())
 }
 
-fn push_lines(text: &mut Vec<u8>, first: u32, last: u32) -> Result<(), Memory> {
+/// Adds the lines of a part: `lines 4-8`, `line 2`.
+pub(crate) fn push_lines(text: &mut Vec<u8>, first: u32, last: u32) -> Result<(), Memory> {
     if first == last {
         text.extend_from_slice(b"line ")?;
         push_number(text, u64::from(first))?;
