@@ -5,7 +5,7 @@
 mod begins;
 mod behind;
 mod cases;
-mod chart;
+mod charting;
 mod look;
 mod others;
 mod parts;
@@ -20,7 +20,7 @@ mod verdict;
 mod waiting;
 
 pub use cases::{Case, page};
-pub use chart::chart;
+pub use charting::chart;
 pub use look::{Look, look_along};
 pub use occ_place::Places;
 pub use occ_run::{Accepted, Behaviour, Point, Side, Verdict, behaviour_text};

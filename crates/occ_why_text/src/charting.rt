@@ -33,9 +33,9 @@ const MOST_LINES: usize = 40;
 const LEGEND: &[u8] =
     b"Thick: an event. Thin, in brackets: unseen. Dashed: what a part waits for; a cross: it can't come. Below an arrow: lines, and values that change.";
 
-/// A chart that is drawn.
+/// A chart while it is drawn.
 #[derive(Drop)]
-struct Chart<'p> {
+struct Drawing<'p> {
     alloc: Global,
     places: &'p Places,
     /// The parts that have a column.
@@ -67,11 +67,11 @@ pub fn chart<'p>(case: &'p Case<'p>) -> Result<Option<Vec<u8>>, Memory> {
     let told = told_along(places, &case.walk)?;
     let stood = stands(places, end)?;
     let title = title(case, &stood)?;
-    let mut chart = Chart::new(places, &told, &stood)?;
-    chart.heads(&title)?;
-    chart.rows(&told)?;
-    chart.stands(&stood)?;
-    chart.refusal(owner)?;
+    let mut drawing = Drawing::new(places, &told, &stood)?;
+    drawing.heads(&title)?;
+    drawing.rows(&told)?;
+    drawing.stands(&stood)?;
+    drawing.refusal(owner)?;
     let mut words = Vec::new(alloc);
     match &case.other {
         None => words.extend_from_slice(b"No event is offered: the program is stuck.")?,
@@ -79,7 +79,7 @@ pub fn chart<'p>(case: &'p Case<'p>) -> Result<Option<Vec<u8>>, Memory> {
         Some((other, _)) => push_smallest(&mut words, owner, other)?,
     }
     let words = in_one_line(alloc, &words)?;
-    Ok(Some(chart.end(&title, &words)?))
+    Ok(Some(drawing.end(&title, &words)?))
 }
 
 /// The sentence about a case, with a colon behind its first word.
@@ -202,9 +202,9 @@ fn two_lines(cell: &[u8]) -> (&[u8], &[u8]) {
     (cell, b"")
 }
 
-impl<'p> Chart<'p> {
+impl<'p> Drawing<'p> {
     /// A chart with the columns of a program's parts, wide enough for the events of steps, and for what is waited for.
-    fn new(places: &'p Places, told: &[Told], stood: &[Stand]) -> Result<Chart<'p>, Memory> {
+    fn new(places: &'p Places, told: &[Told], stood: &[Stand]) -> Result<Drawing<'p>, Memory> {
         let alloc = places.alloc();
         let mut columns = Vec::new(alloc);
         for number in 0..places.layout.parts.len() {
@@ -228,7 +228,7 @@ impl<'p> Chart<'p> {
             }
         }
         let side = if columns.len() == 1 { 240 } else { 118 };
-        Ok(Chart {
+        Ok(Drawing {
             alloc,
             places,
             columns,
@@ -437,16 +437,18 @@ impl<'p> Chart<'p> {
 
     /// The boxes of the variables that begin in a row.
     fn begins(&mut self, told: &[Told], row: (usize, usize)) -> Result<(), Memory> {
+        let places = self.places;
         let y = self.y;
         let mut lowest = y;
         for column in 0..self.columns.len() {
             let mut at = y;
             for (order, step) in told.iter().enumerate() {
                 if row.0 <= order && order <= row.1 {
-                    let own = self.column_of(self.places.layout.site_at(step.first.site).part);
-                    if own == column {
-                        let words = begun(self.places, step)?;
-                        self.note(self.x_of(column), at, &words)?;
+                    let part = places.layout.site_at(step.first.site).part;
+                    if self.column_of(part) == column {
+                        let words = begun(places, step)?;
+                        let x = self.x_of(column);
+                        self.note(x, at, &words)?;
                         lowest = lowest.max(at);
                         at = at.saturating_add(24);
                     }
@@ -708,7 +710,7 @@ impl<'p> Chart<'p> {
         let wide = self.width();
         let right = self.right();
         let (captions, legends) = (self.most(Letter::Caption), self.most(Letter::Legend));
-        let Chart {
+        let Drawing {
             alloc,
             front,
             mut text,
