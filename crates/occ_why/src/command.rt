@@ -4,8 +4,9 @@ ghost use Rattle.std.specs.Prelude.{◌≡◌, ◌≢◌, ℕ, List, Option, IfO
 ghost use Rattle.occ_tool_run.specs.occ_call.Files.{IsLoaded, IsShort, most_bytes};
 ghost use Rattle.occ_tool_run.specs.occ_call.Ran.{IsOwnStatus};
 ghost use Rattle.occ_why.specs.Answers.{Replies, RepliesApart};
+ghost use Rattle.occ_why.specs.Charts.{Charts, ChartsApart};
 
-use crate::explaining::{apart, stuck};
+use crate::explaining::{apart, chart_of_one, chart_of_two, stuck};
 use crate::given::Given;
 use crate::shown::lines_of;
 use occ_tool_run::Reply;
@@ -62,6 +63,62 @@ pub fn why(alloc: Global, program: Given) -> Result<Option<Reply>, Memory>
         Answer::Sought(names, Some(behaviour)) => {
             let lines = lines_of(alloc, &names, &behaviour)?;
             let text = stuck(alloc, program, lines)?;
+            Ok(Some(Reply { status: 1, text }))
+        }
+        Answer::Sought(_, None) => said(alloc, 0, b"FREE\n"),
+        _ => Ok(None),
+    }
+}
+
+/// The reply to two files of programs: a message sequence chart of a schedule that tells them apart, as an SVG text; None exactly where
+/// `same` refuses one of them.
+///
+/// | status | comes exactly where | text |
+/// |---|---|---|
+/// | 0 | the programs mean the same | the answer of `same` |
+/// | 1 | they differ | the chart; where none can be made, the answer of `why` |
+/// | 7 | both programs are accepted, and their interfaces differ | the answer of `same` |
+pub fn chart_apart(alloc: Global, first: Given, second: Given) -> Result<Option<Reply>, Memory>
+    requires first { IsShort most_bytes first.entry.text.now }
+    requires second { IsShort most_bytes second.entry.text.now }
+    ensures answers { IfOk result (λ told. (one two : Option (List ℕ)) → IsLoaded most_bytes one first.entry.text.now
+        → IsLoaded most_bytes two second.entry.text.now → ChartsApart one two told) }
+    ensures status { IfOk result (λ told. IfSome told (λ reply. IsOwnStatus reply.status)) }
+    ensures usage { IfOk result (λ told. IfSome told (λ reply. reply.status ≢ 2)) }
+{
+    match judge(alloc, Question::WhetherSame, first.text, second.text)? {
+        Answer::Compared(names, Verdict::Differ { behaviour, only }) => {
+            let lines = lines_of(alloc, &names, &behaviour)?;
+            let text = match only {
+                Side::First => chart_of_two(alloc, first, second, lines)?,
+                Side::Second => chart_of_two(alloc, second, first, lines)?,
+            };
+            Ok(Some(Reply { status: 1, text }))
+        }
+        Answer::Compared(_, Verdict::Same) => said(alloc, 0, b"SAME\n"),
+        Answer::InterfacesDiffer => said(alloc, 7, b"INTERFACES DIFFER\n"),
+        _ => Ok(None),
+    }
+}
+
+/// The reply to the file of a program: a message sequence chart of the first schedule by which it gets stuck, as an SVG text; None exactly
+/// where `deadlock` refuses it.
+///
+/// | status | comes exactly where | text |
+/// |---|---|---|
+/// | 0 | it can't | FREE |
+/// | 1 | it can | the chart; where none can be made, the answer of `why` |
+pub fn chart(alloc: Global, program: Given) -> Result<Option<Reply>, Memory>
+    requires { IsShort most_bytes program.entry.text.now }
+    ensures answers { IfOk result (λ told. (file : Option (List ℕ)) → IsLoaded most_bytes file program.entry.text.now
+        → Charts file told) }
+    ensures status { IfOk result (λ told. IfSome told (λ reply. IsOwnStatus reply.status)) }
+    ensures usage { IfOk result (λ told. IfSome told (λ reply. reply.status ≢ 2)) }
+{
+    match seek(alloc, program.text)? {
+        Answer::Sought(names, Some(behaviour)) => {
+            let lines = lines_of(alloc, &names, &behaviour)?;
+            let text = chart_of_one(alloc, program, lines)?;
             Ok(Some(Reply { status: 1, text }))
         }
         Answer::Sought(_, None) => said(alloc, 0, b"FREE\n"),

@@ -8,8 +8,17 @@ use crate::given::Given;
 use crate::reading::read;
 use crate::shown::whole;
 use occ_tool_run::Witness;
-use occ_why_text::{Case, Memory, look_along, page, refusing, smallest_refusal, walked};
+use occ_why_text::{Case, Memory, chart, look_along, page, refusing, smallest_refusal, walked};
 use std::alloc::Global;
+
+/// How a behaviour is shown.
+#[derive(Clone, Copy)]
+pub(crate) enum View {
+    /// As a page of text.
+    Page,
+    /// As a message sequence chart.
+    Chart,
+}
 
 /// The text about two programs that differ, of which the first alone has the behaviour of these lines.
 pub(crate) fn apart(
@@ -24,11 +33,56 @@ pub(crate) fn apart(
 {
     let first = Vec::from_slice(alloc, &lines)?;
     let lines = telling(alloc, owner, other, lines)?;
-    let mut page = page_apart(alloc, owner, other, (&lines, &first))?;
-    if page.is_empty() {
-        page = page_apart(alloc, owner, other, (&lines, &lines))?;
-    }
+    let page = either(alloc, owner, other, (&lines, &first), View::Page)?;
     whole(alloc, b"DIFFER", behind(&page), &lines)
+}
+
+/// The chart of two programs that differ, of which the first alone has the behaviour of these lines; where none can be made, the text.
+pub(crate) fn chart_of_two(
+    alloc: Global,
+    owner: Given,
+    other: Given,
+    lines: Vec<u8>,
+) -> Result<Vec<u8>, Memory>
+    requires owner { IsShort most_bytes owner.entry.text.now }
+    requires other { IsShort most_bytes other.entry.text.now }
+{
+    let first = Vec::from_slice(alloc, &lines)?;
+    let lines = telling(alloc, owner, other, lines)?;
+    let chart = either(alloc, owner, other, (&lines, &first), View::Chart)?;
+    if chart.is_empty() {
+        return apart(alloc, owner, other, first);
+    }
+    Ok(chart)
+}
+
+/// The chart of a program that gets stuck by the behaviour of these lines; where none can be made, the text.
+pub(crate) fn chart_of_one(alloc: Global, program: Given, lines: Vec<u8>) -> Result<Vec<u8>, Memory>
+    requires { IsShort most_bytes program.entry.text.now }
+{
+    let chart = page_stuck(alloc, program, &lines, View::Chart)?;
+    if chart.is_empty() {
+        return stuck(alloc, program, lines);
+    }
+    Ok(chart)
+}
+
+/// The view of two programs and the behaviour of the first lines, by the schedule of the second lines, or else of the first ones.
+fn either(
+    alloc: Global,
+    owner: Given,
+    other: Given,
+    lines: (&[u8], &[u8]),
+    view: View,
+) -> Result<Vec<u8>, Memory>
+    requires owner { IsShort most_bytes owner.entry.text.now }
+    requires other { IsShort most_bytes other.entry.text.now }
+{
+    let page = page_apart(alloc, owner, other, lines, view)?;
+    if page.is_empty() {
+        return page_apart(alloc, owner, other, (lines.0, lines.0), view);
+    }
+    Ok(page)
 }
 
 /// The text about a program that gets stuck by the behaviour of these lines.
@@ -36,7 +90,7 @@ pub(crate) fn stuck(alloc: Global, program: Given, lines: Vec<u8>) -> Result<Vec
     requires { IsShort most_bytes program.entry.text.now }
     ensures { IfOk result (λ text. IsTold (codes "DEADLOCK") lines.entry.items text.items) }
 {
-    let page = page_stuck(alloc, program, &lines)?;
+    let page = page_stuck(alloc, program, &lines, View::Page)?;
     whole(alloc, b"DEADLOCK", behind(&page), &lines)
 }
 
@@ -100,13 +154,14 @@ fn smaller(
     }
 }
 
-/// The page about two programs and the behaviour of the first lines, by the schedule that shows the behaviour of the second lines; an empty
+/// The view of two programs and the behaviour of the first lines, by the schedule that shows the behaviour of the second lines; an empty
 /// one where it can't be made, or that schedule doesn't show the first behaviour.
 fn page_apart(
     alloc: Global,
     owner: Given,
     other: Given,
     lines: (&[u8], &[u8]),
+    view: View,
 ) -> Result<Vec<u8>, Memory>
     requires owner { IsShort most_bytes owner.entry.text.now }
     requires other { IsShort most_bytes other.entry.text.now }
@@ -133,14 +188,11 @@ fn page_apart(
         other: Some((two, other_look)),
         walk,
     };
-    match page(&case)? {
-        Some(page) => Ok(page),
-        None => Ok(Vec::new(alloc)),
-    }
+    viewed(alloc, &case, view)
 }
 
-/// The page about a program that gets stuck; an empty one where it can't be made.
-fn page_stuck(alloc: Global, program: Given, lines: &[u8]) -> Result<Vec<u8>, Memory>
+/// The view of a program that gets stuck; an empty one where it can't be made.
+fn page_stuck(alloc: Global, program: Given, lines: &[u8], view: View) -> Result<Vec<u8>, Memory>
     requires { IsShort most_bytes program.entry.text.now }
 {
     let Some(own) = read(alloc, program.text, lines)? else {
@@ -157,8 +209,17 @@ fn page_stuck(alloc: Global, program: Given, lines: &[u8]) -> Result<Vec<u8>, Me
         other: None,
         walk,
     };
-    match page(&case)? {
-        Some(page) => Ok(page),
+    viewed(alloc, &case, view)
+}
+
+/// A case as it is shown; nothing where its walk doesn't lead to its behaviour.
+fn viewed<'p>(alloc: Global, case: &'p Case<'p>, view: View) -> Result<Vec<u8>, Memory> {
+    let shown = match view {
+        View::Page => page(case)?,
+        View::Chart => chart(case)?,
+    };
+    match shown {
+        Some(text) => Ok(text),
         None => Ok(Vec::new(alloc)),
     }
 }

@@ -1,4 +1,4 @@
-//! The command `why` of the workshop: why two programs differ, and why a program gets stuck.
+//! The commands `why` and `chart` of the workshop: why two programs differ, and why a program gets stuck.
 #![tactic(auto)]
 
 mod command;
@@ -7,5 +7,5 @@ mod given;
 mod reading;
 mod shown;
 
-pub use command::{why, why_apart};
+pub use command::{chart, chart_apart, why, why_apart};
 pub use given::Given;
