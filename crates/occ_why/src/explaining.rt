@@ -2,17 +2,37 @@
 
 ghost use Rattle.std.specs.Prelude.{codes, IfOk};
 ghost use Rattle.occ_tool_run.specs.occ_call.Files.{IsShort, most_bytes};
-ghost use Rattle.occ_why.specs.Told.{Choose, IsTold, TellAlone};
+ghost use Rattle.occ_why.specs.Told.{Choose, IsTold, TellAlone, TellApartBy};
 
 use crate::given::Given;
 use crate::reading::read;
 use crate::shown::whole;
 use occ_tool_run::Witness;
-use occ_why_text::{Case, Memory, look_along, page, refusing, smallest_refusal, walked};
+use occ_why_text::{
+    Case, Memory, Side, look_along, page, refusing, smallest_refusal, walked,
+};
 use std::alloc::Global;
 
-/// The text about two programs that differ, of which the first alone has the behaviour of these lines.
+/// The text about two programs that differ, of which one alone has the behaviour of these lines.
 pub(crate) fn apart(
+    alloc: Global,
+    first: Given,
+    second: Given,
+    lines: Vec<u8>,
+    only: Side,
+) -> Result<Vec<u8>, Memory>
+    requires first { IsShort most_bytes first.entry.text.now }
+    requires second { IsShort most_bytes second.entry.text.now }
+    ensures { IfOk result (λ text. TellApartBy only first.entry.text.now second.entry.text.now lines.entry.items text.items) }
+{
+    match only {
+        Side::First => alone(alloc, first, second, lines),
+        Side::Second => alone(alloc, second, first, lines),
+    }
+}
+
+/// The text about two programs that differ, of which the first alone has the behaviour of these lines.
+fn alone(
     alloc: Global,
     owner: Given,
     other: Given,
@@ -23,12 +43,9 @@ pub(crate) fn apart(
     ensures { IfOk result (λ text. TellAlone owner.entry.text.now other.entry.text.now lines.entry.items text.items) }
 {
     let first = Vec::from_slice(alloc, &lines)?;
-    let lines = telling(alloc, owner, other, lines)?;
-    let mut page = page_apart(alloc, owner, other, (&lines, &first))?;
-    if page.is_empty() {
-        page = page_apart(alloc, owner, other, (&lines, &lines))?;
-    }
-    whole(alloc, b"DIFFER", behind(&page), &lines)
+    let chosen = telling(alloc, owner, other, lines)?;
+    let page = either_page(alloc, owner, other, (&chosen, &first))?;
+    whole(alloc, b"DIFFER", behind(&page), &chosen)
 }
 
 /// The text about a program that gets stuck by the behaviour of these lines.
@@ -97,6 +114,25 @@ fn smaller(
     match smallest_refusal((&one, &own_look), (&two, &other_look))? {
         Some(events) => Ok(Some(refusing(&one, lines, events.items())?)),
         None => Ok(None),
+    }
+}
+
+/// The page about two programs and the behaviour of the first lines, by the schedule that shows the behaviour of the second lines where
+/// that schedule shows the first one too.
+fn either_page(
+    alloc: Global,
+    owner: Given,
+    other: Given,
+    lines: (&[u8], &[u8]),
+) -> Result<Vec<u8>, Memory>
+    requires owner { IsShort most_bytes owner.entry.text.now }
+    requires other { IsShort most_bytes other.entry.text.now }
+{
+    let page = page_apart(alloc, owner, other, lines)?;
+    if page.is_empty() {
+        page_apart(alloc, owner, other, (lines.0, lines.0))
+    } else {
+        Ok(page)
     }
 }
 
