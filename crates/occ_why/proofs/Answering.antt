@@ -43,7 +43,7 @@ pub apart_told : (first second : Loaded) (a : Answer) (known : List (List ℕ)) 
     → RepliesAll first second (Some reply)
 apart_told first second a known b side lines reply s e are t one_is = λ one two j k.
     apart known b side (settles_as first second a _ e s one two j k)
-        (apart_so side first second known b lines reply.text.items reply.status are t one_is one two j k)
+    (apart_so side first second known b lines reply.text.items reply.status are t one_is one two j k)
 
 pub alike_told : (first second : Loaded) (a : Answer) (known : List (List ℕ)) (reply : Reply) → SettlesAll first second a → a ≡ Compared known Same
     → reply.status ≡ 0 → reply.text.items ≡ codes "SAME\n" → RepliesAll first second (Some reply)

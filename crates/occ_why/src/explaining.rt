@@ -8,9 +8,7 @@ use crate::given::Given;
 use crate::reading::read;
 use crate::shown::whole;
 use occ_tool_run::Witness;
-use occ_why_text::{
-    Case, Memory, Side, look_along, page, refusing, smallest_refusal, walked,
-};
+use occ_why_text::{Case, Memory, Side, look_along, page, refusing, smallest_refusal, walked};
 use std::alloc::Global;
 
 /// The text about two programs that differ, of which one alone has the behaviour of these lines.
@@ -32,12 +30,7 @@ pub(crate) fn apart(
 }
 
 /// The text about two programs that differ, of which the first alone has the behaviour of these lines.
-fn alone(
-    alloc: Global,
-    owner: Given,
-    other: Given,
-    lines: Vec<u8>,
-) -> Result<Vec<u8>, Memory>
+fn alone(alloc: Global, owner: Given, other: Given, lines: Vec<u8>) -> Result<Vec<u8>, Memory>
     requires owner { IsShort most_bytes owner.entry.text.now }
     requires other { IsShort most_bytes other.entry.text.now }
     ensures { IfOk result (λ text. TellAlone owner.entry.text.now other.entry.text.now lines.entry.items text.items) }

@@ -1,5 +1,5 @@
-use crate::look::{Entry, Look, told_to};
 use crate::cases::{push_ended, push_offers, state_at};
+use crate::look::{Entry, Look, told_to};
 use crate::phrases::{push_paragraph, push_state, push_trace};
 use crate::route::push_route;
 use crate::shape::shape;

@@ -65,10 +65,7 @@ fn next_point<'p>(points: &[Point<'p>], step: u32) -> Result<Option<Point<'p>>, 
 }
 
 /// The steps of a walk as they are told.
-pub(crate) fn told_along<'p>(
-    places: &'p Places,
-    walk: &'p Walk<'p>,
-) -> Result<Vec<Told>, Memory> {
+pub(crate) fn told_along<'p>(places: &'p Places, walk: &'p Walk<'p>) -> Result<Vec<Told>, Memory> {
     let mut told = Vec::new(places.alloc());
     for (order, step) in walk.steps.iter().enumerate() {
         if let Some(point) = walk.points.get(order) {
