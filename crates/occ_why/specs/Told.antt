@@ -3,13 +3,18 @@ use Rattle.std.specs.Prelude.{ℕ, ◌≡◌, ◌==◌, ◌⊎◌, ◌≤◌, �
 use Rattle.std.specs.List.{flat_map}
 use Rattle.occ_why_text.specs.occ_behaviour.Texts.{text_of_behaviour}
 use Rattle.occ_why_text.specs.occ_behaviour.declared.behaviour.Behaviour.{Behaviour}
+use Rattle.occ_why_text.specs.occ_behaviour.declared.behaviour.Side.{Side}
+use Rattle.occ_why_text.specs.occ_behaviour.declared.behaviour.Side.TheVariants.{First, Second}
 use Rattle.occ_tool_run.specs.Accepts.{IsAccepted}
 use Rattle.occ_tool_run.specs.Stored.{seen}
 use Rattle.occ_tool_run.specs.occ_behaviour_read.Behaviours.{IsBehaviourText}
-use Rattle.occ_tool_run.specs.occ_behaviour_read.Claims.{bare_lines}
 use Rattle.occ_tool_run.specs.occ_call.Files.{IsLoaded, most_bytes}
 use Rattle.occ_tool_run.specs.occ_call.declared.loading.Loaded.{Loaded}
-use Rattle.occ_tool_run.specs.occ_run_schedule.Witnesses.{HasIt}
+use Rattle.occ_tool_run.specs.occ_run_schedule.Witnesses.{HasIt, IsWithin}
+use Rattle.occ_tool_run.specs.occ_behaviour_read.Claims.{IsOf, bare_lines}
+use Rattle.occ_tool_run.specs.occ_nform_table.Lines.{HaveWidths}
+use Rattle.occ_why_text.specs.occ_base.declared.names.Name.{Name}
+use Rattle.occ_why_text.specs.occ_syntax.declared.scope.Kind.{Kind}
 use Rattle.occ_why_text.specs.occ_syntax.declared.scope.Program.{Program}
 
 -- a byte of lines that stand in two columns
@@ -31,6 +36,13 @@ pub record IsClaimOf (file : Option (List ℕ)) (lines : List ℕ) (p : Program)
   pub accepted : IsAccepted file [] names (seen p)
   pub short : length lines ≤ 65536
   pub written : IsBehaviourText names p.params b (bare_lines lines)
+
+-- the behaviour is one of the program's interface, which these parameters are too
+pub record IsOne (marked : List (Name × Kind)) (p : Program) (b : Behaviour) : Type 0 where
+  pub same : marked ≡ p.params
+  pub wide : HaveWidths p.params
+  pub states : IsOf p.params b
+  pub events : IsWithin p.params b.last
 
 -- the program in the file has the behaviour of the lines
 pub record HasClaim (file : Option (List ℕ)) (lines : List ℕ) : Type 0 where
@@ -60,3 +72,8 @@ pub record TellAlone (owner other : Loaded) (lines text : List ℕ) : Type 0 whe
   pub chosen : List ℕ
   pub choose : Choose owner other lines chosen
   pub told : IsTold (codes "DIFFER") chosen text
+
+-- the same where the side's program owns the lines
+abbrev pub TellApartBy : Side → Loaded → Loaded → List ℕ → List ℕ → Type 0
+TellApartBy First one two lines text = TellAlone one two lines text
+TellApartBy Second one two lines text = TellAlone two one lines text

@@ -1,6 +1,6 @@
 //! The answers to the command.
 
-ghost use Rattle.std.specs.Prelude.{◌≡◌, ◌≢◌, ℕ, List, Option, IfOk, IfSome, IsSomeAnd};
+ghost use Rattle.std.specs.Prelude.{◌≡◌, ◌≢◌, ℕ, List, Option, IfOk, IfSome};
 ghost use Rattle.occ_tool_run.specs.occ_call.Files.{IsLoaded, IsShort, most_bytes};
 ghost use Rattle.occ_tool_run.specs.occ_call.Ran.{IsOwnStatus};
 ghost use Rattle.occ_why.specs.Answers.{Replies, RepliesApart};
@@ -13,7 +13,7 @@ use occ_tool_run::Reply;
 use occ_tool_run::answer::Answer;
 use occ_tool_run::judge::{Question, judge};
 use occ_tool_run::stuck::seek;
-use occ_why_text::{Memory, Side, Verdict};
+use occ_why_text::{Memory, Verdict};
 use std::alloc::Global;
 
 /// The reply to two files of programs: why they differ, and what tells them apart; None exactly where `same` refuses one of them.
@@ -34,14 +34,11 @@ pub fn why_apart(alloc: Global, first: Given, second: Given) -> Result<Option<Re
     match judge(alloc, Question::WhetherSame, first.text, second.text)? {
         Answer::Compared(names, Verdict::Differ { behaviour, only }) => {
             let lines = lines_of(alloc, &names, &behaviour)?;
-            let text = match only {
-                Side::First => apart(alloc, first, second, lines)?,
-                Side::Second => apart(alloc, second, first, lines)?,
-            };
+            let text = apart(alloc, first, second, lines, only)?;
             Ok(Some(Reply { status: 1, text }))
         }
-        Answer::Compared(_, Verdict::Same) => said(alloc, 0, b"SAME\n"),
-        Answer::InterfacesDiffer => said(alloc, 7, b"INTERFACES DIFFER\n"),
+        Answer::Compared(_, Verdict::Same) => Ok(Some(said(alloc, 0, b"SAME\n")?)),
+        Answer::InterfacesDiffer => Ok(Some(said(alloc, 7, b"INTERFACES DIFFER\n")?)),
         _ => Ok(None),
     }
 }
@@ -65,7 +62,7 @@ pub fn why(alloc: Global, program: Given) -> Result<Option<Reply>, Memory>
             let text = stuck(alloc, program, lines)?;
             Ok(Some(Reply { status: 1, text }))
         }
-        Answer::Sought(_, None) => said(alloc, 0, b"FREE\n"),
+        Answer::Sought(_, None) => Ok(Some(said(alloc, 0, b"FREE\n")?)),
         _ => Ok(None),
     }
 }
@@ -89,14 +86,11 @@ pub fn chart_apart(alloc: Global, first: Given, second: Given) -> Result<Option<
     match judge(alloc, Question::WhetherSame, first.text, second.text)? {
         Answer::Compared(names, Verdict::Differ { behaviour, only }) => {
             let lines = lines_of(alloc, &names, &behaviour)?;
-            let text = match only {
-                Side::First => chart_of_two(alloc, first, second, lines)?,
-                Side::Second => chart_of_two(alloc, second, first, lines)?,
-            };
+            let text = chart_of_two(alloc, first, second, lines, only)?;
             Ok(Some(Reply { status: 1, text }))
         }
-        Answer::Compared(_, Verdict::Same) => said(alloc, 0, b"SAME\n"),
-        Answer::InterfacesDiffer => said(alloc, 7, b"INTERFACES DIFFER\n"),
+        Answer::Compared(_, Verdict::Same) => Ok(Some(said(alloc, 0, b"SAME\n")?)),
+        Answer::InterfacesDiffer => Ok(Some(said(alloc, 7, b"INTERFACES DIFFER\n")?)),
         _ => Ok(None),
     }
 }
@@ -121,15 +115,16 @@ pub fn chart(alloc: Global, program: Given) -> Result<Option<Reply>, Memory>
             let text = chart_of_one(alloc, program, lines)?;
             Ok(Some(Reply { status: 1, text }))
         }
-        Answer::Sought(_, None) => said(alloc, 0, b"FREE\n"),
+        Answer::Sought(_, None) => Ok(Some(said(alloc, 0, b"FREE\n")?)),
         _ => Ok(None),
     }
 }
 
 /// The reply with a status and a text.
-fn said(alloc: Global, status: u8, text: &[u8]) -> Result<Option<Reply>, Memory>
-    ensures { IfOk result (λ told. IsSomeAnd told (λ reply. (reply.status ≡ status) × (reply.text.items ≡ text.now))) }
+fn said(alloc: Global, status: u8, text: &[u8]) -> Result<Reply, Memory>
+    ensures status { IfOk result (λ reply. reply.status ≡ status) }
+    ensures text { IfOk result (λ reply. reply.text.items ≡ text.now) }
 {
     let text = Vec::from_slice(alloc, text)?;
-    Ok(Some(Reply { status, text }))
+    Ok(Reply { status, text })
 }

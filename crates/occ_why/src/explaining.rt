@@ -2,13 +2,15 @@
 
 ghost use Rattle.std.specs.Prelude.{codes, IfOk};
 ghost use Rattle.occ_tool_run.specs.occ_call.Files.{IsShort, most_bytes};
-ghost use Rattle.occ_why.specs.Told.{Choose, IsTold, TellAlone};
+ghost use Rattle.occ_why.specs.Told.{Choose, IsTold, TellAlone, TellApartBy};
 
 use crate::given::Given;
 use crate::reading::read;
 use crate::shown::whole;
 use occ_tool_run::Witness;
-use occ_why_text::{Case, Memory, chart, look_along, page, refusing, smallest_refusal, walked};
+use occ_why_text::{
+    Case, Memory, Side, chart, look_along, page, refusing, smallest_refusal, walked,
+};
 use std::alloc::Global;
 
 /// How a behaviour is shown.
@@ -20,38 +22,57 @@ pub(crate) enum View {
     Chart,
 }
 
-/// The text about two programs that differ, of which the first alone has the behaviour of these lines.
+/// The text about two programs that differ, of which one alone has the behaviour of these lines.
 pub(crate) fn apart(
     alloc: Global,
-    owner: Given,
-    other: Given,
+    first: Given,
+    second: Given,
     lines: Vec<u8>,
+    only: Side,
 ) -> Result<Vec<u8>, Memory>
+    requires first { IsShort most_bytes first.entry.text.now }
+    requires second { IsShort most_bytes second.entry.text.now }
+    ensures { IfOk result (λ text. TellApartBy only first.entry.text.now second.entry.text.now lines.entry.items text.items) }
+{
+    match only {
+        Side::First => alone(alloc, first, second, lines),
+        Side::Second => alone(alloc, second, first, lines),
+    }
+}
+
+/// The text about two programs that differ, of which the first alone has the behaviour of these lines.
+fn alone(alloc: Global, owner: Given, other: Given, lines: Vec<u8>) -> Result<Vec<u8>, Memory>
     requires owner { IsShort most_bytes owner.entry.text.now }
     requires other { IsShort most_bytes other.entry.text.now }
     ensures { IfOk result (λ text. TellAlone owner.entry.text.now other.entry.text.now lines.entry.items text.items) }
 {
     let first = Vec::from_slice(alloc, &lines)?;
-    let lines = telling(alloc, owner, other, lines)?;
-    let page = either(alloc, owner, other, (&lines, &first), View::Page)?;
-    whole(alloc, b"DIFFER", behind(&page), &lines)
+    let chosen = telling(alloc, owner, other, lines)?;
+    let page = either_page(alloc, owner, other, (&chosen, &first), View::Page)?;
+    whole(alloc, b"DIFFER", behind(&page), &chosen)
 }
 
-/// The chart of two programs that differ, of which the first alone has the behaviour of these lines; where none can be made, the text.
+/// The chart of two programs that differ, of which one alone has the behaviour of these lines; where none can be made, the text.
 pub(crate) fn chart_of_two(
     alloc: Global,
-    owner: Given,
-    other: Given,
+    first: Given,
+    second: Given,
     lines: Vec<u8>,
+    only: Side,
 ) -> Result<Vec<u8>, Memory>
-    requires owner { IsShort most_bytes owner.entry.text.now }
-    requires other { IsShort most_bytes other.entry.text.now }
+    requires first { IsShort most_bytes first.entry.text.now }
+    requires second { IsShort most_bytes second.entry.text.now }
 {
-    let first = Vec::from_slice(alloc, &lines)?;
-    let lines = telling(alloc, owner, other, lines)?;
-    let chart = either(alloc, owner, other, (&lines, &first), View::Chart)?;
+    let (owner, other) = match only {
+        Side::First => (first, second),
+        Side::Second => (second, first),
+    };
+    let own = Vec::from_slice(alloc, &lines)?;
+    let again = Vec::from_slice(alloc, &lines)?;
+    let chosen = telling(alloc, owner, other, lines)?;
+    let chart = either_page(alloc, owner, other, (&chosen, &own), View::Chart)?;
     if chart.is_empty() {
-        return apart(alloc, owner, other, first);
+        return alone(alloc, owner, other, again);
     }
     Ok(chart)
 }
@@ -65,24 +86,6 @@ pub(crate) fn chart_of_one(alloc: Global, program: Given, lines: Vec<u8>) -> Res
         return stuck(alloc, program, lines);
     }
     Ok(chart)
-}
-
-/// The view of two programs and the behaviour of the first lines, by the schedule of the second lines, or else of the first ones.
-fn either(
-    alloc: Global,
-    owner: Given,
-    other: Given,
-    lines: (&[u8], &[u8]),
-    view: View,
-) -> Result<Vec<u8>, Memory>
-    requires owner { IsShort most_bytes owner.entry.text.now }
-    requires other { IsShort most_bytes other.entry.text.now }
-{
-    let page = page_apart(alloc, owner, other, lines, view)?;
-    if page.is_empty() {
-        return page_apart(alloc, owner, other, (lines.0, lines.0), view);
-    }
-    Ok(page)
 }
 
 /// The text about a program that gets stuck by the behaviour of these lines.
@@ -151,6 +154,26 @@ fn smaller(
     match smallest_refusal((&one, &own_look), (&two, &other_look))? {
         Some(events) => Ok(Some(refusing(&one, lines, events.items())?)),
         None => Ok(None),
+    }
+}
+
+/// The view of two programs and the behaviour of the first lines, by the schedule that shows the behaviour of the second lines where
+/// that schedule shows the first one too.
+fn either_page(
+    alloc: Global,
+    owner: Given,
+    other: Given,
+    lines: (&[u8], &[u8]),
+    view: View,
+) -> Result<Vec<u8>, Memory>
+    requires owner { IsShort most_bytes owner.entry.text.now }
+    requires other { IsShort most_bytes other.entry.text.now }
+{
+    let page = page_apart(alloc, owner, other, lines, view)?;
+    if page.is_empty() {
+        page_apart(alloc, owner, other, (lines.0, lines.0), view)
+    } else {
+        Ok(page)
     }
 }
 

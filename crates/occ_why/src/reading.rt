@@ -1,14 +1,10 @@
 //! A program's file, and the lines of a behaviour.
 
-ghost use Rattle.std.specs.Prelude.{◌≡◌, ◌≤◌, ◌↔◌, ℕ, List, [], length, Option, true, IfOk, IfSome, IsTrue};
+ghost use Rattle.std.specs.Prelude.{◌≤◌, ◌↔◌, ℕ, List, [], length, Option, IfOk, IfSome, IsTrue};
 ghost use Rattle.occ_why_text.specs.occ_base.Names.{IsDistinct};
-ghost use Rattle.occ_tool_run.specs.occ_behaviour_read.Claims.{IsOf};
-ghost use Rattle.occ_tool_run.specs.occ_nform_table.Lines.{HaveWidths};
-ghost use Rattle.occ_tool_run.specs.occ_run_schedule.Witnesses.{IsWithin};
-ghost use Rattle.occ_why_text.specs.occ_behaviour.States.{is_state};
 ghost use Rattle.occ_tool_run.specs.Judged.{HasInterface, IsAcceptedFrom};
 ghost use Rattle.occ_tool_run.specs.occ_call.Files.{IsLoaded, IsShort, most_bytes};
-ghost use Rattle.occ_why.specs.Told.{IsClaimOf};
+ghost use Rattle.occ_why.specs.Told.{IsClaimOf, IsOne};
 
 use occ_tool_run::accept::{Refusal, accept_first};
 use occ_tool_run::{
@@ -24,10 +20,6 @@ pub(crate) struct Reading {
     accepted: Accepted,
     behaviour: Behaviour,
     places: Places,
-    ghost state: { is_state places.marked.accepted.program.params behaviour.state ≡ true },
-    ghost wide: { ∥ HaveWidths accepted.program.params ∥₁ },
-    ghost states: { ∥ IsOf accepted.program.params behaviour ∥₁ },
-    ghost events: { ∥ IsWithin accepted.program.params behaviour.last ∥₁ },
 }
 
 impl Reading {
@@ -35,6 +27,7 @@ impl Reading {
 
     /// Whether the program has the behaviour, and a schedule that shows it.
     pub(crate) fn witness(&self, alloc: Global) -> Result<Witness, Memory>
+        requires { IsOne self.now.places.marked.accepted.program.params self.now.accepted.program self.now.behaviour }
         ensures { IfOk result (IsWitness self.now.accepted.program self.now.behaviour) }
     {
         find_witness(alloc, &self.accepted, &self.behaviour)
@@ -42,12 +35,20 @@ impl Reading {
 
     /// Whether the program has the behaviour.
     pub(crate) fn has_it(&self, alloc: Global) -> Result<bool, Memory>
+        requires { IsOne self.now.places.marked.accepted.program.params self.now.accepted.program self.now.behaviour }
         ensures { IfOk result (λ has. IsTrue has ↔ HasIt self.now.accepted.program self.now.behaviour) }
     {
         match self.witness(alloc)? {
             Witness::Schedule(_) | Witness::Long => Ok(true),
             Witness::Outside => Ok(false),
         }
+    }
+
+    /// Where the program begins.
+    pub(crate) fn start(&self) -> Result<Point<'_>, Memory>
+        requires { IsOne self.now.places.marked.accepted.program.params self.now.accepted.program self.now.behaviour }
+    {
+        self.places.point(&self.behaviour.state)
     }
 
     /// What is told of the program, whose file has that name.
@@ -59,18 +60,15 @@ impl Reading {
             behaviour: &self.behaviour,
         }
     }
-
-    /// Where the program begins.
-    pub(crate) fn start(&self) -> Result<Point<'_>, Memory> {
-        self.places.point(&self.behaviour.state)
-    }
 }
 
 /// An accepted program's file and the lines of a behaviour of its interface, read together; None where they aren't that.
 pub(crate) fn read(alloc: Global, program: &Loaded, lines: &[u8]) -> Result<Option<Reading>, Memory>
     requires { IsShort most_bytes program.now }
-    ensures { IfOk result (λ found. IfSome found (λ reading. (file : Option (List ℕ)) → IsLoaded most_bytes file program.now
+    ensures claim { IfOk result (λ found. IfSome found (λ reading. (file : Option (List ℕ)) → IsLoaded most_bytes file program.now
         → IsClaimOf file lines.now reading.accepted.program reading.behaviour)) }
+    ensures one { IfOk result (λ found. IfSome found (λ reading.
+        IsOne reading.places.marked.accepted.program.params reading.accepted.program reading.behaviour)) }
 {
     if lines.len() as u64 > MOST_BYTES {
         return Ok(None);
@@ -95,19 +93,22 @@ fn read_with(
     requires distinct { IsDistinct names.now }
     requires interface { HasInterface names.now accepted.program }
     requires accepted { IsAcceptedFrom program.now [] names.now accepted.program }
-    ensures { IfOk result (λ found. IfSome found (λ reading. (file : Option (List ℕ)) → IsLoaded most_bytes file program.now
+    ensures claim { IfOk result (λ found. IfSome found (λ reading. (file : Option (List ℕ)) → IsLoaded most_bytes file program.now
         → IsClaimOf file lines.now reading.accepted.program reading.behaviour)) }
+    ensures one { IfOk result (λ found. IfSome found (λ reading.
+        IsOne reading.places.marked.accepted.program.params reading.accepted.program reading.behaviour)) }
 {
     behaviours_are_read_as_written();
     let Loaded::Bytes(text) = program else {
         return Ok(None);
     };
-    let behaviour = match read_claim(alloc, names, accepted.program().params.items(), lines) {
+    let held = accepted.program();
+    let behaviour = match read_claim(alloc, names, held.params.items(), lines) {
         Ok(behaviour) => behaviour,
         Err(ClaimFault::Memory) => return Err(Memory),
         Err(ClaimFault::Form { .. }) => return Ok(None),
     };
-    let Some(places) = Places::of(alloc, text, accepted.program())? else {
+    let Some(places) = Places::of(alloc, text, held)? else {
         return Ok(None);
     };
     Ok(Some(Reading {

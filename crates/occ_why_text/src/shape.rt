@@ -16,7 +16,7 @@ pub(crate) fn shape(control: &Control) -> u64 {
         Control::After(body, _) => mixed(7, shape(body)),
         Control::Both(parts) => shapes(parts),
         Control::Local { body, .. } => mixed(8, shape(body)),
-        Control::Channels { first, more, body } => mixed(marks(*first, more), shape(body)),
+        Control::Channels { first, more, body } => mixed(shape(body), marks(*first, more)),
     }
 }
 
