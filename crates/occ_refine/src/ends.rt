@@ -16,7 +16,7 @@ fn is_extra(store: &Store, own: SetId, other: SetId, bits: u64) -> bool
     if store.has(own, bits) { !there } else { false }
 }
 
-// The assignment of the least state that the one set has and the other hasn't.
+/// The assignment of the least state that the one set has and the other hasn't.
 pub fn least_extra(store: &Store, params: &[(Name, Kind)], own: SetId, other: SetId) -> Option<u64>
     requires few { bits_of_scope params.now ≤ 64 }
     requires own { IsKnown store.now own }

@@ -16,8 +16,18 @@ mod stuck;
 mod verdict;
 mod walk;
 
+pub use ends::least_extra;
 pub use law::{one_verdict, refined_both_ways};
+pub use near::{distances, near_at, shortest};
+pub use occ_norm::{
+    AcceptSet, Accepted, Behaviour, Last, NodeId, Offers, Refined as CompareRefined, Root, Row,
+    SetId, Store, World, assignment, in_order, last_number, least as accept_least, normalise,
+    written,
+};
+pub use pairs::Pair;
 pub use refine::{deadlocked, refined};
-pub use roots::refines;
-pub use stuck::deadlock;
+pub use roots::{pair_at, refines};
+pub use step::stand;
+pub use stuck::{deadlock, node_at};
 pub use verdict::decide;
+pub use walk::Frame;

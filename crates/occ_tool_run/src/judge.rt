@@ -202,7 +202,7 @@ fn compared(
 }
 
 /// Whether two parameter lists are equal.
-fn have_one_interface(left: &[(Name, Kind)], right: &[(Name, Kind)]) -> bool
+pub fn have_one_interface(left: &[(Name, Kind)], right: &[(Name, Kind)]) -> bool
     ensures { IsTrue result ↔ (left.now ≡ right.now) }
 {
     match left {

@@ -14,7 +14,7 @@ pub mod refusal;
 mod rejection;
 mod replaying;
 mod running;
-mod stuck;
+pub mod stuck;
 mod to_normal;
 mod top;
 pub mod transforming;
