@@ -17,7 +17,7 @@ pub use events::{in_order, is_less, list_order, listed};
 pub use law::{one_deadlock, one_refinement};
 pub use occ_behaviour::{Behaviour, Last, Side, Verdict, behaviour_text, verdict_text};
 pub use occ_bits::{SetId, Store, Table, equal_under, named_bits};
-pub use occ_node::{AcceptSet, MapId, NodeId, Offers, Root, Row, World};
+pub use occ_node::{AcceptSet, MapId, NodeId, Offers, Root, Row, World, least};
 pub use offers::refusal;
 pub use places::{assignment, last_number, written};
 pub use refined::Refined;

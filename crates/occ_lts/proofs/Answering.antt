@@ -1,5 +1,5 @@
 -- What a file is answered with, by what its program is.
-use Rattle.std.proofs.Common.{◌≡◌, ℕ, List, [], Option, Result, Ok, Err, IfOk, ap}
+use Rattle.std.proofs.Common.{◌≡◌, ◌⊎◌, ℕ, List, [], Option, Result, Ok, Err, IfOk, ap, inl, inr, ⊎_elim}
 use Rattle.occ_syntax.specs.occ_base.declared.memory.Memory.{Memory}
 use Rattle.occ_syntax.specs.declared.scope.Program.{Program as Stored}
 use Rattle.occ_tool_run.specs.occ_behaviour.declared.behaviour.Side.{Side}
@@ -40,3 +40,14 @@ pub refusal_status : (names : List (List ℕ)) (place : Side) (f : Refusal) (a :
 refusal_status names place (refusal.Text fault) a is = ap status_of is
 refusal_status names place (refusal.Usage line fault) a is = ap status_of is
 refusal_status names place refusal.Memory a is = absurd is
+
+-- ---- the status of what may be deterministic
+pub told_status : (r : Result Reply Memory) → IfOk r (λ reply. (reply.status ≡ 0) ⊎ (reply.status ≡ 1))
+    → IfOk r (λ reply. (reply.status ≡ 0) ⊎ ((reply.status ≡ 1) ⊎ (reply.status ≡ 3)))
+told_status (Err m) h = tt
+told_status (Ok reply) h = ⊎_elim (λ (k : reply.status ≡ 0). inl k) (λ (k : reply.status ≡ 1). inr (inl k)) h
+
+pub refused_status : (r : Result Reply Memory) → IfOk r (λ reply. reply.status ≡ 3)
+    → IfOk r (λ reply. (reply.status ≡ 0) ⊎ ((reply.status ≡ 1) ⊎ (reply.status ≡ 3)))
+refused_status (Err m) h = tt
+refused_status (Ok reply) h = inr (inr h)

@@ -3,3 +3,4 @@ mod Growing
 mod Steps
 mod Named
 pub mod Answering
+pub mod TracesTold

@@ -77,7 +77,7 @@ fn write_model(alloc: Global, names: Names, accepted: &Accepted) -> Result<Reply
 }
 
 /// The reply that refuses a program, or out of memory where that is why.
-fn refuse(alloc: Global, names: Names, refusal: Refusal) -> Result<Reply, Memory>
+pub(crate) fn refuse(alloc: Global, names: Names, refusal: Refusal) -> Result<Reply, Memory>
     requires { IsSayable names refusal }
     ensures refusal { IfOk result (λ reply. IsRefusal names refusal reply.status reply.text.items) }
     ensures status { IfOk result (λ reply. reply.status ≡ 3) }

@@ -1,0 +1,12 @@
+pub mod Putting
+pub mod Making
+pub mod Growing
+pub mod Departing
+pub mod Walking
+pub mod Foreign
+pub mod Starts
+pub mod Linking
+pub mod Choosing
+pub mod Reaching
+pub mod Chosen
+pub mod Determining
