@@ -1,0 +1,4 @@
+mod Named
+mod Zeros
+mod Arrived
+mod Around
