@@ -12,5 +12,3 @@ pub mod Refusals
 pub mod Answers
 pub mod Replies
 unfoldable pub use Rattle.occ_syntax.specs.View.{tree}
-pub use Rattle.occ_syntax.specs.occ_base as occ_base
-pub use Rattle.occ_syntax.specs as occ_syntax

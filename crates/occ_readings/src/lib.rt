@@ -4,4 +4,5 @@
 
 mod scripts;
 
+pub use occ_syntax::Memory;
 pub use scripts::replays_are_told;

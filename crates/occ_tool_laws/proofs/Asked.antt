@@ -1,13 +1,13 @@
 -- What the words ask for decides what their answer is.
 use Rattle.std.proofs.Common.{◌≡◌, ℕ, Bool, true, false, cond, List, [], ◌∷◌, Option, Some, None, refl, sym, subst, ◌∙◌, ◌&&◌}
 use Rattle.std.specs.Prelude.{option_and_then, option_map}
-use Rattle.occ_workshop_run.specs.occ_gen.declared.shape.Shape.{Shape}
-use Rattle.occ_workshop_run.specs.occ_script_lines.Texts.{path_of}
-use Rattle.occ_workshop_run.specs.occ_tool_words.Words.{Job, belongs, deadlock, derive, expand, expand_of, is_plain, job_of, normal, normalise, refine, replay, run, same, shape_of, stages_of, stress, stress_of, transform, with_one, with_two, with_two_later}
-use Rattle.occ_workshop_run.specs.occ_tool_run.Answers.{Derives, Expands, IsAnswer, Transforms, checking, comparison, normalisation_by_laws, expanding, membership, normalisation, refinement, replaying, running, seeking, stressing, transforming, usage}
-use Rattle.occ_workshop_run.specs.occ_tool_run.Derivations.{Replays}
-use Rattle.occ_workshop_run.specs.occ_call.Files.{Files}
-use Rattle.occ_workshop_run.specs.occ_script_back.Said.{IsShortPath}
+use Rattle.occ_witness.specs.occ_gen.declared.shape.Shape.{Shape}
+use Rattle.occ_witness.specs.occ_script_lines.Texts.{path_of}
+use Rattle.occ_witness.specs.occ_tool_words.Words.{Job, belongs, deadlock, derive, expand, expand_of, is_plain, job_of, normal, normalise, refine, replay, run, same, shape_of, stages_of, stress, stress_of, transform, with_one, with_two, with_two_later}
+use Rattle.occ_witness.specs.occ_tool_run.Answers.{Derives, Expands, IsAnswer, Transforms, checking, comparison, normalisation_by_laws, expanding, membership, normalisation, refinement, replaying, running, seeking, stressing, transforming, usage}
+use Rattle.occ_witness.specs.occ_tool_run.Derivations.{Replays}
+use Rattle.occ_witness.specs.occ_call.Files.{Files}
+use Rattle.occ_witness.specs.occ_script_back.Said.{IsShortPath}
 
 -- ---- the answer to words that ask for it
 

@@ -3,29 +3,29 @@ use Rattle.std.proofs.Common.{◌≡◌, ℕ, List, map, Option, Some, None, ref
 use Rattle.std.specs.List.{AllByRecursion}
 use Rattle.occ_tool_laws.specs.Reads.{Reads}
 use Rattle.occ_tool_laws.proofs.OtherNames.{ComesBack, forms_so, rows_back, stop_kept, stopped_keeps, stopped_same}
-use Rattle.occ_workshop_run.specs.occ_base.Names.{IsDistinct}
-use Rattle.occ_workshop_run.specs.occ_base.declared.names.Name.{Name}
-use Rattle.occ_workshop_run.specs.occ_lex.Rows.{reading_of}
-use Rattle.occ_workshop_run.specs.occ_lex.declared.symbol.Row.{Row}
-use Rattle.occ_workshop_run.proofs.from_lex.Interned.{extends_same, rows_known}
-use Rattle.occ_workshop_run.specs.occ_parse.Drafts.{header_below, header_name, header_params}
-use Rattle.occ_workshop_run.specs.occ_parse.Limits.{stopped}
-use Rattle.occ_workshop_run.specs.occ_parse.Reading.{AreForms, AreJudged, IsLaidOut, IsRead, IsRefused, badly_laid, in_draft, names_in, rows_in}
-use Rattle.occ_workshop_run.specs.occ_parse.declared.bound.Bound.{Bound}
-use Rattle.occ_workshop_run.specs.occ_parse.declared.fault.ParseFault.{ParseFault}
-use Rattle.occ_workshop_run.specs.occ_parse.declared.fault.ParseFault.TheVariants as fault
-use Rattle.occ_workshop_run.specs.occ_parse_rules.Forest.{Forest, Laid, lines_at}
-use Rattle.occ_workshop_run.specs.occ_parse_rules.Programs.{param_scope}
-use Rattle.occ_workshop_run.specs.occ_parse_rules.Unrolled.{lined, params_named, slot_process}
-use Rattle.occ_workshop_run.specs.occ_parse_unroll.Elements.{with_elements}
-use Rattle.occ_workshop_run.specs.occ_parse_unroll.Numbers.{number_in}
-use Rattle.occ_workshop_run.specs.occ_read_renamed.Readings.{StandIn}
-use Rattle.occ_workshop_run.proofs.from_read_renamed.Laid.{laid_renamed, lines_renamed}
-use Rattle.occ_workshop_run.proofs.from_read_renamed.Numbers.{Table, comes_back, number_in_other, one_number, renumbering}
-use Rattle.occ_workshop_run.proofs.from_read_renamed.Rows.{lines_distinct, lines_stand, rows_renamed, rows_so}
-use Rattle.occ_workshop_run.specs.occ_renamed.Renamed.{forest_renamed}
-use Rattle.occ_workshop_run.specs.occ_syntax.Tree.{Tree}
-use Rattle.occ_workshop_run.specs.occ_syntax.declared.scope.Kind.{Kind}
+use Rattle.occ_witness.specs.occ_base.Names.{IsDistinct}
+use Rattle.occ_witness.specs.occ_base.declared.names.Name.{Name}
+use Rattle.occ_witness.specs.occ_lex.Rows.{reading_of}
+use Rattle.occ_witness.specs.occ_lex.declared.symbol.Row.{Row}
+use Rattle.occ_witness.proofs.from_lex.Interned.{extends_same, rows_known}
+use Rattle.occ_witness.specs.occ_parse.Drafts.{header_below, header_name, header_params}
+use Rattle.occ_witness.specs.occ_parse.Limits.{stopped}
+use Rattle.occ_witness.specs.occ_parse.Reading.{AreForms, AreJudged, IsLaidOut, IsRead, IsRefused, badly_laid, in_draft, names_in, rows_in}
+use Rattle.occ_witness.specs.occ_parse.declared.bound.Bound.{Bound}
+use Rattle.occ_witness.specs.occ_parse.declared.fault.ParseFault.{ParseFault}
+use Rattle.occ_witness.specs.occ_parse.declared.fault.ParseFault.TheVariants as fault
+use Rattle.occ_witness.specs.occ_parse_rules.Forest.{Forest, Laid, lines_at}
+use Rattle.occ_witness.specs.occ_parse_rules.Programs.{param_scope}
+use Rattle.occ_witness.specs.occ_parse_rules.Unrolled.{lined, params_named, slot_process}
+use Rattle.occ_witness.specs.occ_parse_unroll.Elements.{with_elements}
+use Rattle.occ_witness.specs.occ_parse_unroll.Numbers.{number_in}
+use Rattle.occ_witness.specs.occ_read_renamed.Readings.{StandIn}
+use Rattle.occ_witness.proofs.from_read_renamed.Laid.{laid_renamed, lines_renamed}
+use Rattle.occ_witness.proofs.from_read_renamed.Numbers.{Table, comes_back, number_in_other, one_number, renumbering}
+use Rattle.occ_witness.proofs.from_read_renamed.Rows.{lines_distinct, lines_stand, rows_renamed, rows_so}
+use Rattle.occ_witness.specs.occ_renamed.Renamed.{forest_renamed}
+use Rattle.occ_witness.specs.occ_syntax.Tree.{Tree}
+use Rattle.occ_witness.specs.occ_syntax.declared.scope.Kind.{Kind}
 
 -- what is never Some is None
 never : {A : Type 0} (o : Option A) → ((x : A) → o ≡ Some x → ⊥) → o ≡ None

@@ -3,33 +3,33 @@ use Rattle.std.proofs.Common.{◌≡◌, ◌↔◌, ◌<◌, ◌^◌, ℕ, true,
 use Rattle.std.specs.Prelude.{codes}
 use Rattle.std.specs.declared.cmp.Ordering.{Ordering}
 use Rattle.std.specs.declared.cmp.Ordering.TheVariants.{Less, Equal, Greater}
-use Rattle.occ_workshop_run.specs.occ_nform.Written.{IsNormalText}
-use Rattle.occ_workshop_run.specs.occ_behaviour_read.Tables.{IsTextOf as IsOwnText}
-use Rattle.occ_workshop_run.specs.occ_nform_table.Behaviours.{Stands}
-use Rattle.occ_workshop_run.specs.occ_nform_table.Normal.{Parts, text_read}
-use Rattle.occ_workshop_run.specs.occ_nform_table.Tables.{IsInterface, are_params}
-use Rattle.occ_workshop_run.specs.occ_base.declared.names.Name.{Name}
-use Rattle.occ_workshop_run.specs.occ_syntax.Tree.{Tree}
-use Rattle.occ_workshop_run.specs.occ_syntax.declared.scope.Kind.{Kind}
-use Rattle.occ_workshop_run.specs.occ_base.Names.{IsDistinct}
-use Rattle.occ_workshop_run.specs.occ_parse.declared.fault.ParseFault.{ParseFault}
-use Rattle.occ_workshop_run.specs.occ_usage.declared.fault.UsageFault.{UsageFault}
-use Rattle.occ_workshop_run.specs.occ_behaviour.declared.behaviour.Side.{Side}
-use Rattle.occ_workshop_run.specs.occ_behaviour.declared.behaviour.Side.TheVariants.{First, Second}
+use Rattle.occ_witness.specs.occ_nform.Written.{IsNormalText}
+use Rattle.occ_witness.specs.occ_behaviour_read.Tables.{IsTextOf as IsOwnText}
+use Rattle.occ_witness.specs.occ_nform_table.Behaviours.{Stands}
+use Rattle.occ_witness.specs.occ_nform_table.Normal.{Parts, text_read}
+use Rattle.occ_witness.specs.occ_nform_table.Tables.{IsInterface, are_params}
+use Rattle.occ_witness.specs.occ_base.declared.names.Name.{Name}
+use Rattle.occ_witness.specs.occ_syntax.Tree.{Tree}
+use Rattle.occ_witness.specs.occ_syntax.declared.scope.Kind.{Kind}
+use Rattle.occ_witness.specs.occ_base.Names.{IsDistinct}
+use Rattle.occ_witness.specs.occ_parse.declared.fault.ParseFault.{ParseFault}
+use Rattle.occ_witness.specs.occ_usage.declared.fault.UsageFault.{UsageFault}
+use Rattle.occ_witness.specs.occ_behaviour.declared.behaviour.Side.{Side}
+use Rattle.occ_witness.specs.occ_behaviour.declared.behaviour.Side.TheVariants.{First, Second}
 use Rattle.occ_tool_laws.proofs.Texts.{File, IsTextOf, Laws, Table, Told, both, no_misuse, no_refusal, told}
-use Rattle.occ_workshop_run.specs.occ_tool_run.declared.answer.Answer.{Answer}
-use Rattle.occ_workshop_run.specs.occ_tool_run.declared.judge.Question.TheVariants.{WhetherSame}
-use Rattle.occ_workshop_run.specs.occ_tool_run.Accepts.{IsAccepted, IsAcceptedText, IsRefused, IsUnusable, Program}
-use Rattle.occ_workshop_run.specs.occ_tool_run.Answers.{Answers, Compares, IsAnswerTo, IsNormalised, Settles, Takes, TakesBoth, Turned, accepted, accepted_behind, refused, refused_behind, unusable, unusable_behind}
-use Rattle.occ_workshop_run.specs.occ_call.Files.{Files, order_of, short_bytes}
-use Rattle.occ_workshop_run.specs.occ_tool_run.Texts.{status_of, text_of}
-use Rattle.occ_workshop_run.proofs.from_engine_written.Typed.{AreKept}
-use Rattle.occ_workshop_run.proofs.from_tool_run.Accepting.{names_read, read_kept}
-use Rattle.occ_workshop_run.proofs.from_tool_run.EitherOrder.{kept_bytes, one_text}
-use Rattle.occ_workshop_run.proofs.from_tool_run.Judging.{no_name_twice}
-use Rattle.occ_workshop_run.proofs.from_tool_run.OneAnswer.{back, does, short}
-use Rattle.occ_workshop_run.proofs.from_tool_run.Taken.{AreOne, agree, as_taken}
-use Rattle.occ_workshop_run.specs.occ_tool_words.Words.{Job, job_of, normalise, same}
+use Rattle.occ_witness.specs.occ_tool_run.declared.answer.Answer.{Answer}
+use Rattle.occ_witness.specs.occ_tool_run.declared.judge.Question.TheVariants.{WhetherSame}
+use Rattle.occ_witness.specs.occ_tool_run.Accepts.{IsAccepted, IsAcceptedText, IsRefused, IsUnusable, Program}
+use Rattle.occ_witness.specs.occ_tool_run.Answers.{Answers, Compares, IsAnswerTo, IsNormalised, Settles, Takes, TakesBoth, Turned, accepted, accepted_behind, refused, refused_behind, unusable, unusable_behind}
+use Rattle.occ_witness.specs.occ_call.Files.{Files, order_of, short_bytes}
+use Rattle.occ_witness.specs.occ_tool_run.Texts.{status_of, text_of}
+use Rattle.occ_witness.proofs.from_engine_written.Typed.{AreKept}
+use Rattle.occ_witness.proofs.from_tool_run.Accepting.{names_read, read_kept}
+use Rattle.occ_witness.proofs.from_tool_run.EitherOrder.{kept_bytes, one_text}
+use Rattle.occ_witness.proofs.from_tool_run.Judging.{no_name_twice}
+use Rattle.occ_witness.proofs.from_tool_run.OneAnswer.{back, does, short}
+use Rattle.occ_witness.proofs.from_tool_run.Taken.{AreOne, agree, as_taken}
+use Rattle.occ_witness.specs.occ_tool_words.Words.{Job, job_of, normalise, same}
 
 -- a text is read as a table that stands for a program exactly where it is the text of such a table
 abbrev pub TextsLaw : Type 0

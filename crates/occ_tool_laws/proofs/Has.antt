@@ -6,15 +6,15 @@ use Rattle.occ_readings.specs.Told.{IsDecided, IsTold, faulty, joins, rejects, r
 use Rattle.occ_tool_laws.specs.Has.{HasAnswer, HasJoined, HasJoinedBetween, HasJoinedWhereNarrow, IsJoinedExactly}
 use Rattle.occ_tool_laws.specs.Joined.{IsJoined, IsJoinedWhereNarrow}
 use Rattle.occ_tool_laws.specs.ProveJoined.{IsJoined as IsJoinedBetween}
-use Rattle.occ_workshop_run.specs.occ_behaviour.declared.behaviour.Side.TheVariants.{First}
-use Rattle.occ_workshop_run.specs.occ_call.Files.{Files, most_script_bytes}
-use Rattle.occ_workshop_run.specs.occ_script.declared.script.Script.{Script}
-use Rattle.occ_workshop_run.specs.occ_tool_run.Answers.{Answers, replaying}
-use Rattle.occ_workshop_run.specs.occ_tool_run.Derivations.{IsReplayAnswer, IsReplayOf, faulty_script, joined_script, line_of_cause, rejected_script, replayed_script, too_long_script}
-use Rattle.occ_workshop_run.specs.occ_tool_run.Texts.{figure_text, status_of, text_of}
-use Rattle.occ_workshop_run.specs.occ_tool_run.declared.answer.Answer.{Answer}
-use Rattle.occ_workshop_run.specs.occ_tool_run.declared.answer.Answer.TheVariants.{Joined, RefusedScript, TooLong, Unjoined}
-use Rattle.occ_workshop_run.specs.occ_tool_words.Words.{job_of, replay}
+use Rattle.occ_witness.specs.occ_behaviour.declared.behaviour.Side.TheVariants.{First}
+use Rattle.occ_witness.specs.occ_call.Files.{Files, most_script_bytes}
+use Rattle.occ_witness.specs.occ_script.declared.script.Script.{Script}
+use Rattle.occ_witness.specs.occ_tool_run.Answers.{Answers, replaying}
+use Rattle.occ_witness.specs.occ_tool_run.Derivations.{IsReplayAnswer, IsReplayOf, faulty_script, joined_script, line_of_cause, rejected_script, replayed_script, too_long_script}
+use Rattle.occ_witness.specs.occ_tool_run.Texts.{figure_text, status_of, text_of}
+use Rattle.occ_witness.specs.occ_tool_run.declared.answer.Answer.{Answer}
+use Rattle.occ_witness.specs.occ_tool_run.declared.answer.Answer.TheVariants.{Joined, RefusedScript, TooLong, Unjoined}
+use Rattle.occ_witness.specs.occ_tool_words.Words.{job_of, replay}
 
 -- the answer to a text that is to be a script, and to one that is
 record IsAnswered (text : List ℕ) : Type 0 where

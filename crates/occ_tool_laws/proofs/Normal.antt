@@ -1,27 +1,27 @@
 -- A normal text that was written, and what is answered of a file that holds it.
 use Rattle.std.proofs.Common.{◌≡◌, ◌↔◌, ◌<◌, ◌≤◌, ◌^◌, ℕ, List, [], length, Some, Result, Ok, Err, refl, sym, ap, subst, ◌∙◌, arith}
 use Rattle.std.specs.Prelude.{codes}
-use Rattle.occ_workshop_run.specs.occ_base.Names.{IsDistinct}
-use Rattle.occ_workshop_run.specs.occ_base.declared.names.Name.{Name}
-use Rattle.occ_workshop_run.specs.occ_read_renamed.Read.{IsReadWith}
-use Rattle.occ_workshop_run.specs.occ_nform_table.declared.table.TableFault.{TableFault}
-use Rattle.occ_workshop_run.specs.occ_nform_table.Normal.{Parts, text_read}
-use Rattle.occ_workshop_run.specs.occ_parse.Reading.{IsRead}
-use Rattle.occ_workshop_run.specs.occ_parse.declared.bound.Bound.TheVariants as bound
-use Rattle.occ_workshop_run.specs.occ_syntax.Tree.{Tree}
-use Rattle.occ_workshop_run.specs.occ_syntax.declared.scope.Kind.{Kind}
+use Rattle.occ_witness.specs.occ_base.Names.{IsDistinct}
+use Rattle.occ_witness.specs.occ_base.declared.names.Name.{Name}
+use Rattle.occ_witness.specs.occ_read_renamed.Read.{IsReadWith}
+use Rattle.occ_witness.specs.occ_nform_table.declared.table.TableFault.{TableFault}
+use Rattle.occ_witness.specs.occ_nform_table.Normal.{Parts, text_read}
+use Rattle.occ_witness.specs.occ_parse.Reading.{IsRead}
+use Rattle.occ_witness.specs.occ_parse.declared.bound.Bound.TheVariants as bound
+use Rattle.occ_witness.specs.occ_syntax.Tree.{Tree}
+use Rattle.occ_witness.specs.occ_syntax.declared.scope.Kind.{Kind}
 use Rattle.occ_tool_laws.proofs.Files.{TextsLaw, asked, normal_of}
 use Rattle.occ_tool_laws.proofs.Rows.{counted}
 use Rattle.occ_tool_laws.proofs.Texts.{File, IsTextOf, Table}
 use Rattle.occ_tool_laws.specs.Rows.{rows_of}
-use Rattle.occ_workshop_run.proofs.from_tool_run.Judging.{no_name_twice}
-use Rattle.occ_workshop_run.proofs.from_tool_run.AsWritten.{TableFaultsLaw, TablesLaw, few_bytes}
-use Rattle.occ_workshop_run.specs.occ_tool_run.Answers.{Answers, Checks, IsChecked, checking, faulty_table, normal_table, too_long_table}
-use Rattle.occ_workshop_run.specs.occ_tool_run.declared.answer.Answer.{Answer}
-use Rattle.occ_workshop_run.specs.occ_tool_run.declared.answer.Answer.TheVariants.{Counted}
-use Rattle.occ_workshop_run.specs.occ_call.Files.{Files, most_table_bytes}
-use Rattle.occ_workshop_run.specs.occ_tool_run.Texts.{figure_text, status_of, text_of}
-use Rattle.occ_workshop_run.specs.occ_tool_words.Words.{job_of, normal, normalise}
+use Rattle.occ_witness.proofs.from_tool_run.Judging.{no_name_twice}
+use Rattle.occ_witness.proofs.from_tool_run.AsWritten.{TableFaultsLaw, TablesLaw, few_bytes}
+use Rattle.occ_witness.specs.occ_tool_run.Answers.{Answers, Checks, IsChecked, checking, faulty_table, normal_table, too_long_table}
+use Rattle.occ_witness.specs.occ_tool_run.declared.answer.Answer.{Answer}
+use Rattle.occ_witness.specs.occ_tool_run.declared.answer.Answer.TheVariants.{Counted}
+use Rattle.occ_witness.specs.occ_call.Files.{Files, most_table_bytes}
+use Rattle.occ_witness.specs.occ_tool_run.Texts.{figure_text, status_of, text_of}
+use Rattle.occ_witness.specs.occ_tool_words.Words.{job_of, normal, normalise}
 
 -- a text that reads as a normal table with one table of names does with any other
 abbrev pub AnyNames : Type 0

@@ -1,24 +1,24 @@
 -- The lines that are read, under other names: they are as many, and say the same under these names.
 use Rattle.std.proofs.Common.{◌≡◌, ℕ, ◌+◌, ◌<◌, Bool, false, nat_lt, ◌&&◌, if◌then◌else◌, List, [], ◌∷◌, map, length, Option, Some, None, refl, ap, ap₂, ◌∙◌}
 use Rattle.std.specs.List.{AllByRecursion}
-use Rattle.occ_workshop_run.specs.occ_lex.declared.fault.LineFault.{LineFault}
-use Rattle.occ_workshop_run.specs.occ_lex.declared.symbol.Row.{Row}
-use Rattle.occ_workshop_run.specs.occ_lex.declared.symbol.Symbol.{Symbol}
-use Rattle.occ_workshop_run.specs.occ_lex.declared.symbol.Symbol.TheVariants as symbol
-use Rattle.occ_workshop_run.specs.occ_lex.Symbols.{AreKnown, IsKnown}
-use Rattle.occ_workshop_run.specs.occ_parse.Limits.{counted_from, is_limited, line_limit, opens, stop_at, stopped, weight}
-use Rattle.occ_workshop_run.specs.occ_parse.Reading.{AreForms}
-use Rattle.occ_workshop_run.specs.occ_parse.declared.bound.Bound.{Bound}
-use Rattle.occ_workshop_run.specs.occ_parse.declared.fault.ParseFault.{ParseFault}
-use Rattle.occ_workshop_run.specs.occ_parse.declared.fault.Which.{Which}
-use Rattle.occ_workshop_run.specs.occ_parse.declared.fault.Which.TheVariants as which
-use Rattle.occ_workshop_run.specs.occ_parse_rules.Forest.{Laid}
-use Rattle.occ_workshop_run.proofs.from_read_renamed.Laid.{laid_renamed}
-use Rattle.occ_workshop_run.proofs.from_read_renamed.Numbers.{Table}
-use Rattle.occ_workshop_run.proofs.from_read_renamed.Rows.{row_renamed, rows_renamed}
-use Rattle.occ_workshop_run.proofs.from_renamed.Forms.{form_so}
-use Rattle.occ_workshop_run.specs.occ_renamed.Renamed.{symbol_renamed, symbols_renamed}
-use Rattle.occ_workshop_run.specs.occ_renamed.Standing.{IsOneForOne}
+use Rattle.occ_witness.specs.occ_lex.declared.fault.LineFault.{LineFault}
+use Rattle.occ_witness.specs.occ_lex.declared.symbol.Row.{Row}
+use Rattle.occ_witness.specs.occ_lex.declared.symbol.Symbol.{Symbol}
+use Rattle.occ_witness.specs.occ_lex.declared.symbol.Symbol.TheVariants as symbol
+use Rattle.occ_witness.specs.occ_lex.Symbols.{AreKnown, IsKnown}
+use Rattle.occ_witness.specs.occ_parse.Limits.{counted_from, is_limited, line_limit, opens, stop_at, stopped, weight}
+use Rattle.occ_witness.specs.occ_parse.Reading.{AreForms}
+use Rattle.occ_witness.specs.occ_parse.declared.bound.Bound.{Bound}
+use Rattle.occ_witness.specs.occ_parse.declared.fault.ParseFault.{ParseFault}
+use Rattle.occ_witness.specs.occ_parse.declared.fault.Which.{Which}
+use Rattle.occ_witness.specs.occ_parse.declared.fault.Which.TheVariants as which
+use Rattle.occ_witness.specs.occ_parse_rules.Forest.{Laid}
+use Rattle.occ_witness.proofs.from_read_renamed.Laid.{laid_renamed}
+use Rattle.occ_witness.proofs.from_read_renamed.Numbers.{Table}
+use Rattle.occ_witness.proofs.from_read_renamed.Rows.{row_renamed, rows_renamed}
+use Rattle.occ_witness.proofs.from_renamed.Forms.{form_so}
+use Rattle.occ_witness.specs.occ_renamed.Renamed.{symbol_renamed, symbols_renamed}
+use Rattle.occ_witness.specs.occ_renamed.Standing.{IsOneForOne}
 
 -- a row has its names again, once they were given others and back
 abbrev pub ComesBack : (ℕ → ℕ) → (ℕ → ℕ) → Row → Type 0

@@ -2,45 +2,45 @@
 use Rattle.std.proofs.Common.{◌≡◌, ℕ, ◌≤◌, List, [], length, Option, Some, refl, sym, ap, subst, ◌∙◌, arith}
 use Rattle.std.specs.Prelude.{codes}
 use Rattle.std.specs.List.{AllByRecursion}
-use Rattle.occ_workshop_run.specs.occ_derive_moves.Moves.{AreNarrow}
-use Rattle.occ_workshop_run.specs.occ_derive_moves.Steps.{Steps}
-use Rattle.occ_workshop_run.specs.occ_engine.Moved.{moves_of, orders_of}
-use Rattle.occ_workshop_run.specs.occ_replay_rules.Expansion.{IsExpanded}
-use Rattle.occ_workshop_run.specs.occ_replay_rules.Moves.{Move, Moves}
-use Rattle.occ_workshop_run.specs.occ_replay_rules.Orders.{Follows}
-use Rattle.occ_workshop_run.specs.occ_base.declared.names.Name.{Name}
-use Rattle.occ_workshop_run.specs.occ_engine_written.First.{AreWritten, IsFirstProgram}
-use Rattle.occ_workshop_run.specs.occ_lex.Growth.{GrowsByNames}
-use Rattle.occ_workshop_run.specs.occ_parse_rules.Places.{Place}
-use Rattle.occ_workshop_run.specs.occ_script.declared.fault.ScriptFault.{ScriptFault}
-use Rattle.occ_workshop_run.specs.occ_script.declared.script.Order.{Order}
-use Rattle.occ_workshop_run.specs.occ_script.declared.script.Script.{Script}
-use Rattle.occ_workshop_run.specs.occ_script.Orders.{IsOrders}
-use Rattle.occ_workshop_run.specs.occ_script.Refusals.{IsScriptFault}
-use Rattle.occ_workshop_run.specs.occ_script.Scripts.{IsScript}
-use Rattle.occ_workshop_run.specs.occ_script_back.Joined.{AreWrittenMoves, IsJoined as IsJoinedScript}
-use Rattle.occ_workshop_run.specs.occ_script_write.declared.writing.Done.{Done}
-use Rattle.occ_workshop_run.specs.occ_script_write.Text.{IsWritable, script_text}
-use Rattle.occ_workshop_run.specs.occ_script_back.Said.{IsSaid, IsShortPath}
-use Rattle.occ_workshop_run.specs.occ_syntax.declared.scope.Kind.{Kind}
-use Rattle.occ_workshop_run.specs.occ_syntax.declared.scope.Program.{Program as Stored}
-use Rattle.occ_workshop_run.specs.occ_syntax.Tree.{Tree}
-use Rattle.occ_workshop_run.specs.occ_syntax.View.{tree}
+use Rattle.occ_witness.specs.occ_derive_moves.Moves.{AreNarrow}
+use Rattle.occ_witness.specs.occ_derive_moves.Steps.{Steps}
+use Rattle.occ_witness.specs.occ_engine.Moved.{moves_of, orders_of}
+use Rattle.occ_witness.specs.occ_replay_rules.Expansion.{IsExpanded}
+use Rattle.occ_witness.specs.occ_replay_rules.Moves.{Move, Moves}
+use Rattle.occ_witness.specs.occ_replay_rules.Orders.{Follows}
+use Rattle.occ_witness.specs.occ_base.declared.names.Name.{Name}
+use Rattle.occ_witness.specs.occ_engine_written.First.{AreWritten, IsFirstProgram}
+use Rattle.occ_witness.specs.occ_lex.Growth.{GrowsByNames}
+use Rattle.occ_witness.specs.occ_parse_rules.Places.{Place}
+use Rattle.occ_witness.specs.occ_script.declared.fault.ScriptFault.{ScriptFault}
+use Rattle.occ_witness.specs.occ_script.declared.script.Order.{Order}
+use Rattle.occ_witness.specs.occ_script.declared.script.Script.{Script}
+use Rattle.occ_witness.specs.occ_script.Orders.{IsOrders}
+use Rattle.occ_witness.specs.occ_script.Refusals.{IsScriptFault}
+use Rattle.occ_witness.specs.occ_script.Scripts.{IsScript}
+use Rattle.occ_witness.specs.occ_script_back.Joined.{AreWrittenMoves, IsJoined as IsJoinedScript}
+use Rattle.occ_witness.specs.occ_script_write.declared.writing.Done.{Done}
+use Rattle.occ_witness.specs.occ_script_write.Text.{IsWritable, script_text}
+use Rattle.occ_witness.specs.occ_script_back.Said.{IsSaid, IsShortPath}
+use Rattle.occ_witness.specs.occ_syntax.declared.scope.Kind.{Kind}
+use Rattle.occ_witness.specs.occ_syntax.declared.scope.Program.{Program as Stored}
+use Rattle.occ_witness.specs.occ_syntax.Tree.{Tree}
+use Rattle.occ_witness.specs.occ_syntax.View.{tree}
 use Rattle.occ_tool_laws.specs.Joined.{IsJoined, IsJoinedWhereNarrow, IsPrintedNarrow}
 use Rattle.occ_tool_laws.proofs.Asked.{PathLaw, derive_asked, expand_asked, path_asked, replay_asked, transform_asked}
 use Rattle.occ_tool_laws.proofs.Replayed.{IsDerived, OneLaw, replay_joined}
-use Rattle.occ_workshop_run.proofs.from_tool_run.Accepting.{keeps_usage, read_typed}
-use Rattle.occ_workshop_run.proofs.from_tool_run.Judging.{no_name_twice}
-use Rattle.occ_workshop_run.specs.occ_tool_run.Accepts.{IsAccepted, Program}
-use Rattle.occ_workshop_run.specs.occ_tool_run.Answers.{Answers, Takes, accepted, refused, unusable}
-use Rattle.occ_workshop_run.specs.occ_tool_run.Derivations.{Replays}
-use Rattle.occ_workshop_run.specs.occ_tool_run.Derived as normal
-use Rattle.occ_workshop_run.specs.occ_call.Files.{Files, most_script_bytes}
-use Rattle.occ_workshop_run.specs.occ_tool_run.Stored.{OfStored, seen}
-use Rattle.occ_workshop_run.specs.occ_tool_run.Texts.{figure_text, status_of, text_of}
-use Rattle.occ_workshop_run.specs.occ_tool_run.Transforms.{IsExpandedTo, IsScriptOf, IsTransformed, blocked, expanded, faulty_orders, followed_orders, no_par, no_part, stopped_orders, too_long_orders}
-use Rattle.occ_workshop_run.specs.occ_tool_words.Words.{derive, expand, job_of, replay, transform}
-use Rattle.occ_workshop_run.specs.occ_behaviour.declared.behaviour.Side.TheVariants.{First}
+use Rattle.occ_witness.proofs.from_tool_run.Accepting.{keeps_usage, read_typed}
+use Rattle.occ_witness.proofs.from_tool_run.Judging.{no_name_twice}
+use Rattle.occ_witness.specs.occ_tool_run.Accepts.{IsAccepted, Program}
+use Rattle.occ_witness.specs.occ_tool_run.Answers.{Answers, Takes, accepted, refused, unusable}
+use Rattle.occ_witness.specs.occ_tool_run.Derivations.{Replays}
+use Rattle.occ_witness.specs.occ_tool_run.Derived as normal
+use Rattle.occ_witness.specs.occ_call.Files.{Files, most_script_bytes}
+use Rattle.occ_witness.specs.occ_tool_run.Stored.{OfStored, seen}
+use Rattle.occ_witness.specs.occ_tool_run.Texts.{figure_text, status_of, text_of}
+use Rattle.occ_witness.specs.occ_tool_run.Transforms.{IsExpandedTo, IsScriptOf, IsTransformed, blocked, expanded, faulty_orders, followed_orders, no_par, no_part, stopped_orders, too_long_orders}
+use Rattle.occ_witness.specs.occ_tool_words.Words.{derive, expand, job_of, replay, transform}
+use Rattle.occ_witness.specs.occ_behaviour.declared.behaviour.Side.TheVariants.{First}
 
 abbrev Table : Type 0
 Table = List (List ℕ)

@@ -3,58 +3,57 @@ use Rattle.std.proofs.Common.{◌≡◌, ◌≢◌, ℕ, ◌≤◌, true, List, 
 use Rattle.std.specs.Prelude.{codes}
 use Rattle.std.specs.List.{AllByRecursion}
 use Rattle.std.proofs.lemmas.Bool.{le-leb}
-use Rattle.occ_workshop_run.specs.occ_base.Names.{with_text}
-use Rattle.occ_workshop_run.specs.occ_base.declared.names.Name.{Name}
-use Rattle.occ_workshop_run.specs.occ_derive_moves.Moves.{AreNarrow}
-use Rattle.occ_workshop_run.specs.occ_derive_moves.Steps.{Steps}
-use Rattle.occ_workshop_run.specs.occ_engine.Moved.{moves_of}
-use Rattle.occ_workshop_run.specs.occ_engine_known.Known.{NamesAreBelow}
-use Rattle.occ_workshop_run.specs.occ_replay_rules.Moves.{Move, Moves}
-use Rattle.occ_workshop_run.proofs.from_engine_written.Printed.{KeptLaw, NameLaw, names_below, printable}
-use Rattle.occ_workshop_run.specs.occ_lex.Growth.{GrowsByNames, IsNameText, with_texts}
-use Rattle.occ_workshop_run.specs.occ_lex.Symbols.{Extends}
-use Rattle.occ_workshop_run.proofs.from_lex.Interned.{extends_trans, longer}
-use Rattle.occ_workshop_run.specs.occ_parse.declared.bound.Bound.{Bound}
-use Rattle.occ_workshop_run.specs.occ_parse.declared.bound.Bound.TheVariants as bound
-use Rattle.occ_workshop_run.specs.occ_parse.Limits.{is_limited}
-use Rattle.occ_workshop_run.specs.occ_parse.Reading.{IsRead}
-use Rattle.occ_workshop_run.specs.occ_parse_rules.Places.{Place}
-use Rattle.occ_workshop_run.specs.occ_print.Lines.{part_lines}
-use Rattle.occ_workshop_run.specs.occ_print_back.Back.{deepest}
-use Rattle.occ_workshop_run.specs.occ_print_back.Placed.{IsTable}
-use Rattle.occ_workshop_run.specs.occ_script_back.Tables.{Grows}
+use Rattle.occ_witness.specs.occ_base.Names.{with_text}
+use Rattle.occ_witness.specs.occ_base.declared.names.Name.{Name}
+use Rattle.occ_witness.specs.occ_derive_moves.Moves.{AreNarrow}
+use Rattle.occ_witness.specs.occ_derive_moves.Steps.{Steps}
+use Rattle.occ_witness.specs.occ_engine.Moved.{moves_of}
+use Rattle.occ_witness.specs.occ_engine_known.Known.{NamesAreBelow}
+use Rattle.occ_witness.specs.occ_replay_rules.Moves.{Move, Moves}
+use Rattle.occ_witness.proofs.from_engine_written.Printed.{KeptLaw, NameLaw, names_below, printable}
+use Rattle.occ_witness.specs.occ_lex.Growth.{GrowsByNames, IsNameText, with_texts}
+use Rattle.occ_witness.specs.occ_lex.Symbols.{Extends}
+use Rattle.occ_witness.proofs.from_lex.Interned.{extends_trans, longer}
+use Rattle.occ_witness.specs.occ_parse.declared.bound.Bound.{Bound}
+use Rattle.occ_witness.specs.occ_parse.declared.bound.Bound.TheVariants as bound
+use Rattle.occ_witness.specs.occ_parse.Limits.{is_limited}
+use Rattle.occ_witness.specs.occ_parse.Reading.{IsRead}
+use Rattle.occ_witness.specs.occ_parse_rules.Places.{Place}
+use Rattle.occ_witness.specs.occ_print.Lines.{part_lines}
+use Rattle.occ_witness.specs.occ_print_back.Back.{deepest}
+use Rattle.occ_witness.specs.occ_print_back.Placed.{IsTable}
+use Rattle.occ_witness.specs.occ_script_back.Tables.{Grows}
 use Rattle.occ_tool_laws.proofs.Replayed.{IsDerived, OneLaw, replay_joined}
 use Rattle.occ_tool_laws.proofs.Told.{settled}
 use Rattle.occ_tool_laws.specs.ProveJoined.{IsJoined}
-use Rattle.occ_workshop_run.specs.occ_prove.declared.proof.Proof.{Proof}
-use Rattle.occ_workshop_run.specs.Answers.{Answers, AnswersJob}
-use Rattle.occ_workshop_run.specs.Words.{Job as WorkshopJob, job_of as asked_by, prove}
-use Rattle.occ_workshop_run.specs.occ_prove.Proofs.{IsProved, Proves, as_same, by_laws, long, proved, status_of_proof, text_of_proof}
-use Rattle.occ_workshop_run.specs.occ_script.declared.fault.ScriptFault.{ScriptFault}
-use Rattle.occ_workshop_run.specs.occ_script.declared.script.Script.{Script}
-use Rattle.occ_workshop_run.specs.occ_script.Refusals.{IsScriptFault}
-use Rattle.occ_workshop_run.specs.occ_script.Scripts.{IsScript}
-use Rattle.occ_workshop_run.specs.occ_script_back.Joined.{AreNamedSteps, AreWrittenMoves, IsJoined as IsJoinedScript}
-use Rattle.occ_workshop_run.proofs.from_script_table.Named.{as_it_is, name_grown, no_names, one_behind}
-use Rattle.occ_workshop_run.specs.occ_script_write.declared.writing.Done.{Done}
-use Rattle.occ_workshop_run.specs.occ_script_write.Text.{IsWritable, script_text}
-use Rattle.occ_workshop_run.specs.occ_script_back.Said.{IsSaid}
-use Rattle.occ_workshop_run.specs.occ_syntax.declared.scope.Kind.{Kind}
-use Rattle.occ_workshop_run.specs.occ_syntax.declared.scope.Program.{Program}
-use Rattle.occ_workshop_run.specs.occ_syntax.Tree.{Tree}
-use Rattle.occ_workshop_run.specs.occ_syntax.View.{tree}
+use Rattle.occ_prove.specs.declared.proof.Proof.{Proof}
+use Rattle.occ_prove.specs.Answers.{Answers as AnswersProve}
+use Rattle.occ_prove.specs.Proofs.{IsProved, Proves, as_same, by_laws, long, proved, status_of_proof, text_of_proof}
+use Rattle.occ_witness.specs.occ_script.declared.fault.ScriptFault.{ScriptFault}
+use Rattle.occ_witness.specs.occ_script.declared.script.Script.{Script}
+use Rattle.occ_witness.specs.occ_script.Refusals.{IsScriptFault}
+use Rattle.occ_witness.specs.occ_script.Scripts.{IsScript}
+use Rattle.occ_witness.specs.occ_script_back.Joined.{AreNamedSteps, AreWrittenMoves, IsJoined as IsJoinedScript}
+use Rattle.occ_witness.proofs.from_script_table.Named.{as_it_is, name_grown, no_names, one_behind}
+use Rattle.occ_witness.specs.occ_script_write.declared.writing.Done.{Done}
+use Rattle.occ_witness.specs.occ_script_write.Text.{IsWritable, script_text}
+use Rattle.occ_witness.specs.occ_script_back.Said.{IsSaid}
+use Rattle.occ_witness.specs.occ_syntax.declared.scope.Kind.{Kind}
+use Rattle.occ_witness.specs.occ_syntax.declared.scope.Program.{Program}
+use Rattle.occ_witness.specs.occ_syntax.Tree.{Tree}
+use Rattle.occ_witness.specs.occ_syntax.View.{tree}
 use Rattle.occ_tool_laws.specs.Joined.{IsPrintedNarrow}
-use Rattle.occ_workshop_run.proofs.from_tool_run.OneAnswer.{does}
-use Rattle.occ_workshop_run.proofs.from_tool_run.Accepting.{keeps_usage, read_typed}
-use Rattle.occ_workshop_run.proofs.from_tool_run.Judging.{no_name_twice}
-use Rattle.occ_workshop_run.specs.occ_tool_run.Accepts.{IsAccepted}
-use Rattle.occ_workshop_run.specs.occ_tool_run.Answers.{Answers as ToolAnswers, IsAnswer, IsAnswerTo}
-use Rattle.occ_workshop_run.specs.occ_tool_run.declared.answer.Answer.{Answer}
-use Rattle.occ_workshop_run.specs.occ_tool_run.Derivations.{Replays}
-use Rattle.occ_workshop_run.specs.occ_call.Files.{Files, most_script_bytes}
-use Rattle.occ_workshop_run.specs.occ_tool_run.Stored.{seen}
-use Rattle.occ_workshop_run.specs.occ_tool_run.Texts.{figure_text, status_of, text_of}
-use Rattle.occ_workshop_run.specs.occ_tool_words.Words.{Job, job_of, replay}
+use Rattle.occ_witness.proofs.from_tool_run.OneAnswer.{does}
+use Rattle.occ_witness.proofs.from_tool_run.Accepting.{keeps_usage, read_typed}
+use Rattle.occ_witness.proofs.from_tool_run.Judging.{no_name_twice}
+use Rattle.occ_witness.specs.occ_tool_run.Accepts.{IsAccepted}
+use Rattle.occ_witness.specs.occ_tool_run.Answers.{Answers as ToolAnswers, IsAnswer, IsAnswerTo}
+use Rattle.occ_witness.specs.occ_tool_run.declared.answer.Answer.{Answer}
+use Rattle.occ_witness.specs.occ_tool_run.Derivations.{Replays}
+use Rattle.occ_witness.specs.occ_call.Files.{Files, most_script_bytes}
+use Rattle.occ_witness.specs.occ_tool_run.Stored.{seen}
+use Rattle.occ_witness.specs.occ_tool_run.Texts.{figure_text, status_of, text_of}
+use Rattle.occ_witness.specs.occ_tool_words.Words.{Job, job_of, replay}
 
 abbrev Table : Type 0
 Table = List (List ℕ)
@@ -242,11 +241,9 @@ proof_printed laws one two proof text narrow z e other (by_laws answer between n
 
 -- ---- the whole
 
-pub proved_joined : OneLaw → PrintedLaw → Laws → (files later : Files) (words again : Table) (one two script text : List ℕ)
-    → asked_by words ≡ Some (prove one two) → Answers files words 0 text → text ≢ codes "SAME\n" → IsPrintedNarrow (files one) → length text ≤ most_script_bytes
-    → job_of again ≡ Some (replay script) → later script ≡ Some text → IsJoined later again (files one) (files two) text
-proved_joined once law laws files later words again one two script text w answers other narrow short j e =
-    let P : Option WorkshopJob → Type 0 = λ asked. AnswersJob files asked 0 text in
-    let a = subst P w answers in
-    join law once (files one) (files two) text later again script
-    (proof_printed laws (files one) (files two) a.proof text narrow (sym a.status_is) a.text_is other a.is) short j e
+pub proved_joined : OneLaw → PrintedLaw → Laws → (one two : Option (List ℕ)) (later : Files) (again : Table) (script text : List ℕ)
+    → AnswersProve one two 0 text → text ≢ codes "SAME\n" → IsPrintedNarrow one → length text ≤ most_script_bytes
+    → job_of again ≡ Some (replay script) → later script ≡ Some text → IsJoined later again one two text
+proved_joined once law laws one two later again script text a other narrow short j e =
+    join law once one two text later again script
+    (proof_printed laws one two a.proof text narrow (sym a.status_is) a.text_is other a.is) short j e

@@ -4,24 +4,22 @@ use Rattle.std.specs.Prelude.{codes}
 use Rattle.std.specs.Str.{bytes_eq}
 use Rattle.occ_tool_laws.proofs.Told.{told_same}
 use Rattle.occ_tool_laws.specs.OneProof.{HaveOneWay, IsProof, IsScriptTo, long, one_text, one_way, script}
-use Rattle.occ_workshop_run.proofs.from_tool_run.Once.{IsOnce}
-use Rattle.occ_workshop_run.proofs.from_tool_run.Taken.{AreOne, agree, as_refused, as_taken, as_unusable}
-use Rattle.occ_workshop_run.specs.Answers.{Answers as WorkshopAnswers, AnswersJob}
-use Rattle.occ_workshop_run.specs.Words.{Job, job_of as job_in, prove}
-use Rattle.occ_workshop_run.specs.occ_behaviour.declared.behaviour.Side.TheVariants.{First, Second}
-use Rattle.occ_workshop_run.specs.occ_call.Files.{Files}
-use Rattle.occ_workshop_run.specs.occ_prove.Answers.{Answers as ProveAnswers}
-use Rattle.occ_workshop_run.specs.occ_prove.Joined.{HaveOneHeader}
-use Rattle.occ_workshop_run.specs.occ_prove.Proofs.{AreApart, AreHeadedAlike, IsProved, Proves, as_same, by_laws, long as as_long, proved, status_of_proof, text_of_proof}
-use Rattle.occ_workshop_run.specs.occ_prove.declared.proof.Proof.{Proof}
-use Rattle.occ_workshop_run.specs.occ_syntax.declared.scope.Program.{Program as Stored}
-use Rattle.occ_workshop_run.specs.occ_tool_run.Accepts.{IsAccepted, Program}
-use Rattle.occ_workshop_run.specs.occ_tool_run.Answers.{Answers, IsDetermined, Settles, Takes, accepted, comparison, refused, unusable}
-use Rattle.occ_workshop_run.specs.occ_tool_run.Stored.{seen}
-use Rattle.occ_workshop_run.specs.occ_tool_run.Texts.{status_of, text_of}
-use Rattle.occ_workshop_run.specs.occ_tool_run.declared.answer.Answer.{Answer}
-use Rattle.occ_workshop_run.specs.occ_tool_run.declared.judge.Question.TheVariants.{WhetherSame}
-use Rattle.occ_workshop_run.specs.occ_tool_words.Words.{job_of}
+use Rattle.occ_witness.proofs.from_tool_run.Once.{IsOnce}
+use Rattle.occ_witness.proofs.from_tool_run.Taken.{AreOne, agree, as_refused, as_taken, as_unusable}
+use Rattle.occ_witness.specs.occ_behaviour.declared.behaviour.Side.TheVariants.{First, Second}
+use Rattle.occ_witness.specs.occ_call.Files.{Files}
+use Rattle.occ_prove.specs.Answers.{Answers as ProveAnswers}
+use Rattle.occ_prove.specs.Joined.{HaveOneHeader}
+use Rattle.occ_prove.specs.Proofs.{AreApart, AreHeadedAlike, IsProved, Proves, as_same, by_laws, long as as_long, proved, status_of_proof, text_of_proof}
+use Rattle.occ_prove.specs.declared.proof.Proof.{Proof}
+use Rattle.occ_witness.specs.occ_syntax.declared.scope.Program.{Program as Stored}
+use Rattle.occ_witness.specs.occ_tool_run.Accepts.{IsAccepted, Program}
+use Rattle.occ_witness.specs.occ_tool_run.Answers.{Answers, IsDetermined, Settles, Takes, accepted, comparison, refused, unusable}
+use Rattle.occ_witness.specs.occ_tool_run.Stored.{seen}
+use Rattle.occ_witness.specs.occ_tool_run.Texts.{status_of, text_of}
+use Rattle.occ_witness.specs.occ_tool_run.declared.answer.Answer.{Answer}
+use Rattle.occ_witness.specs.occ_tool_run.declared.judge.Question.TheVariants.{WhetherSame}
+use Rattle.occ_witness.specs.occ_tool_words.Words.{job_of}
 
 abbrev Table : Type 0
 Table = List (List ℕ)
@@ -126,9 +124,6 @@ module _ (once : IsOnce) (law : OneLaw) where
       moved one two s t (status_of_proof x.proof) (status_of_proof y.proof) a b (text_of_proof x.proof) (text_of_proof y.proof) x.status_is y.status_is x.text_is y.text_is
       (one_proof one two x.proof y.proof x.is y.is)
 
-  pub proofs_are_one : (files : Files) (words : List (List ℕ)) (first second : List ℕ) (s t : ℕ) (a b : List ℕ) → job_in words ≡ Some (prove first second)
-      → WorkshopAnswers files words s a → WorkshopAnswers files words t b → HaveOneWay (files first) (files second) s a t b
-  proofs_are_one files words first second s t a b j x y =
-      let P : Option Job → Type 0 = λ o. AnswersJob files o s a in
-      let Q : Option Job → Type 0 = λ o. AnswersJob files o t b in
-      one_answer (files first) (files second) s t a b (subst P j x) (subst Q j y)
+  pub proofs_are_one : (one two : Option (List ℕ)) (s t : ℕ) (a b : List ℕ) → ProveAnswers one two s a → ProveAnswers one two t b
+      → HaveOneWay one two s a t b
+  proofs_are_one one two s t a b x y = one_answer one two s t a b x y

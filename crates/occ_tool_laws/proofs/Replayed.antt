@@ -1,19 +1,19 @@
 -- A text that is no faulty script, and is read as derivations alone, is answered as joined.
 use Rattle.std.specs.Prelude.{codes}
 use Rattle.std.proofs.Common.{◌≡◌, ◌≢◌, ℕ, ◌≤◌, List, [], length, Err, refl, ap, ◌∙◌, arith}
-use Rattle.occ_workshop_run.specs.occ_replay.declared.result.Rejected.{Rejected}
-use Rattle.occ_workshop_run.specs.occ_replay.declared.result.Rejected.TheVariants as rejected
-use Rattle.occ_workshop_run.specs.occ_replay.Scripts.{IsReplayed, steps_of}
-use Rattle.occ_workshop_run.specs.occ_replay_rules.Replays.{IsDerivation, Replayed, Replays, breaks_usage, joined, lacking, wrong_end}
-use Rattle.occ_workshop_run.specs.occ_replay_rules.Steps.{Step, no_law, no_path, not_accepted, not_instance}
-use Rattle.occ_workshop_run.specs.occ_script.declared.fault.ScriptFault.{ScriptFault}
-use Rattle.occ_workshop_run.specs.occ_script.declared.script.Script.{Script}
-use Rattle.occ_workshop_run.specs.occ_script.Refusals.{IsScriptFault}
-use Rattle.occ_workshop_run.specs.occ_script.Scripts.{IsScript}
-use Rattle.occ_workshop_run.specs.occ_syntax.declared.scope.Program.{Program}
-use Rattle.occ_workshop_run.specs.occ_tool_run.Derivations.{IsReplayAnswer, IsReplayOf, faulty_script, joined_script, rejected_script, replayed_script, too_long_script}
-use Rattle.occ_workshop_run.specs.occ_call.Files.{most_script_bytes}
-use Rattle.occ_workshop_run.specs.occ_tool_run.Texts.{figure_text, status_of, text_of}
+use Rattle.occ_witness.specs.occ_replay.declared.result.Rejected.{Rejected}
+use Rattle.occ_witness.specs.occ_replay.declared.result.Rejected.TheVariants as rejected
+use Rattle.occ_witness.specs.occ_replay.Scripts.{IsReplayed, steps_of}
+use Rattle.occ_witness.specs.occ_replay_rules.Replays.{IsDerivation, Replayed, Replays, breaks_usage, joined, lacking, wrong_end}
+use Rattle.occ_witness.specs.occ_replay_rules.Steps.{Step, no_law, no_path, not_accepted, not_instance}
+use Rattle.occ_witness.specs.occ_script.declared.fault.ScriptFault.{ScriptFault}
+use Rattle.occ_witness.specs.occ_script.declared.script.Script.{Script}
+use Rattle.occ_witness.specs.occ_script.Refusals.{IsScriptFault}
+use Rattle.occ_witness.specs.occ_script.Scripts.{IsScript}
+use Rattle.occ_witness.specs.occ_syntax.declared.scope.Program.{Program}
+use Rattle.occ_witness.specs.occ_tool_run.Derivations.{IsReplayAnswer, IsReplayOf, faulty_script, joined_script, rejected_script, replayed_script, too_long_script}
+use Rattle.occ_witness.specs.occ_call.Files.{most_script_bytes}
+use Rattle.occ_witness.specs.occ_tool_run.Texts.{figure_text, status_of, text_of}
 
 abbrev pub OneLaw : Type 0
 OneLaw = (from to : Program) (steps : List Step) (a b : Replayed) → Replays from steps to a → Replays from steps to b → a ≡ b

@@ -2,19 +2,19 @@
 use Rattle.std.proofs.Common.{◌≡◌, ℕ, zero, suc, ◌+◌, true, false, List, [], ◌∷◌, ◌++◌, length, Option, None, Some, Ok, refl, sym, ap, subst, ◌∙◌, arith, ⊎_elim}
 use Rattle.std.specs.Prelude.{codes}
 use Rattle.std.proofs.lemmas.Bool.{and_parts, cases_Bool, cond-false, cond-true, false≢true}
-use Rattle.occ_workshop_run.specs.occ_base.Names.{place_of, with_text}
-use Rattle.occ_workshop_run.specs.occ_base.declared.event.Event.{Event}
-use Rattle.occ_workshop_run.specs.occ_base.declared.names.Name.{Name}
-use Rattle.occ_workshop_run.specs.occ_lex.Rows.{rows}
-use Rattle.occ_workshop_run.proofs.from_read_renamed.Again.{IsVersioned, found_in, header_of, later, rows_of as rows_found, states_of, version}
-use Rattle.occ_workshop_run.specs.occ_nform_table.Judging.{is_none}
-use Rattle.occ_workshop_run.specs.occ_nform_table.Lines.{accept_of, end_of, is_number, is_row, next_param, offer_of, param_of, row_of_state}
-use Rattle.occ_workshop_run.specs.occ_nform_table.Normal.{Parts, text_read}
-use Rattle.occ_workshop_run.specs.occ_nform_table.Reading.{Lines, either, kept, params_in, row_behind, rows_in, states_in, taken, with_row}
-use Rattle.occ_workshop_run.specs.occ_nform_table.Words.{between, number_of, then_read}
-use Rattle.occ_workshop_run.specs.occ_nform_table.declared.table.TableRow.{TableRow}
-use Rattle.occ_workshop_run.proofs.from_nform_table.ReadWords.{between_inv, bytes_same, then_inv}
-use Rattle.occ_workshop_run.specs.occ_syntax.declared.scope.Kind.{Kind}
+use Rattle.occ_witness.specs.occ_base.Names.{place_of, with_text}
+use Rattle.occ_witness.specs.occ_base.declared.event.Event.{Event}
+use Rattle.occ_witness.specs.occ_base.declared.names.Name.{Name}
+use Rattle.occ_witness.specs.occ_lex.Rows.{rows}
+use Rattle.occ_witness.proofs.from_read_renamed.Again.{IsVersioned, found_in, header_of, later, rows_of as rows_found, states_of, version}
+use Rattle.occ_witness.specs.occ_nform_table.Judging.{is_none}
+use Rattle.occ_witness.specs.occ_nform_table.Lines.{accept_of, end_of, is_number, is_row, next_param, offer_of, param_of, row_of_state}
+use Rattle.occ_witness.specs.occ_nform_table.Normal.{Parts, text_read}
+use Rattle.occ_witness.specs.occ_nform_table.Reading.{Lines, either, kept, params_in, row_behind, rows_in, states_in, taken, with_row}
+use Rattle.occ_witness.specs.occ_nform_table.Words.{between, number_of, then_read}
+use Rattle.occ_witness.specs.occ_nform_table.declared.table.TableRow.{TableRow}
+use Rattle.occ_witness.proofs.from_nform_table.ReadWords.{between_inv, bytes_same, then_inv}
+use Rattle.occ_witness.specs.occ_syntax.declared.scope.Kind.{Kind}
 use Rattle.occ_tool_laws.specs.Rows.{is_row_line, row_lines, rows_of}
 
 -- ---- one line

@@ -3,29 +3,29 @@ use Rattle.std.proofs.Common.{◌≡◌, ◌↔◌, ◌<◌, ◌^◌, ℕ, true,
 use Rattle.std.specs.Prelude.{slice_index_or}
 use Rattle.std.specs.declared.cmp.Ordering.{Ordering}
 use Rattle.std.specs.declared.cmp.Ordering.TheVariants.{Less, Equal, Greater}
-use Rattle.occ_workshop_run.specs.occ_base.Names.{IsDistinct}
-use Rattle.occ_workshop_run.specs.occ_base.declared.names.Name.{Name}
-use Rattle.occ_workshop_run.specs.occ_behaviour.declared.behaviour.Verdict.TheVariants.{Same}
-use Rattle.occ_workshop_run.specs.occ_nform.Written.{IsNormalText}
-use Rattle.occ_workshop_run.specs.occ_parse.Reading.{IsRead}
-use Rattle.occ_workshop_run.specs.occ_parse.declared.bound.Bound.{Bound}
-use Rattle.occ_workshop_run.specs.occ_parse.declared.bound.Bound.TheVariants as bound
-use Rattle.occ_workshop_run.specs.occ_read_renamed.Readings.{StandIn}
-use Rattle.occ_workshop_run.specs.occ_syntax.Same.{SAME}
-use Rattle.occ_workshop_run.specs.occ_syntax.Scopes.{environment}
-use Rattle.occ_workshop_run.specs.occ_syntax.Tree.{Tree}
-use Rattle.occ_workshop_run.specs.occ_syntax.Types.{types_kept}
-use Rattle.occ_workshop_run.specs.occ_syntax.declared.scope.Kind.{Kind}
-use Rattle.occ_workshop_run.specs.occ_call.Files.{Files, order_of}
-use Rattle.occ_workshop_run.specs.occ_tool_run.Accepts.{IsAccepted, Program, node_of, usage_faults}
-use Rattle.occ_workshop_run.specs.occ_tool_run.Answers.{Answers, Compares, TakesBoth, accepted, accepted_behind, compared, comparison}
-use Rattle.occ_workshop_run.specs.occ_tool_run.Texts.{status_of, text_of}
-use Rattle.occ_workshop_run.specs.occ_tool_run.declared.answer.Answer.{Answer}
-use Rattle.occ_workshop_run.specs.occ_tool_run.declared.answer.Answer.TheVariants.{Compared}
-use Rattle.occ_workshop_run.specs.occ_tool_run.declared.judge.Question.TheVariants.{WhetherSame}
-use Rattle.occ_workshop_run.proofs.from_engine_written.Typed.{AreKept}
-use Rattle.occ_workshop_run.proofs.from_tool_run.Judging.{no_name_twice}
-use Rattle.occ_workshop_run.specs.occ_tool_words.Words.{job_of, normalise, same}
+use Rattle.occ_witness.specs.occ_base.Names.{IsDistinct}
+use Rattle.occ_witness.specs.occ_base.declared.names.Name.{Name}
+use Rattle.occ_witness.specs.occ_behaviour.declared.behaviour.Verdict.TheVariants.{Same}
+use Rattle.occ_witness.specs.occ_nform.Written.{IsNormalText}
+use Rattle.occ_witness.specs.occ_parse.Reading.{IsRead}
+use Rattle.occ_witness.specs.occ_parse.declared.bound.Bound.{Bound}
+use Rattle.occ_witness.specs.occ_parse.declared.bound.Bound.TheVariants as bound
+use Rattle.occ_witness.specs.occ_read_renamed.Readings.{StandIn}
+use Rattle.occ_witness.specs.occ_syntax.Same.{SAME}
+use Rattle.occ_witness.specs.occ_syntax.Scopes.{environment}
+use Rattle.occ_witness.specs.occ_syntax.Tree.{Tree}
+use Rattle.occ_witness.specs.occ_syntax.Types.{types_kept}
+use Rattle.occ_witness.specs.occ_syntax.declared.scope.Kind.{Kind}
+use Rattle.occ_witness.specs.occ_call.Files.{Files, order_of}
+use Rattle.occ_witness.specs.occ_tool_run.Accepts.{IsAccepted, Program, node_of, usage_faults}
+use Rattle.occ_witness.specs.occ_tool_run.Answers.{Answers, Compares, TakesBoth, accepted, accepted_behind, compared, comparison}
+use Rattle.occ_witness.specs.occ_tool_run.Texts.{status_of, text_of}
+use Rattle.occ_witness.specs.occ_tool_run.declared.answer.Answer.{Answer}
+use Rattle.occ_witness.specs.occ_tool_run.declared.answer.Answer.TheVariants.{Compared}
+use Rattle.occ_witness.specs.occ_tool_run.declared.judge.Question.TheVariants.{WhetherSame}
+use Rattle.occ_witness.proofs.from_engine_written.Typed.{AreKept}
+use Rattle.occ_witness.proofs.from_tool_run.Judging.{no_name_twice}
+use Rattle.occ_witness.specs.occ_tool_words.Words.{job_of, normalise, same}
 use Rattle.occ_tool_laws.specs.Reads.{Reads}
 use Rattle.occ_tool_laws.proofs.Files.{TextsLaw, asked, files_apart, left_distinct, normal_of, typed_in}
 use Rattle.occ_tool_laws.proofs.Texts.{AreBoth, File, IsTextOf, Laws, Table, both, no_misuse, none_stands, one_interface}

@@ -2,45 +2,45 @@
 use Rattle.std.proofs.Common.{◌≡◌, ◌↔◌, ◌<◌, ◌^◌, ℕ, true, false, List, [], length, Option, Some, Result, Ok, Err, sym, ap, subst, ◌∙◌}
 use Rattle.std.specs.Prelude.{codes}
 use Rattle.std.proofs.lemmas.Bool.{false≢true}
-use Rattle.occ_workshop_run.specs.occ_base.declared.names.Name.{Name}
-use Rattle.occ_workshop_run.specs.occ_base.Names.{IsDistinct}
-use Rattle.occ_workshop_run.specs.occ_behaviour.Texts.{text_of_verdict}
-use Rattle.occ_workshop_run.specs.occ_lex.Rows.{reading_of}
-use Rattle.occ_workshop_run.specs.occ_lex.Symbols.{Extends}
-use Rattle.occ_workshop_run.proofs.from_lex.Interned.{extends_all, extends_trans}
-use Rattle.occ_workshop_run.specs.occ_meaning.Rename.{renamed}
-use Rattle.occ_workshop_run.specs.occ_nform.Written.{IsNormalText}
-use Rattle.occ_workshop_run.specs.occ_nform_table.declared.table.TableFault.{TableFault}
-use Rattle.occ_workshop_run.specs.occ_nform_table.Normal.{Parts, text_read}
-use Rattle.occ_workshop_run.specs.occ_parse.Drafts.{header_below, header_params}
-use Rattle.occ_workshop_run.specs.occ_parse.Reading.{IsRead, names_in}
-use Rattle.occ_workshop_run.specs.occ_parse.Reading.{IsRefused as IsRefusedText}
-use Rattle.occ_workshop_run.specs.occ_parse.declared.fault.ParseFault.{ParseFault}
-use Rattle.occ_workshop_run.specs.occ_parse.declared.bound.Bound.{Bound}
-use Rattle.occ_workshop_run.specs.occ_parse.declared.bound.Bound.TheVariants as bound
-use Rattle.occ_workshop_run.specs.occ_renamed.Renamed.{kinds_renamed}
-use Rattle.occ_workshop_run.specs.occ_parse_unroll.Elements.{program_places}
-use Rattle.occ_workshop_run.proofs.from_parse_unroll.Elements.{places_extend}
-use Rattle.occ_workshop_run.specs.occ_read_renamed.Readings.{AreRenamed, IsRenumbering, StandIn}
-use Rattle.occ_workshop_run.specs.occ_syntax.Same.{SAME}
-use Rattle.occ_workshop_run.specs.occ_syntax.Scopes.{environment}
-use Rattle.occ_workshop_run.specs.occ_syntax.Tree.{Tree}
-use Rattle.occ_workshop_run.specs.occ_syntax.Types.{scope_kept, types_kept}
-use Rattle.occ_workshop_run.specs.occ_syntax.Usage.{Keeps, KeepsUsage}
-use Rattle.occ_workshop_run.specs.occ_syntax.declared.scope.Kind.{Kind}
-use Rattle.occ_workshop_run.proofs.from_engine_written.Typed.{AreKept}
-use Rattle.occ_workshop_run.specs.occ_usage.declared.fault.UsageFault.{UsageFault}
-use Rattle.occ_workshop_run.specs.occ_tool_run.Accepts.{IsAccepted, IsAcceptedText, IsRefused, IsUnusable, Program, ReadsAs}
-use Rattle.occ_workshop_run.specs.occ_tool_run.Answers.{Compares, apart, compared}
-use Rattle.occ_workshop_run.specs.occ_tool_run.Texts.{text_of}
-use Rattle.occ_workshop_run.specs.occ_tool_run.declared.answer.Answer.{Answer}
-use Rattle.occ_workshop_run.proofs.from_tool_run.Accepting.{keeps_usage, read_kept}
-use Rattle.occ_workshop_run.proofs.from_tool_run.BothWays.{begins_with, verdict_same}
-use Rattle.occ_workshop_run.proofs.from_tool_run.Judging.{no_name_twice}
+use Rattle.occ_witness.specs.occ_base.declared.names.Name.{Name}
+use Rattle.occ_witness.specs.occ_base.Names.{IsDistinct}
+use Rattle.occ_witness.specs.occ_behaviour.Texts.{text_of_verdict}
+use Rattle.occ_witness.specs.occ_lex.Rows.{reading_of}
+use Rattle.occ_witness.specs.occ_lex.Symbols.{Extends}
+use Rattle.occ_witness.proofs.from_lex.Interned.{extends_all, extends_trans}
+use Rattle.occ_witness.specs.occ_meaning.Rename.{renamed}
+use Rattle.occ_witness.specs.occ_nform.Written.{IsNormalText}
+use Rattle.occ_witness.specs.occ_nform_table.declared.table.TableFault.{TableFault}
+use Rattle.occ_witness.specs.occ_nform_table.Normal.{Parts, text_read}
+use Rattle.occ_witness.specs.occ_parse.Drafts.{header_below, header_params}
+use Rattle.occ_witness.specs.occ_parse.Reading.{IsRead, names_in}
+use Rattle.occ_witness.specs.occ_parse.Reading.{IsRefused as IsRefusedText}
+use Rattle.occ_witness.specs.occ_parse.declared.fault.ParseFault.{ParseFault}
+use Rattle.occ_witness.specs.occ_parse.declared.bound.Bound.{Bound}
+use Rattle.occ_witness.specs.occ_parse.declared.bound.Bound.TheVariants as bound
+use Rattle.occ_witness.specs.occ_renamed.Renamed.{kinds_renamed}
+use Rattle.occ_witness.specs.occ_parse_unroll.Elements.{program_places}
+use Rattle.occ_witness.proofs.from_parse_unroll.Elements.{places_extend}
+use Rattle.occ_witness.specs.occ_read_renamed.Readings.{AreRenamed, IsRenumbering, StandIn}
+use Rattle.occ_witness.specs.occ_syntax.Same.{SAME}
+use Rattle.occ_witness.specs.occ_syntax.Scopes.{environment}
+use Rattle.occ_witness.specs.occ_syntax.Tree.{Tree}
+use Rattle.occ_witness.specs.occ_syntax.Types.{scope_kept, types_kept}
+use Rattle.occ_witness.specs.occ_syntax.Usage.{Keeps, KeepsUsage}
+use Rattle.occ_witness.specs.occ_syntax.declared.scope.Kind.{Kind}
+use Rattle.occ_witness.proofs.from_engine_written.Typed.{AreKept}
+use Rattle.occ_witness.specs.occ_usage.declared.fault.UsageFault.{UsageFault}
+use Rattle.occ_witness.specs.occ_tool_run.Accepts.{IsAccepted, IsAcceptedText, IsRefused, IsUnusable, Program, ReadsAs}
+use Rattle.occ_witness.specs.occ_tool_run.Answers.{Compares, apart, compared}
+use Rattle.occ_witness.specs.occ_tool_run.Texts.{text_of}
+use Rattle.occ_witness.specs.occ_tool_run.declared.answer.Answer.{Answer}
+use Rattle.occ_witness.proofs.from_tool_run.Accepting.{keeps_usage, read_kept}
+use Rattle.occ_witness.proofs.from_tool_run.BothWays.{begins_with, verdict_same}
+use Rattle.occ_witness.proofs.from_tool_run.Judging.{no_name_twice}
 use Rattle.occ_tool_laws.proofs.Usage.{faultless, usage_kept}
-use Rattle.occ_workshop_run.proofs.from_tool_run.Once.{IsOnce}
-use Rattle.occ_workshop_run.proofs.from_tool_run.OneAnswer.{back}
-use Rattle.occ_workshop_run.proofs.from_tool_run.Taken.{AreOne, agree, as_taken}
+use Rattle.occ_witness.proofs.from_tool_run.Once.{IsOnce}
+use Rattle.occ_witness.proofs.from_tool_run.OneAnswer.{back}
+use Rattle.occ_witness.proofs.from_tool_run.Taken.{AreOne, agree, as_taken}
 
 abbrev pub Table : Type 0
 Table = List (List ℕ)

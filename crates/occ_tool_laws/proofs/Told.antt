@@ -2,18 +2,18 @@
 use Rattle.std.proofs.Common.{◌≡◌, ℕ, ◌≤◌, List, [], Option, ap, codes, arith}
 use Rattle.std.specs.declared.cmp.Ordering.{Ordering}
 use Rattle.std.specs.declared.cmp.Ordering.TheVariants.{Less, Equal, Greater}
-use Rattle.occ_workshop_run.specs.occ_behaviour.declared.behaviour.Side.{Side}
-use Rattle.occ_workshop_run.specs.occ_behaviour.declared.behaviour.Side.TheVariants.{First, Second}
-use Rattle.occ_workshop_run.specs.occ_behaviour.declared.behaviour.Verdict.{Verdict}
-use Rattle.occ_workshop_run.specs.occ_behaviour.declared.behaviour.Verdict.TheVariants.{Same, Differ}
-use Rattle.occ_workshop_run.specs.occ_tool_run.declared.answer.Answer.{Answer}
-use Rattle.occ_workshop_run.specs.occ_tool_run.declared.answer.Answer.TheVariants.{Compared, Refused, Unusable}
-use Rattle.occ_workshop_run.specs.occ_tool_run.declared.judge.Question.TheVariants.{WhetherSame}
-use Rattle.occ_workshop_run.specs.occ_tool_run.Accepts.{Program}
-use Rattle.occ_workshop_run.specs.occ_tool_run.Answers.{Compares, Settles, Takes, TakesBoth, Turned, accepted, accepted_behind, apart, compared, refused, refused_behind, unusable, unusable_behind}
-use Rattle.occ_workshop_run.specs.occ_call.Files.{order_of}
-use Rattle.occ_workshop_run.specs.occ_prove.Proofs.{IsSame}
-use Rattle.occ_workshop_run.specs.occ_tool_run.Texts.{status_of, text_of}
+use Rattle.occ_witness.specs.occ_behaviour.declared.behaviour.Side.{Side}
+use Rattle.occ_witness.specs.occ_behaviour.declared.behaviour.Side.TheVariants.{First, Second}
+use Rattle.occ_witness.specs.occ_behaviour.declared.behaviour.Verdict.{Verdict}
+use Rattle.occ_witness.specs.occ_behaviour.declared.behaviour.Verdict.TheVariants.{Same, Differ}
+use Rattle.occ_witness.specs.occ_tool_run.declared.answer.Answer.{Answer}
+use Rattle.occ_witness.specs.occ_tool_run.declared.answer.Answer.TheVariants.{Compared, Refused, Unusable}
+use Rattle.occ_witness.specs.occ_tool_run.declared.judge.Question.TheVariants.{WhetherSame}
+use Rattle.occ_witness.specs.occ_tool_run.Accepts.{Program}
+use Rattle.occ_witness.specs.occ_tool_run.Answers.{Compares, Settles, Takes, TakesBoth, Turned, accepted, accepted_behind, apart, compared, refused, refused_behind, unusable, unusable_behind}
+use Rattle.occ_witness.specs.occ_call.Files.{order_of}
+use Rattle.occ_prove.specs.Proofs.{IsSame}
+use Rattle.occ_witness.specs.occ_tool_run.Texts.{status_of, text_of}
 
 -- an answer with a status other than 0
 pub refusing : (answer : Answer) (n : ℕ) → status_of answer ≡ 0 → status_of answer ≡ n → 1 ≤ n → ⊥

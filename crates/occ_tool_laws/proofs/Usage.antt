@@ -1,19 +1,19 @@
 -- A part keeps the rule of usage under other names.
 use Rattle.std.proofs.Common.{◌≡◌, ◌∙◌, ℕ, List, [], ◌∷◌, sym, subst}
-use Rattle.occ_workshop_run.proofs.from_renamed.Usage.{keeps_under}
-use Rattle.occ_workshop_run.proofs.from_meaning.RenamedTrees.{trees_agree}
-use Rattle.occ_workshop_run.proofs.from_meaning.Renaming.{exchange_is}
-use Rattle.occ_workshop_run.specs.occ_meaning.Rename.{exchanging, renamed, under}
-use Rattle.occ_workshop_run.proofs.from_read_renamed.Bounds.{below_top, top}
-use Rattle.occ_workshop_run.proofs.from_read_renamed.Exchanges.{Exchanges, applied, so_below, tree_twice, unapplied, unchanged}
-use Rattle.occ_workshop_run.specs.occ_renamed.Standing.{IsOneForOne}
-use Rattle.occ_workshop_run.specs.occ_syntax.Scopes.{Environment}
-use Rattle.occ_workshop_run.specs.occ_syntax.Tree.{Tree}
-use Rattle.occ_workshop_run.specs.occ_syntax.Usage.{Keeps, KeepsUsage}
-use Rattle.occ_workshop_run.proofs.from_usage.Law.{keeps_no_fault}
-use Rattle.occ_workshop_run.specs.occ_usage.Faults.{names_of}
-use Rattle.occ_workshop_run.specs.occ_usage.declared.fault.UsageFault.{UsageFault}
-use Rattle.occ_workshop_run.specs.occ_tool_run.Accepts.{Program, usage_faults}
+use Rattle.occ_witness.proofs.from_renamed.Usage.{keeps_under}
+use Rattle.occ_witness.proofs.from_meaning.RenamedTrees.{trees_agree}
+use Rattle.occ_witness.proofs.from_meaning.Renaming.{exchange_is}
+use Rattle.occ_witness.specs.occ_meaning.Rename.{exchanging, renamed, under}
+use Rattle.occ_witness.proofs.from_read_renamed.Bounds.{below_top, top}
+use Rattle.occ_witness.proofs.from_read_renamed.Exchanges.{Exchanges, applied, so_below, tree_twice, unapplied, unchanged}
+use Rattle.occ_witness.specs.occ_renamed.Standing.{IsOneForOne}
+use Rattle.occ_witness.specs.occ_syntax.Scopes.{Environment}
+use Rattle.occ_witness.specs.occ_syntax.Tree.{Tree}
+use Rattle.occ_witness.specs.occ_syntax.Usage.{Keeps, KeepsUsage}
+use Rattle.occ_witness.proofs.from_usage.Law.{keeps_no_fault}
+use Rattle.occ_witness.specs.occ_usage.Faults.{names_of}
+use Rattle.occ_witness.specs.occ_usage.declared.fault.UsageFault.{UsageFault}
+use Rattle.occ_witness.specs.occ_tool_run.Accepts.{Program, usage_faults}
 
 -- of exchanged names, one pair after the other
 all_kept : (pairs : Exchanges) (Γ : Environment) (p : Tree) → Keeps Γ p → Keeps (under (unapplied pairs) Γ) (renamed p (applied pairs))

@@ -1,27 +1,25 @@
--- Two answers of `witness` to one command line.
+-- Two answers of `witness` to the same files.
 use Rattle.std.proofs.Common.{◌≡◌, ◌≢◌, ◌≤◌, ℕ, Bool, true, false, List, [], ◌∷◌, Option, Some, if◌then◌else◌, inl, inr, refl, sym, ap, subst, ◌∙◌, arith}
 use Rattle.std.specs.Prelude.{codes}
 use Rattle.std.specs.Str.{bytes_eq}
 use Rattle.occ_tool_laws.specs.Witnessed.{AreOneWitness, IsShowing}
-use Rattle.occ_workshop_run.specs.Answers.{Answers as WorkshopAnswers, AnswersJob}
-use Rattle.occ_workshop_run.specs.Words.{Job, job_of as job_in, witness as asks}
-use Rattle.occ_workshop_run.specs.occ_behaviour.declared.behaviour.Behaviour.{Behaviour}
-use Rattle.occ_workshop_run.specs.occ_behaviour.declared.behaviour.Side.TheVariants.{First}
-use Rattle.occ_workshop_run.specs.occ_call.Files.{Files}
-use Rattle.occ_workshop_run.specs.occ_run_schedule.declared.witnessing.Witness.{Witness}
-use Rattle.occ_workshop_run.specs.occ_run_schedule.declared.witnessing.Witness.TheVariants as witness
-use Rattle.occ_workshop_run.specs.occ_run_schedule.Witnesses.{HasIt, IsWitness}
-use Rattle.occ_workshop_run.specs.occ_syntax.declared.scope.Program.{Program as Stored}
-use Rattle.occ_workshop_run.specs.occ_tool_run.Accepts.{IsAccepted}
-use Rattle.occ_workshop_run.specs.occ_tool_run.Answers.{Answers, IsDetermined, IsJudged, Judges, Takes, accepted, faulty_claim, judged_claim, membership, refused, too_long_claim, unusable}
-use Rattle.occ_workshop_run.specs.occ_tool_run.Stored.{seen}
-use Rattle.occ_workshop_run.specs.occ_tool_run.Texts.{status_of, text_of}
-use Rattle.occ_workshop_run.specs.occ_tool_run.declared.answer.Answer.{Answer}
-use Rattle.occ_workshop_run.specs.occ_tool_run.declared.answer.Answer.TheVariants.{Member}
-use Rattle.occ_workshop_run.specs.occ_tool_words.Words.{job_of}
-use Rattle.occ_workshop_run.specs.occ_witness.Answers.{Answers as WitnessAnswers}
-use Rattle.occ_workshop_run.specs.occ_witness.Findings.{Finds, IsFound, as_belongs, finding_of, found, status_of_finding, text_of_finding}
-use Rattle.occ_workshop_run.specs.occ_witness.declared.finding.Finding.{Finding}
+use Rattle.occ_witness.specs.occ_behaviour.declared.behaviour.Behaviour.{Behaviour}
+use Rattle.occ_witness.specs.occ_behaviour.declared.behaviour.Side.TheVariants.{First}
+use Rattle.occ_witness.specs.occ_call.Files.{Files}
+use Rattle.occ_witness.specs.occ_run_schedule.declared.witnessing.Witness.{Witness}
+use Rattle.occ_witness.specs.occ_run_schedule.declared.witnessing.Witness.TheVariants as witness
+use Rattle.occ_witness.specs.occ_run_schedule.Witnesses.{HasIt, IsWitness}
+use Rattle.occ_witness.specs.occ_syntax.declared.scope.Program.{Program as Stored}
+use Rattle.occ_witness.specs.occ_tool_run.Accepts.{IsAccepted}
+use Rattle.occ_witness.specs.occ_tool_run.Answers.{Answers, IsDetermined, IsJudged, Judges, Takes, accepted, faulty_claim, judged_claim, membership, refused, too_long_claim, unusable}
+use Rattle.occ_witness.specs.occ_tool_run.Stored.{seen}
+use Rattle.occ_witness.specs.occ_tool_run.Texts.{status_of, text_of}
+use Rattle.occ_witness.specs.occ_tool_run.declared.answer.Answer.{Answer}
+use Rattle.occ_witness.specs.occ_tool_run.declared.answer.Answer.TheVariants.{Member}
+use Rattle.occ_witness.specs.occ_tool_words.Words.{job_of}
+use Rattle.occ_witness.specs.Answers.{Answers as WitnessAnswers}
+use Rattle.occ_witness.specs.Findings.{Finds, IsFound, as_belongs, finding_of, found, status_of_finding, text_of_finding}
+use Rattle.occ_witness.specs.declared.finding.Finding.{Finding}
 
 -- a command line of the tool has one answer
 abbrev pub OneLaw : Type 0
@@ -91,9 +89,6 @@ one_witness law one two s t a b x y = elim (one_finding law one two x.finding y.
   | inr h ↦ inr (shown s _ a _ x.status_is x.text_is h.0, shown t _ b _ y.status_is y.text_is h.1)
 ]
 
-pub witnesses_are_one : OneLaw → (files : Files) (words : List (List ℕ)) (program text : List ℕ) (s t : ℕ) (a b : List ℕ) → job_in words ≡ Some (asks program text)
-    → WorkshopAnswers files words s a → WorkshopAnswers files words t b → AreOneWitness s a t b
-witnesses_are_one law files words program text s t a b j x y =
-    let P : Option Job → Type 0 = λ o. AnswersJob files o s a in
-    let Q : Option Job → Type 0 = λ o. AnswersJob files o t b in
-    one_witness law (files program) (files text) s t a b (subst P j x) (subst Q j y)
+pub witnesses_are_one : OneLaw → (one two : Option (List ℕ)) (s t : ℕ) (a b : List ℕ) → WitnessAnswers one two s a → WitnessAnswers one two t b
+    → AreOneWitness s a t b
+witnesses_are_one law one two s t a b x y = one_witness law one two s t a b x y

@@ -1,10 +1,10 @@
 -- Words that have an answer, and scripts of which a replay has that they join and no other.
 use Rattle.std.specs.Prelude.{ℕ, ◌≡◌, ◌↔◌, List, Option, codes}
-use Rattle.occ_workshop_run.specs.occ_call.Files.{Files}
-use Rattle.occ_workshop_run.specs.occ_derive_moves.Moves.{AreNarrow}
-use Rattle.occ_workshop_run.specs.occ_engine.Moved.{moves_of}
-use Rattle.occ_workshop_run.specs.occ_tool_run.Answers.{Answers}
-use Rattle.occ_workshop_run.specs.occ_tool_run.Texts.{figure_text}
+use Rattle.occ_witness.specs.occ_call.Files.{Files}
+use Rattle.occ_witness.specs.occ_derive_moves.Moves.{AreNarrow}
+use Rattle.occ_witness.specs.occ_engine.Moved.{moves_of}
+use Rattle.occ_witness.specs.occ_tool_run.Answers.{Answers}
+use Rattle.occ_witness.specs.occ_tool_run.Texts.{figure_text}
 use Rattle.occ_tool_laws.specs.Joined.{IsScriptFrom}
 use Rattle.occ_tool_laws.specs.ProveJoined.{IsScriptBetween}
 

@@ -1,16 +1,16 @@
 -- A script that was printed, and what its replay is answered with.
 use Rattle.std.specs.Prelude.{ℕ, ◌≡◌, List, [], length, Option, codes}
-use Rattle.occ_workshop_run.specs.occ_derive_moves.Moves.{AreNarrow}
-use Rattle.occ_workshop_run.specs.occ_engine.Moved.{moves_of}
-use Rattle.occ_workshop_run.specs.occ_print_back.Back.{IsNarrow}
-use Rattle.occ_workshop_run.specs.occ_script_write.declared.writing.Done.{Done}
-use Rattle.occ_workshop_run.specs.occ_script_write.Text.{script_text}
-use Rattle.occ_workshop_run.specs.occ_syntax.declared.scope.Program.{Program as Stored}
-use Rattle.occ_workshop_run.specs.occ_tool_run.Accepts.{IsAccepted, Program}
-use Rattle.occ_workshop_run.specs.occ_tool_run.Answers.{Answers}
-use Rattle.occ_workshop_run.specs.occ_call.Files.{Files}
-use Rattle.occ_workshop_run.specs.occ_tool_run.Stored.{seen}
-use Rattle.occ_workshop_run.specs.occ_tool_run.Texts.{figure_text}
+use Rattle.occ_witness.specs.occ_derive_moves.Moves.{AreNarrow}
+use Rattle.occ_witness.specs.occ_engine.Moved.{moves_of}
+use Rattle.occ_witness.specs.occ_print_back.Back.{IsNarrow}
+use Rattle.occ_witness.specs.occ_script_write.declared.writing.Done.{Done}
+use Rattle.occ_witness.specs.occ_script_write.Text.{script_text}
+use Rattle.occ_witness.specs.occ_syntax.declared.scope.Program.{Program as Stored}
+use Rattle.occ_witness.specs.occ_tool_run.Accepts.{IsAccepted, Program}
+use Rattle.occ_witness.specs.occ_tool_run.Answers.{Answers}
+use Rattle.occ_witness.specs.occ_call.Files.{Files}
+use Rattle.occ_witness.specs.occ_tool_run.Stored.{seen}
+use Rattle.occ_witness.specs.occ_tool_run.Texts.{figure_text}
 
 -- no line on which the program of a file is printed has more than 4,096 tokens
 abbrev pub IsPrintedNarrow : Option (List ℕ) → Type 0

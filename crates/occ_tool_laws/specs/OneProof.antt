@@ -1,14 +1,14 @@
 -- What two answers of `prove` to one command line have to do with each other.
 use Rattle.std.specs.Prelude.{ℕ, ◌≡◌, List, [], Option, codes}
-use Rattle.occ_workshop_run.specs.occ_behaviour.declared.behaviour.Side.TheVariants.{First}
-use Rattle.occ_workshop_run.specs.occ_lex.Growth.{GrowsByNames}
-use Rattle.occ_workshop_run.specs.occ_prove.Normal.{IsLong}
-use Rattle.occ_workshop_run.specs.occ_script_write.declared.writing.Done.{Done}
-use Rattle.occ_workshop_run.specs.occ_script_write.Text.{script_text}
-use Rattle.occ_workshop_run.specs.occ_syntax.declared.scope.Program.{Program as Stored}
-use Rattle.occ_workshop_run.specs.occ_tool_run.Accepts.{IsAccepted, Program}
-use Rattle.occ_workshop_run.specs.occ_tool_run.Stored.{seen}
-use Rattle.occ_workshop_run.specs.occ_tool_run.Texts.{refusal_text}
+use Rattle.occ_witness.specs.occ_behaviour.declared.behaviour.Side.TheVariants.{First}
+use Rattle.occ_witness.specs.occ_lex.Growth.{GrowsByNames}
+use Rattle.occ_prove.specs.Normal.{IsLong}
+use Rattle.occ_witness.specs.occ_script_write.declared.writing.Done.{Done}
+use Rattle.occ_witness.specs.occ_script_write.Text.{script_text}
+use Rattle.occ_witness.specs.occ_syntax.declared.scope.Program.{Program as Stored}
+use Rattle.occ_witness.specs.occ_tool_run.Accepts.{IsAccepted, Program}
+use Rattle.occ_witness.specs.occ_tool_run.Stored.{seen}
+use Rattle.occ_witness.specs.occ_tool_run.Texts.{refusal_text}
 
 -- The text is that of a script from the one program to the other. The names are those of a table that has grown from that of both.
 pub record IsScriptTo (names : List (List ℕ)) (p q : Program) (text : List ℕ) : Type 0 where

@@ -1,15 +1,15 @@
 -- A script from one program to another that was printed, and what its replay is answered with.
 use Rattle.std.specs.Prelude.{ℕ, ◌≡◌, List, [], length, Option, codes}
-use Rattle.occ_workshop_run.specs.occ_derive_moves.Moves.{AreNarrow}
-use Rattle.occ_workshop_run.specs.occ_engine.Moved.{moves_of}
-use Rattle.occ_workshop_run.specs.occ_script_write.declared.writing.Done.{Done}
-use Rattle.occ_workshop_run.specs.occ_script_write.Text.{script_text}
-use Rattle.occ_workshop_run.specs.occ_syntax.declared.scope.Program.{Program}
-use Rattle.occ_workshop_run.specs.occ_tool_run.Accepts.{IsAccepted}
-use Rattle.occ_workshop_run.specs.occ_tool_run.Answers.{Answers}
-use Rattle.occ_workshop_run.specs.occ_call.Files.{Files}
-use Rattle.occ_workshop_run.specs.occ_tool_run.Stored.{seen}
-use Rattle.occ_workshop_run.specs.occ_tool_run.Texts.{figure_text}
+use Rattle.occ_witness.specs.occ_derive_moves.Moves.{AreNarrow}
+use Rattle.occ_witness.specs.occ_engine.Moved.{moves_of}
+use Rattle.occ_witness.specs.occ_script_write.declared.writing.Done.{Done}
+use Rattle.occ_witness.specs.occ_script_write.Text.{script_text}
+use Rattle.occ_witness.specs.occ_syntax.declared.scope.Program.{Program}
+use Rattle.occ_witness.specs.occ_tool_run.Accepts.{IsAccepted}
+use Rattle.occ_witness.specs.occ_tool_run.Answers.{Answers}
+use Rattle.occ_witness.specs.occ_call.Files.{Files}
+use Rattle.occ_witness.specs.occ_tool_run.Stored.{seen}
+use Rattle.occ_witness.specs.occ_tool_run.Texts.{figure_text}
 
 -- A text is a script of so many steps from the program of one file to that of another, which is read behind it.
 pub record IsScriptBetween (one two : Option (List ℕ)) (text : List ℕ) (count : ℕ) : Type 0 where

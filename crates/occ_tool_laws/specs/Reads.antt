@@ -1,10 +1,10 @@
 -- A text that reads as a program, whichever that is.
 use Rattle.std.specs.Prelude.{ℕ, List}
-use Rattle.occ_workshop_run.specs.occ_base.declared.names.Name.{Name}
-use Rattle.occ_workshop_run.specs.occ_parse.Reading.{IsRead}
-use Rattle.occ_workshop_run.specs.occ_parse.declared.bound.Bound.{Bound}
-use Rattle.occ_workshop_run.specs.occ_syntax.Tree.{Tree}
-use Rattle.occ_workshop_run.specs.occ_syntax.declared.scope.Kind.{Kind}
+use Rattle.occ_witness.specs.occ_base.declared.names.Name.{Name}
+use Rattle.occ_witness.specs.occ_parse.Reading.{IsRead}
+use Rattle.occ_witness.specs.occ_parse.declared.bound.Bound.{Bound}
+use Rattle.occ_witness.specs.occ_syntax.Tree.{Tree}
+use Rattle.occ_witness.specs.occ_syntax.declared.scope.Kind.{Kind}
 
 pub record Reads (b : Bound) (text : List ℕ) (old : List (List ℕ)) : Type 0 where
   pub new : List (List ℕ)

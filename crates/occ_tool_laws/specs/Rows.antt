@@ -1,7 +1,7 @@
 -- How many rows a normal text has.
 use Rattle.std.specs.Prelude.{ℕ, ◌+◌, Bool, if◌then◌else◌, List, [], ◌∷◌, nat_eq, codes}
 use Rattle.std.specs.List.{starts_with}
-use Rattle.occ_workshop_run.specs.occ_lex.Rows.{rows}
+use Rattle.occ_witness.specs.occ_lex.Rows.{rows}
 
 -- a line that begins with the word ROW and a space
 abbrev pub is_row_line : List ℕ → Bool

@@ -1,7 +1,7 @@
 -- What two answers of `witness` to one command line have to do with each other.
 use Rattle.std.specs.Prelude.{ℕ, ◌≡◌, ◌⊎◌, List, codes}
-use Rattle.occ_workshop_run.specs.occ_behaviour.declared.behaviour.Side.TheVariants.{Second}
-use Rattle.occ_workshop_run.specs.occ_tool_run.Texts.{refusal_text}
+use Rattle.occ_witness.specs.occ_behaviour.declared.behaviour.Side.TheVariants.{Second}
+use Rattle.occ_witness.specs.occ_tool_run.Texts.{refusal_text}
 
 -- It is a schedule, or says that the one that was found is too long.
 abbrev pub IsShowing : ℕ → List ℕ → Type 0

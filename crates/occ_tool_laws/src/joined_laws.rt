@@ -3,11 +3,11 @@
 
 ghost use Rattle.std.specs.Prelude.{ℕ, ◌≡◌, ◌≤◌, List, Some, length};
 ghost use Rattle.occ_tool_laws.specs.Joined.{IsJoined, IsJoinedWhereNarrow, IsPrintedNarrow};
-ghost use Rattle.occ_workshop_run.specs.occ_tool_run.Answers.{Answers};
-ghost use Rattle.occ_workshop_run.specs.occ_call.Files.{Files, most_script_bytes};
-ghost use Rattle.occ_workshop_run.specs.occ_tool_words.Words.{derive, expand, job_of, replay, transform};
+ghost use Rattle.occ_witness.specs.occ_tool_run.Answers.{Answers};
+ghost use Rattle.occ_witness.specs.occ_call.Files.{Files, most_script_bytes};
+ghost use Rattle.occ_witness.specs.occ_tool_words.Words.{derive, expand, job_of, replay, transform};
 
-use occ_workshop_run::{
+use occ_witness::{
     expansions_are_written, followed_orders_are_written, known_moves_are_written,
     narrow_steps_are_moves, paths_of_texts_are_short, printed_moves_are_joined,
     scripts_have_one_answer,

@@ -3,13 +3,13 @@
 
 ghost use Rattle.std.specs.Prelude.{ℕ, ◌≡◌, ◌≤◌, ◌↔◌, List, Some, codes, length};
 ghost use Rattle.occ_tool_laws.specs.Rows.{rows_of};
-ghost use Rattle.occ_workshop_run.specs.occ_tool_run.Answers.{Answers};
-ghost use Rattle.occ_workshop_run.specs.occ_call.Files.{Files, most_table_bytes};
-ghost use Rattle.occ_workshop_run.specs.occ_tool_run.Texts.{figure_text};
-ghost use Rattle.occ_workshop_run.specs.occ_tool_words.Words.{job_of, normal, normalise, same};
+ghost use Rattle.occ_witness.specs.occ_tool_run.Answers.{Answers};
+ghost use Rattle.occ_witness.specs.occ_call.Files.{Files, most_table_bytes};
+ghost use Rattle.occ_witness.specs.occ_tool_run.Texts.{figure_text};
+ghost use Rattle.occ_witness.specs.occ_tool_words.Words.{job_of, normal, normalise, same};
 
 use crate::texts_read_with_each_table;
-use occ_workshop_run::{
+use occ_witness::{
     faults_are_those_of_what_is_written, normal_texts_are_read_as_written,
     normal_texts_are_renamed, normal_texts_need_no_names, normal_texts_tell_programs_apart,
     one_reading, parameters_have_names, programs_read_again, readings_are_not_refused,

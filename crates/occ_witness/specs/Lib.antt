@@ -1,5 +1,6 @@
 pub mod Findings
 pub mod Answers
+pub use Rattle.occ_tool_run.specs.occ_base as occ_base
 pub use Rattle.occ_tool_run.specs.occ_behaviour as occ_behaviour
 pub use Rattle.occ_tool_run.specs.occ_behaviour_read as occ_behaviour_read
 pub use Rattle.occ_tool_run.specs.occ_call as occ_call
@@ -27,6 +28,7 @@ pub use Rattle.occ_tool_run.specs.occ_script as occ_script
 pub use Rattle.occ_tool_run.specs.occ_script_back as occ_script_back
 pub use Rattle.occ_tool_run.specs.occ_script_lines as occ_script_lines
 pub use Rattle.occ_tool_run.specs.occ_script_write as occ_script_write
+pub use Rattle.occ_tool_run.specs.occ_syntax as occ_syntax
 pub use Rattle.occ_tool_run.specs as occ_tool_run
 pub use Rattle.occ_tool_run.specs.occ_tool_words as occ_tool_words
 pub use Rattle.occ_tool_run.specs.occ_usage as occ_usage

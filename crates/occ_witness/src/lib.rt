@@ -8,7 +8,7 @@ mod searching;
 
 pub use command::witness;
 pub use occ_tool_run::{
-    CallNamed as Named, Contents, Desk, MOST_BYTES, MOST_TABLE_BYTES, MemoryDesk, RealDesk, Reply,
+    CallNamed as Named, Contents, Desk, Loaded, MOST_BYTES, MOST_TABLE_BYTES, RealDesk, Reply,
     Stop, Wanted, command_words, expansions_are_written, faults_are_those_of_what_is_written,
     followed_orders_are_written, is_plain_word, kept_parts_have_known_names,
     known_moves_are_written, load, names_stay_below, narrow_steps_are_moves,
@@ -16,6 +16,6 @@ pub use occ_tool_run::{
     normal_texts_tell_programs_apart, one_answer, one_reading, parameters_have_names,
     paths_of_texts_are_short, printed_moves_are_joined, programs_leave_places, programs_read_again,
     read_programs_have_known_names, read_programs_print_within_levels, readings_are_not_refused,
-    readings_are_renamed, run, scripts_have_one_answer, send_reply,
+    readings_are_renamed, scripts_have_one_answer, send_reply,
     texts_of_programs_are_those_of_their_tables,
 };

@@ -6,7 +6,7 @@ use Rattle.occ_witness.specs.occ_call.declared.loading.Wanted.{Wanted}
 use Rattle.occ_witness.specs.occ_call.Files.{names_of}
 use Rattle.occ_workshop_run.specs.Answers.{wanted_of}
 use Rattle.occ_workshop_run.specs.declared.words.Command.{Command}
-use Rattle.occ_workshop_run.specs.declared.words.Command.TheVariants.{Usage, Check, Draw, Explain, Prove, Witness, Aut, Promela}
+use Rattle.occ_workshop_run.specs.declared.words.Command.TheVariants.{Usage, Check, Draw, Explain, Prove, Witness, Aut, Promela, Steps, StepsAfter, Why, WhyApart, Traces, Deterministic}
 use Rattle.occ_workshop_run.specs.Words.{file_words, files_of, job, job_of}
 
 wanted_names : (command : Command) → names_of (wanted_of command) ≡ option_map_or files_of (job command) []
@@ -18,6 +18,12 @@ wanted_names (Prove first second) = refl
 wanted_names (Witness program text) = refl
 wanted_names (Aut program) = refl
 wanted_names (Promela program) = refl
+wanted_names (Steps program) = refl
+wanted_names (StepsAfter program text) = refl
+wanted_names (Why program) = refl
+wanted_names (WhyApart first second) = refl
+wanted_names (Traces first second) = refl
+wanted_names (Deterministic program) = refl
 
 pub asked_for : (old new : Option (List (List ℕ))) (words : List (List ℕ)) (command : Command) (wanted : Wanted) → wanted ≡ wanted_of command → job command ≡ job_of words
     → new ≡ with_more old (names_of wanted) → new ≡ with_more old (file_words words)

@@ -9,10 +9,15 @@ use Rattle.occ_check.specs.Answers.{Answers as AnswersCheck}
 use Rattle.occ_draw.specs.Answers.{Answers as AnswersDraw}
 use Rattle.occ_lts.specs.Answers.{AnswersAut, AnswersPromela}
 use Rattle.occ_prove.specs.Answers.{Answers as AnswersProve}
+use Rattle.occ_steps.specs.Answers.{AnswersAtStart, Answers as AnswersSteps}
+use Rattle.occ_why.specs.Answers.{Answers as AnswersWhy, AnswersApart, AreRefused, IsRefused}
+use Rattle.occ_lts.specs.Traces.{AnswersTraces}
+use Rattle.occ_lts.specs.Determined.{AnswersDeterministic}
 use Rattle.occ_witness.specs.Answers.{Answers as AnswersWitness}
+use Rattle.occ_workshop_run.specs.Explained.{OrChecked, OrOneChecked}
 use Rattle.occ_workshop_run.specs.declared.words.Command.{Command}
-use Rattle.occ_workshop_run.specs.declared.words.Command.TheVariants.{Usage, Check, Draw, Explain, Prove, Witness, Aut, Promela}
-use Rattle.occ_workshop_run.specs.Words.{Job, check, draw, explain, prove, witness, aut, promela, job, job_of, usage_text}
+use Rattle.occ_workshop_run.specs.declared.words.Command.TheVariants.{Usage, Check, Draw, Explain, Prove, Witness, Aut, Promela, Steps, StepsAfter, Why, WhyApart, Traces, Deterministic}
+use Rattle.occ_workshop_run.specs.Words.{Job, check, draw, explain, prove, witness, aut, promela, steps, steps_after, why, why_apart, traces, deterministic, job, job_of, usage_text}
 
 -- What is asked for has an answer with this status and this text: that of the command's own library.
 abbrev pub AnswersJob : Files → Option Job → ℕ → List ℕ → Type 0
@@ -24,6 +29,14 @@ AnswersJob files (Some (prove first second)) status text = AnswersProve (files f
 AnswersJob files (Some (witness program name)) status text = AnswersWitness (files program) (files name) status text
 AnswersJob files (Some (aut program)) status text = AnswersAut (files program) status text
 AnswersJob files (Some (promela program)) status text = AnswersPromela (files program) status text
+AnswersJob files (Some (steps program)) status text = AnswersAtStart (files program) status text
+AnswersJob files (Some (steps_after program name)) status text = AnswersSteps (files program) (files name) status text
+AnswersJob files (Some (why program)) status text =
+    OrChecked (IsRefused (files program)) (AnswersWhy (files program)) program (files program) status text
+AnswersJob files (Some (why_apart first second)) status text =
+    OrOneChecked (AreRefused (files first) (files second)) (AnswersApart (files first) (files second)) (first, files first) (second, files second) status text
+AnswersJob files (Some (traces first second)) status text = AnswersTraces (files first) (files second) status text
+AnswersJob files (Some (deterministic program)) status text = AnswersDeterministic (files program) status text
 
 -- The words and the files have an answer with this status and this text.
 abbrev pub Answers : Files → List (List ℕ) → ℕ → List ℕ → Type 0
@@ -39,6 +52,12 @@ wanted_of (Prove first second) = Two (record { name = first; most = most_bytes }
 wanted_of (Witness program text) = Two (record { name = program; most = most_bytes }) (record { name = text; most = most_bytes })
 wanted_of (Aut program) = One (record { name = program; most = most_bytes })
 wanted_of (Promela program) = One (record { name = program; most = most_bytes })
+wanted_of (Steps program) = One (record { name = program; most = most_bytes })
+wanted_of (StepsAfter program text) = Two (record { name = program; most = most_bytes }) (record { name = text; most = most_bytes })
+wanted_of (Why program) = One (record { name = program; most = most_bytes })
+wanted_of (WhyApart first second) = Two (record { name = first; most = most_bytes }) (record { name = second; most = most_bytes })
+wanted_of (Traces first second) = Two (record { name = first; most = most_bytes }) (record { name = second; most = most_bytes })
+wanted_of (Deterministic program) = One (record { name = program; most = most_bytes })
 
 -- the reply to a command whose files were read
 abbrev pub IsReplyTo : Command → Contents → Reply → Type 0
@@ -56,3 +75,9 @@ IsDetermined (Some (prove first second)) = ⊥
 IsDetermined (Some (witness program name)) = ⊥
 IsDetermined (Some (aut program)) = ⊥
 IsDetermined (Some (promela program)) = ⊥
+IsDetermined (Some (steps program)) = ⊥
+IsDetermined (Some (steps_after program text)) = ⊥
+IsDetermined (Some (why program)) = ⊥
+IsDetermined (Some (why_apart first second)) = ⊥
+IsDetermined (Some (traces first second)) = ⊥
+IsDetermined (Some (deterministic program)) = ⊥

@@ -5,7 +5,7 @@ ghost use Rattle.occ_witness.specs.occ_call.Files.{AsksFor, CountsStop};
 ghost use Rattle.occ_witness.specs.occ_call.Ran.{Asked, IsOwnStatus};
 ghost use Rattle.occ_workshop_run.specs.Answers.{Answers};
 ghost use Rattle.occ_workshop_run.specs.Ran.{Ran};
-ghost use Rattle.occ_workshop_run.specs.Words.{AskForProof, file_words, job_of};
+ghost use Rattle.occ_workshop_run.specs.Words.{AskForTwoPrograms, file_words, job_of};
 
 use crate::answering::{reply, wanted};
 use crate::words::command_in;
@@ -17,17 +17,17 @@ use std::alloc::Global;
 ///
 /// | status | comes exactly where | written |
 /// |---|---|---|
-/// | 0 | `check`, `aut`, `promela`: the program is accepted; `draw`: the text is a normal one, or a script whose steps can be told; `prove`: steps lead from the one program to the other, or both mean the same and the names behind PROC differ; `witness`: the program has the behaviour, and the schedule isn't too long | its warnings; the transition system; the model; the picture or the list; the script, or `SAME`; the schedule |
-/// | 1 | `prove`: the programs differ; `witness`: the program hasn't the behaviour | the answer of `same`; `NO` |
+/// | 0 | the command's answer has it: what was asked for, or that it is so | the answer |
+/// | 1 | the command's answer has it: that it isn't so | the answer |
 /// | 2 | the words don't fit | the line of usage |
-/// | 3 | a text or a step is refused; `prove`: both programs mean the same, and their normal program is too long; `witness`: the schedule is too long | the refusal, explained by `check` |
+/// | 3 | the command's answer has it: a text, a step or a path is refused, or what is asked for is too long | the answer |
 /// | 4 | a read failed in this call | nothing |
 /// | 5 | a write failed in this call | a front of the answer |
 /// | 6 | out of memory, before the first write | nothing |
-/// | 7 | `prove`: both programs are accepted, and their interfaces differ | the line that says so |
+/// | 7 | the command's answer has it: two programs are compared, both are accepted, and their interfaces differ | the answer |
 ///
 /// A failed read or write overrides every other status; out of memory overrides 0 to 3 and 7. Where the desk tells its files, `Ran` says
-/// which answer the words and the files have.
+/// which answer the words and the files have, by the definitions of the command's own library (`AnswersJob`).
 pub fn run<D: Desk>(alloc: Global, words: &[String], desk: &mut D) -> u8
     requires reads_countable { D.read_faults desk.old < u64.MAX }
     requires writes_countable { D.write_faults desk.old < u64.MAX }
@@ -39,7 +39,7 @@ pub fn run<D: Desk>(alloc: Global, words: &[String], desk: &mut D) -> u8
     ensures write_fault { (result ≡ 5) ↔ (D.write_faults desk.old < D.write_faults desk.new) }
 
     ensures status { result ≤ 7 }
-    ensures apart { result ≡ 7 → AskForProof (job_of (map string_bytes words.now)) }
+    ensures apart { result ≡ 7 → AskForTwoPrograms (job_of (map string_bytes words.now)) }
     ensures usage { result ≡ 2 → job_of (map string_bytes words.now) ≡ None }
     ensures unfit { job_of (map string_bytes words.now) ≡ None → (result ≡ 2) ⊎ ((result ≡ 5) ⊎ (result ≡ 6)) }
     ensures nothing { (result ≡ 4) ⊎ (result ≡ 6) → D.written desk.new ≡ D.written desk.old }
@@ -56,7 +56,7 @@ fn make_reply<D: Desk>(alloc: Global, words: &[String], desk: &mut D) -> Result<
     ensures answers { IfOk result (λ reply. IfSome (D.files desk.old) (λ files.
         Answers files (map string_bytes words.now) reply.status reply.text.items)) }
     ensures status { IfOk result (λ reply. IsOwnStatus reply.status) }
-    ensures apart { IfOk result (λ reply. reply.status ≡ 7 → AskForProof (job_of (map string_bytes words.now))) }
+    ensures apart { IfOk result (λ reply. reply.status ≡ 7 → AskForTwoPrograms (job_of (map string_bytes words.now))) }
     ensures usage { IfOk result (λ reply. reply.status ≡ 2 → job_of (map string_bytes words.now) ≡ None) }
     ensures unfit { job_of (map string_bytes words.now) ≡ None → IfOk result (λ reply. reply.status ≡ 2) }
     ensures readable { job_of (map string_bytes words.now) ≡ None → result ≢ Err Stop.Read }

@@ -1,5 +1,6 @@
-//! The words of a command line: `check A`, `draw T`, `aut A`, `promela A`, `prove A B`, `witness A T` and `explain T REFUSAL`. The
-//! words behind a command name files, but for the refusal.
+//! The words of a command line: `check A`, `draw T`, `prove A B`, `witness A T`, `aut A`, `promela A`, `steps A`, `steps A T`, `why
+//! A`, `why A B`, `traces A B`, `deterministic A` and `explain T REFUSAL`. The words
+//! behind a command name files, but for a refusal.
 
 ghost use Rattle.std.specs.Prelude.{◌≡◌, map, string_bytes};
 ghost use Rattle.occ_workshop_run.specs.Words.{job, job_of, of_one, of_two, with_one, with_two};
@@ -25,6 +26,18 @@ pub enum Command<'a> {
     Aut { program: &'a str },
     /// To write the program in a file as a model for Spin.
     Promela { program: &'a str },
+    /// To list the steps that the program in a file can take first.
+    Steps { program: &'a str },
+    /// To list those behind the schedule in another file.
+    StepsAfter { program: &'a str, text: &'a str },
+    /// To say why the program in a file can be stuck.
+    Why { program: &'a str },
+    /// To say why the programs in two files differ.
+    WhyApart { first: &'a str, second: &'a str },
+    /// To ask whether each trace of the second program is one of the first.
+    Traces { first: &'a str, second: &'a str },
+    /// To ask whether the program in a file is deterministic.
+    Deterministic { program: &'a str },
 }
 
 /// What the words of a command line ask for, the program's own name first.
@@ -41,6 +54,7 @@ pub fn command_in<'a>(words: &'a [String]) -> Command<'a>
 }
 
 /// A command with one word.
+#[tactic(auto, unfolding(crate::specs::Words::with_one))]
 fn command_of_one<'a>(command: &str, first: &'a str) -> Command<'a>
     ensures { job result ≡ with_one command.now first.entry.now }
 {
@@ -62,12 +76,19 @@ fn one_named<'a>(command: &str, first: &'a str) -> Command<'a>
         Command::Aut { program: first }
     } else if command == "promela" {
         Command::Promela { program: first }
+    } else if command == "steps" {
+        Command::Steps { program: first }
+    } else if command == "why" {
+        Command::Why { program: first }
+    } else if command == "deterministic" {
+        Command::Deterministic { program: first }
     } else {
         Command::Usage
     }
 }
 
 /// A command with two words.
+#[tactic(auto, unfolding(crate::specs::Words::with_two))]
 fn command_of_two<'a>(command: &str, first: &'a str, second: &'a str) -> Command<'a>
     ensures { job result ≡ with_two command.now first.entry.now second.entry.now }
 {
@@ -93,6 +114,15 @@ fn two_named<'a>(command: &str, first: &'a str, second: &'a str) -> Command<'a>
             text: first,
             refusal: second,
         }
+    } else if command == "steps" {
+        Command::StepsAfter {
+            program: first,
+            text: second,
+        }
+    } else if command == "why" {
+        Command::WhyApart { first, second }
+    } else if command == "traces" {
+        Command::Traces { first, second }
     } else {
         Command::Usage
     }

@@ -1,4 +1,4 @@
-use Rattle.occ_workshop_run.specs.occ_parse.declared.bound.Bound.TheVariants as bound
+use Rattle.occ_witness.specs.occ_parse.declared.bound.Bound.TheVariants as bound
 use Rattle.occ_tool_laws.proofs.Files.{files_apart}
 use Rattle.occ_tool_laws.proofs.SameAnswer.{one_text_same}
 use Rattle.occ_tool_laws.proofs.Texts.{Laws}

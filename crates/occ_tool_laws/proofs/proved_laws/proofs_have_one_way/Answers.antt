@@ -1,4 +1,4 @@
-use Rattle.occ_workshop_run.specs.occ_parse.declared.bound.Bound.TheVariants as bound
+use Rattle.occ_witness.specs.occ_parse.declared.bound.Bound.TheVariants as bound
 use Rattle.occ_tool_laws.proofs.ProvedOnce.{proofs_are_one}
 use Rattle.occ_tool_laws.proofs.proved_laws.proofs_have_one_way.Goals as goal
 

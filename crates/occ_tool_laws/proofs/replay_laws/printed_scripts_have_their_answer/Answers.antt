@@ -22,6 +22,6 @@ returns-clause-derived c = IfOk-weaker c.replays_have_answers.result _ _
 
 pub returns-clause-proved : goal.returns-clause-proved
 returns-clause-proved c = IfOk-weaker c.replays_have_answers.result _ _
-    (λ _ h files later words again first second script j a other narrow few r e. has_joined_between later again (files first) (files second) c.args.text.now (h later again script r e)
-    (c.proved_scripts_are_joined.ensures files later words again first second script c.args.text.now j a other narrow few r e))
+    (λ _ h one two later again script a other narrow few r e. has_joined_between later again one two c.args.text.now (h later again script r e)
+    (c.proved_scripts_are_joined.ensures one two later again script c.args.text.now a other narrow few r e))
     c.replays_have_answers.ensures
